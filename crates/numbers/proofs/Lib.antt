@@ -1,0 +1,3 @@
+pub mod RangeLaws
+pub mod SumLaws
+pub mod DigitLaws

@@ -1,0 +1,160 @@
+-- Laws of ascending ranges and of what a test keeps of them: what is in, in which order, and that it is there once.
+use mathlib.Core.Path.{_≡_, refl, sym, ap, _∙_, subst}
+use mathlib.Core.Bool.{Bool, true, false, cond, _&&_}
+use mathlib.Core.List.{List, [], _∷_, _++_, List·Memᴰ}
+use Prim.Native.Nat.{ℕ, zero, suc, _+_, _-_, _≤_, _<_, suc-le-suc}
+use native.Mathlib.Nat.{not-suc-le-zero, le-of-suc-le-suc, eq-or-lt-of-le, suc-add, zero-add, add-zero}
+use native.Mathlib.Numerals.{add-one}
+use native.Mathlib.Omega.{arith}
+use mathlib.Core.Logic.{_⊎_, inl, inr}
+use lib.ListN.{length, getD}
+use Rattle.numbers.specs.Range.{upFrom, keep, all, Ascending}
+
+-- ---- ranges
+
+pub length-range : (a n : ℕ) → length (upFrom a n) ≡ n
+unfolding upFrom
+length-range a zero = refl
+length-range a (suc n) = ap suc (length-range (suc a) n)
+
+pub range-at : (a n i : ℕ) → i < n → getD (upFrom a n) i 0 ≡ a + i
+unfolding upFrom
+range-at a zero i h = absurd (not-suc-le-zero h)
+range-at a (suc n) zero h = sym (add-zero a)
+range-at a (suc n) (suc i) h = range-at (suc a) n i (le-of-suc-le-suc h) ∙ omega arith
+
+pub range-add : (a m n : ℕ) → upFrom a (m + n) ≡ upFrom a m ++ upFrom (a + m) n
+unfolding upFrom
+range-add a zero n = rw (zero-add, add-zero)
+range-add a (suc m) n =
+    let e : a + suc m ≡ suc a + m = omega arith in
+    rw (suc-add m n, e, range-add (suc a) m n)
+
+-- the numbers after the first d of n, from 1 on: what a loop over the days has left
+pub range-turn : (n d : ℕ) → d < n → upFrom (suc d) (n - d) ≡ suc d ∷ upFrom (suc (d + 1)) (n - (d + 1))
+unfolding upFrom
+range-turn n d h =
+    let e : n - d ≡ suc (n - (d + 1)) = omega arith in
+    rw (e, add-one d)
+
+pub range-done : (n d : ℕ) → n ≤ d → upFrom (suc d) (n - d) ≡ []
+unfolding upFrom
+range-done n d h =
+    let e : n - d ≡ 0 = omega arith in
+    rw e
+
+-- ---- what a test keeps
+
+pub keep-same : (t u : ℕ → Bool) → ((x : ℕ) → t x ≡ u x) → (xs : List ℕ) → keep t xs ≡ keep u xs
+unfolding keep
+keep-same t u e [] = refl
+keep-same t u e (x ∷ xs) = rw (e x, keep-same t u e xs)
+
+cond-append : (b : Bool) (x : ℕ) (xs ys : List ℕ) → cond b (x ∷ (xs ++ ys)) (xs ++ ys) ≡ cond b (x ∷ xs) xs ++ ys
+cond-append true x xs ys = refl
+cond-append false x xs ys = refl
+
+pub keep-append : (t : ℕ → Bool) (xs ys : List ℕ) → keep t (xs ++ ys) ≡ keep t xs ++ keep t ys
+unfolding keep
+keep-append t [] ys = refl
+keep-append t (x ∷ xs) ys = rw (keep-append t xs ys) (cond-append (t x) x (keep t xs) (keep t ys))
+
+-- one more number in front, kept or not
+front : (P : ℕ → Type 0) (x : ℕ) (ys : List ℕ) (b : Bool) → (b ≡ true → P x) → ((k : ℕ) → k < length ys → P (getD ys k 0))
+    → (k : ℕ) → k < length (cond b (x ∷ ys) ys) → P (getD (cond b (x ∷ ys) ys) k 0)
+front P x ys true p rest zero l = p refl
+front P x ys true p rest (suc k) l = rest k (le-of-suc-le-suc l)
+front P x ys false p rest k l = rest k l
+
+-- what all have that pass the test, all of the kept have
+pub keep-all : (P : ℕ → Type 0) (t : ℕ → Bool) (xs : List ℕ)
+    → ((i : ℕ) → i < length xs → t (getD xs i 0) ≡ true → P (getD xs i 0))
+    → (k : ℕ) → k < length (keep t xs) → P (getD (keep t xs) k 0)
+unfolding keep
+keep-all P t [] f k h = absurd (not-suc-le-zero h)
+keep-all P t (x ∷ xs) f k h =
+    front P x (keep t xs) (t x) (λ e. f 0 (omega arith) e) (λ j l. keep-all P t xs (λ i m e. f (suc i) (suc-le-suc m) e) j l) k h
+
+-- each of the kept passes the test
+pub keep-passes : (t : ℕ → Bool) (xs : List ℕ) (k : ℕ) → k < length (keep t xs) → t (getD (keep t xs) k 0) ≡ true
+keep-passes t xs k h = keep-all (λ (x : ℕ). t x ≡ true) t xs (λ i l e. e) k h
+
+-- each of a range is in its bounds
+pub range-below : (a n i : ℕ) → i < length (upFrom a n) → (a ≤ getD (upFrom a n) i 0) × (getD (upFrom a n) i 0 < a + n)
+range-below a n i h =
+    let l : i < n = subst (λ (k : ℕ). i < k) (length-range a n) h in
+    let e = range-at a n i l in
+    (omega arith, omega arith)
+
+pub kept-below : (t : ℕ → Bool) (a n k : ℕ) → k < length (keep t (upFrom a n)) → (a ≤ getD (keep t (upFrom a n)) k 0) × (getD (keep t (upFrom a n)) k 0 < a + n)
+kept-below t a n k h = keep-all (λ (x : ℕ). (a ≤ x) × (x < a + n)) t (upFrom a n) (λ i l e. range-below a n i l) k h
+
+-- ---- order
+
+pub ascending-nil : Ascending []
+unfolding Ascending
+ascending-nil j k l h = absurd (not-suc-le-zero h)
+
+pub ascending-cons : (x : ℕ) (xs : List ℕ) → ((k : ℕ) → k < length xs → x < getD xs k 0) → Ascending xs → Ascending (x ∷ xs)
+unfolding Ascending
+ascending-cons x xs f up zero zero l h = absurd (omega arith)
+ascending-cons x xs f up zero (suc k) l h = f k (le-of-suc-le-suc h)
+ascending-cons x xs f up (suc j) zero l h = absurd (not-suc-le-zero l)
+ascending-cons x xs f up (suc j) (suc k) l h = up j k (le-of-suc-le-suc l) (le-of-suc-le-suc h)
+
+kept-ascending : (b : Bool) (x : ℕ) (ys : List ℕ) → ((k : ℕ) → k < length ys → x < getD ys k 0) → Ascending ys → Ascending (cond b (x ∷ ys) ys)
+kept-ascending true x ys f up = ascending-cons x ys f up
+kept-ascending false x ys f up = up
+
+-- what a test keeps of a range is ascending, so each number is there once
+pub keep-ascending : (t : ℕ → Bool) (a n : ℕ) → Ascending (keep t (upFrom a n))
+unfolding keep upFrom
+keep-ascending t a zero = ascending-nil
+keep-ascending t a (suc n) =
+    kept-ascending (t a) a (keep t (upFrom (suc a) n)) (λ k h. kept-below t (suc a) n k h .0) (keep-ascending t (suc a) n)
+
+-- ---- membership
+
+-- x stands in the list
+pub record At (xs : List ℕ) (x : ℕ) : Type 0 where
+  pub place : ℕ
+  pub inside : place < length xs
+  pub there : getD xs place 0 ≡ x
+
+at-front : (b : Bool) (x y : ℕ) (ys : List ℕ) → At ys x → At (cond b (y ∷ ys) ys) x
+at-front true x y ys a = record { place = suc (a .place); inside = suc-le-suc (a .inside); there = a .there }
+at-front false x y ys a = a
+
+at-here : (b : Bool) (x : ℕ) (ys : List ℕ) → b ≡ true → At (cond b (x ∷ ys) ys) x
+at-here b x ys e = rw e (record { place = 0; inside = omega arith; there = refl })
+
+in-step : (t : ℕ → Bool) (a x : ℕ) (ys : List ℕ) → t x ≡ true → (a < x → At ys x) → (a ≡ x) ⊎ (a < x) → At (cond (t a) (a ∷ ys) ys) x
+in-step t a x ys e f (inl q) = subst (λ (y : ℕ). At (cond (t y) (y ∷ ys) ys) x) (sym q) (at-here (t x) x ys e)
+in-step t a x ys e f (inr q) = at-front (t a) x a ys (f q)
+
+-- a number of the range that passes the test is kept
+pub kept-in : (t : ℕ → Bool) (a n x : ℕ) → a ≤ x → x < a + n → t x ≡ true → At (keep t (upFrom a n)) x
+unfolding keep upFrom
+kept-in t a zero x l h e = absurd (omega arith)
+kept-in t a (suc n) x l h e =
+    in-step t a x (keep t (upFrom (suc a) n)) e (λ q. kept-in t (suc a) n x q (omega arith) e) (eq-or-lt-of-le l)
+
+-- and nothing else is
+pub kept-only : (t : ℕ → Bool) (a n x : ℕ) → At (keep t (upFrom a n)) x → (t x ≡ true) × (a ≤ x) × (x < a + n)
+kept-only t a n x at =
+    let k = at .place in
+    let p = keep-passes t (upFrom a n) k (at .inside) in
+    let b = kept-below t a n k (at .inside) in
+    (ap t (sym (at .there)) ∙ p, omega (arith, at .there, b .0), omega (arith, at .there, b .1))
+
+-- ---- all
+
+pub and-parts : (a b : Bool) → (a && b) ≡ true → (a ≡ true) × (b ≡ true)
+and-parts true b e = (refl, e)
+and-parts false b e = (e, let z : _≡_ {A = ℕ} 0 1 = cc in absurd (omega arith))
+
+pub all-at : (t : ℕ → Bool) (xs : List ℕ) → all t xs ≡ true → (i : ℕ) → i < length xs → t (getD xs i 0) ≡ true
+unfolding all
+all-at t [] e i h = absurd (not-suc-le-zero h)
+all-at t (x ∷ xs) e zero h = and-parts (t x) (all t xs) e .0
+all-at t (x ∷ xs) e (suc i) h = all-at t xs (and-parts (t x) (all t xs) e .1) i (le-of-suc-le-suc h)

@@ -1,0 +1,21 @@
+use borrow.Author.Tests.{eq-eqb, ne-eqb}
+use native.Mathlib.Omega.{arith}
+use Rattle.rows.proofs.day_zero.Statement.{statement}
+use Rattle.rows.proofs.day_zero.Tie as tie
+use Rattle.rows.proofs.day_zero.Reads as reads
+use Rattle.rows.proofs.day_zero.Lts as lts
+
+-- src/lib.rt:48:9
+returns : tie.Need-returns
+returns c = (simp (eq-eqb _ _ (c .if1 .taken)), omega arith)
+
+-- src/lib.rt:51:9
+returns-2 : tie.Need-returns-2
+returns-2 c = (simp (ne-eqb _ _ (c .before .if1 .left), eq-eqb _ _ (c .if2 .taken)), omega arith)
+
+-- src/lib.rt:43:1
+returns-3 : tie.Need-returns-3
+returns-3 c = (simp (ne-eqb _ _ (c .before .if1 .left), ne-eqb _ _ (c .if2 .left)), omega arith)
+
+pub day-zero-spec : {M : Type 1} → statement M
+day-zero-spec = tie.close (tie.spec returns returns-2 returns-3)

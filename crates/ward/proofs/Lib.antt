@@ -1,0 +1,15 @@
+pub mod CodecLaws
+pub mod AskLaws
+pub mod PlaceLaws
+pub mod PowLaws
+pub mod GrammarLaws
+pub mod WithinLaws
+pub mod ReadLaws
+pub mod EncodeLaws
+pub mod PutLaws
+pub mod WriteLaws
+pub mod AcceptLaws
+pub mod BufLaws
+pub mod RoundTrip
+pub mod AccessLaws
+pub mod AcceptedLaws

@@ -1,0 +1,148 @@
+-- What the loop of `questions` keeps, and what each way out of it comes to.
+use Prim.Native.Nat.{ℕ, zero, suc, _+_, _-_, _*_, _^_, _≤_, _<_}
+use mathlib.Core.Path.{_≡_, refl, sym, ap, _∙_, subst}
+use mathlib.Core.List.{List, [], _∷_, _++_, append-assoc, append-nil}
+use native.Mathlib.Numerals.{add-one}
+use native.Mathlib.Omega.{arith}
+use lib.ListN.{length, take, drop, getD, replicate, length-append, length-take, length-drop, length-replicate, drop-of-length-le, List·getD-append}
+use lib.Seq.{drop-cons, take-suc, getD-take, take-all}
+use Rattle.ward.specs.declared.layout.Field.{Field}
+use Rattle.ward.specs.declared.Ward.{Ward}
+use Rattle.ward.specs.declared.Checked.{Checked}
+use Rattle.ward.specs.declared.Answer.the-variants.{Yes, No}
+use Rattle.ward.specs.declared.layout.Want.the-variants.{Next, Nothing}
+use Rattle.ward.specs.Codec.{encode}
+use Rattle.ward.specs.Grammar.{Grammar, wanted, after, asked, Read, good, bad, prepend, check, bytesOf, Within}
+use Rattle.ward.specs.Layout.{ward}
+use Rattle.ward.specs.Answers.{Small, counted, checkWard, checkedOf}
+use Rattle.ward.proofs.GrammarLaws.{in-range, small, within-some, within-step, prepend-more, check-good, check-failed, check-missing, check-over, check-extra}
+use Rattle.ward.proofs.WithinLaws.{within-ward}
+use Rattle.ward.proofs.EncodeLaws.{encode-most}
+
+-- ---- the counted numbers
+
+module _ (w : Ward) (long : length (w .numbers) ≡ 4094) where
+  pub counted-length : length (counted w) ≡ w .count
+  unfolding counted
+  counted-length =
+      simp (length-take, length-append, length-replicate) (omega (arith, long))
+
+  pub counted-at : (i : ℕ) → i < w .count → i < 4094 → getD (counted w) i 0 ≡ getD (w .numbers) i 0
+  unfolding counted
+  counted-at i h m =
+      getD-take (w .count) _ i 0 h ∙ List·getD-append (w .numbers) _ 0 i (subst (λ (n : ℕ). i < n) (sym long) m)
+
+  pub counted-next : (i : ℕ) → i < w .count → i < 4094 → drop i (counted w) ≡ getD (w .numbers) i 0 ∷ drop (i + 1) (counted w)
+  counted-next i h m =
+      drop-cons (counted w) i 0 (subst (λ (n : ℕ). i < n) (sym counted-length) h)
+      ∙ rw (counted-at i h m, add-one i)
+
+  pub counted-front : (i : ℕ) → i < w .count → i < 4094 → take (i + 1) (counted w) ≡ take i (counted w) ++ (getD (w .numbers) i 0 ∷ [])
+  counted-front i h m =
+      rw (add-one i, take-suc (counted w) i 0 (subst (λ (n : ℕ). i < n) (sym counted-length) h), counted-at i h m)
+
+  pub counted-none : (i : ℕ) → w .count ≤ i → drop i (counted w) ≡ []
+  counted-none i h = drop-of-length-le (counted w) (subst (λ (n : ℕ). n ≤ i) (sym counted-length) h)
+
+  pub counted-all : (i : ℕ) → w .count ≤ i → take i (counted w) ≡ counted w
+  counted-all i h = take-all i (counted w) (subst (λ (n : ℕ). n ≤ i) (sym counted-length) h)
+
+-- ---- the bytes of numbers
+
+pub bytes-append : (xs ys : List ℕ) → bytesOf (xs ++ ys) ≡ bytesOf xs ++ bytesOf ys
+unfolding bytesOf
+bytes-append [] ys = refl
+bytes-append (x ∷ xs) ys = ap (λ (l : List ℕ). encode x ++ l) (bytes-append xs ys) ∙ sym (append-assoc (encode x) (bytesOf xs) (bytesOf ys))
+
+pub bytes-one : (x : ℕ) → bytesOf (x ∷ []) ≡ encode x
+unfolding bytesOf
+bytes-one x = append-nil (encode x)
+
+-- ---- the loop
+
+pub record Walked (w : Ward) (i bytes : ℕ) (g : Grammar) : Type 0 where
+  pub long : length (w .numbers) ≡ 4094
+  pub counts : i ≤ w .count
+  pub most : i ≤ 4094
+  pub few : bytes ≤ 7 * i
+  pub room : Within (4094 - i) g
+  pub sum : bytes ≡ length (bytesOf (take i (counted w)))
+  pub same : checkWard (counted w) ≡ prepend (take i (counted w)) (check g i (drop i (counted w)))
+
+prepend-nil : (r : Read) → r ≡ prepend [] r
+prepend-nil (good ws) = refl
+prepend-nil (bad q p) = refl
+
+pub begin : (w : Ward) → length (w .numbers) ≡ 4094 → Walked w 0 0 ward
+unfolding checkWard bytesOf
+begin w l = record {
+  long = l;
+  counts = omega arith;
+  most = omega arith;
+  few = omega arith;
+  room = within-ward;
+  sum = refl;
+  same = prepend-nil (check ward 0 (counted w));
+}
+
+module _ (w : Ward) (i bytes : ℕ) (g : Grammar) (so : Walked w i bytes g) where
+  ended-with : (q p : ℕ) → check g i (drop i (counted w)) ≡ bad q p → _≡_ {A = Checked} (record { answer = No q p; bytes = 0 }) (checkedOf (checkWard (counted w)))
+  unfolding checkedOf
+  ended-with q p e = sym (ap checkedOf (so .same ∙ ap (prepend (take i (counted w))) e))
+
+  module _ (f : Field) (e : wanted g ≡ Next f) where
+    pub missing : w .count ≤ i → _≡_ {A = Checked} (record { answer = No 1 i; bytes = 0 }) (checkedOf (checkWard (counted w)))
+    missing h = ended-with 1 i (ap (check g i) (counted-none w (so .long) i h) ∙ check-missing g f i e)
+
+    pub room-here : i < 4094
+    room-here = let s = within-some (4094 - i) g (so .room) e in omega arith
+
+    module _ (h : i < w .count) where
+      pub failed :
+          (asked f (getD (w .numbers) i 0) ≡ 0 → ⊥) →
+          _≡_ {A = Checked} (record { answer = No (asked f (getD (w .numbers) i 0)) i; bytes = 0 }) (checkedOf (checkWard (counted w)))
+      failed n = ended-with _ i (ap (check g i) (counted-next w (so .long) i h room-here) ∙ check-failed g f i e _ _ n)
+
+      module _ (a : asked f (getD (w .numbers) i 0) ≡ 0) where
+        pub below : getD (w .numbers) i 0 < 2 ^ 49
+        below =
+            let r = in-range f _ a in
+            let s : f .most < 2 ^ 49 = subst Small e (small (4094 - i) g (so .room)) in
+            omega arith
+
+        pub turn : Walked w (i + 1) (bytes + length (encode (getD (w .numbers) i 0))) (after g (getD (w .numbers) i 0))
+        turn = record {
+          long = so .long;
+          counts = omega arith;
+          most = omega (arith, room-here);
+          few = omega (arith, so .few, encode-most (getD (w .numbers) i 0));
+          room = subst (λ (n : ℕ). Within n (after g (getD (w .numbers) i 0))) fewer (within-step (4094 - i) g f _ (so .room) e a .1);
+          sum = summed;
+          same = so .same ∙ ap (prepend (take i (counted w))) (ap (check g i) (counted-next w (so .long) i h room-here) ∙ check-good g f i e _ _ a) ∙ onward;
+        }
+          where
+            fewer : 4094 - i - 1 ≡ 4094 - (i + 1)
+            fewer = omega arith
+
+            front : take (i + 1) (counted w) ≡ take i (counted w) ++ (getD (w .numbers) i 0 ∷ [])
+            front = counted-front w (so .long) i h room-here
+
+            summed : bytes + length (encode (getD (w .numbers) i 0)) ≡ length (bytesOf (take (i + 1) (counted w)))
+            summed =
+                rw (front, bytes-append, bytes-one, length-append)
+                (ap (λ (n : ℕ). n + length (encode (getD (w .numbers) i 0))) (so .sum))
+
+            onward :
+                prepend (take i (counted w)) (prepend (getD (w .numbers) i 0 ∷ []) (check (after g (getD (w .numbers) i 0)) (i + 1) (drop (i + 1) (counted w))))
+                ≡ prepend (take (i + 1) (counted w)) (check (after g (getD (w .numbers) i 0)) (i + 1) (drop (i + 1) (counted w)))
+            onward = prepend-more (take i (counted w)) (getD (w .numbers) i 0) (check (after g (getD (w .numbers) i 0)) (i + 1) (drop (i + 1) (counted w))) ∙ rw (← front)
+
+  module _ (e : wanted g ≡ Nothing) where
+    pub extra : i < w .count → _≡_ {A = Checked} (record { answer = No 5 i; bytes = 0 }) (checkedOf (checkWard (counted w)))
+    extra h = ended-with 5 i (ap (check g i) (drop-cons (counted w) i 0 (subst (λ (n : ℕ). i < n) (sym (counted-length w (so .long))) h)) ∙ check-extra g i _ _ e)
+
+    pub whole : w .count ≤ i → _≡_ {A = Checked} (record { answer = Yes; bytes = bytes }) (checkedOf (checkWard (counted w)))
+    unfolding checkedOf
+    whole h =
+        sym (ap checkedOf (so .same ∙ ap (prepend (take i (counted w))) (ap (check g i) (counted-none w (so .long) i h) ∙ check-over g i e) ∙ ap good (append-nil (take i (counted w))))
+        ∙ (λ j. record { answer = Yes; bytes = sym (so .sum) j }))

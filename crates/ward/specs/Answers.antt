@@ -1,0 +1,66 @@
+-- What the calls answer.
+use Prim.Native.Nat.{ℕ, _+_, _-_, _<_, _^_}
+use mathlib.Core.List.{List, _++_}
+use lib.ListN.{length, take, drop, replicate}
+use lib.Dec.{ltb}
+use Rattle.ward.specs.declared.layout.Want.{Want}
+use Rattle.ward.specs.declared.layout.Want.the-variants.{Next, Nothing}
+use Rattle.ward.specs.declared.Answer.the-variants.{Yes, No}
+use Rattle.ward.specs.declared.Reading.{Reading}
+use Rattle.ward.specs.declared.Ward.{Ward}
+use Rattle.ward.specs.declared.Checked.{Checked}
+use Rattle.ward.specs.declared.Writing.{Writing}
+use Rattle.ward.specs.Codec.{pick}
+use Rattle.ward.specs.Grammar.{Read, good, bad, read, check, bytesOf}
+use Rattle.ward.specs.Layout.{ward}
+
+unfoldable pub refusedOf : ℕ → ℕ → Reading
+refusedOf q p = record { answer = No q p; ward = record { numbers = replicate 4094 0; count = 0 } }
+
+-- the numbers in file order, 0 in the places after them
+unfoldable pub readingOf : Read → Reading
+unfolding refusedOf
+readingOf (good ws) =
+    record { answer = Yes; ward = record { numbers = ws ++ replicate (4094 - length ws) 0; count = length ws } }
+readingOf (bad q p) = refusedOf q p
+
+unfoldable pub readWard : List ℕ → Read
+unfolding read ward
+readWard file = read ward 0 file
+
+-- a field's numbers fit seven groups
+abbrev pub Small : Want → Type 0
+Small (Next f) = f .most < 2 ^ 49
+Small Nothing = Unit
+
+-- ---- the writer
+
+-- the list with xs in it from the place `at` on
+abbrev pub pasted : List ℕ → ℕ → List ℕ → List ℕ
+pasted b at xs = take at b ++ (xs ++ drop (at + length xs) b)
+
+-- the counted numbers, of which those past the array's end are 0
+unfoldable pub counted : Ward → List ℕ
+counted w = take (w .count) (w .numbers ++ replicate (w .count - 4094) 0)
+
+unfoldable pub checkWard : List ℕ → Read
+unfolding check ward
+checkWard ws = check ward 0 ws
+
+-- the answer to 1, 3, 4 and 5, and how many bytes the numbers take
+unfoldable pub checkedOf : Read → Checked
+unfolding bytesOf
+checkedOf (good ws) = record { answer = Yes; bytes = length (bytesOf ws) }
+checkedOf (bad q p) = record { answer = No q p; bytes = 0 }
+
+-- what the writer answers where the buffer has this many places, and what it leaves there
+unfoldable pub writingOf : ℕ → Read → Writing
+unfolding bytesOf
+writingOf room (good ws) =
+    pick (ltb room (length (bytesOf ws))) (record { answer = No 6 0; bytes = 0 }) (record { answer = Yes; bytes = length (bytesOf ws) })
+writingOf room (bad q p) = record { answer = No q p; bytes = 0 }
+
+unfoldable pub leftOf : List ℕ → Read → List ℕ
+unfolding bytesOf
+leftOf buf (good ws) = pick (ltb (length buf) (length (bytesOf ws))) buf (bytesOf ws ++ drop (length (bytesOf ws)) buf)
+leftOf buf (bad q p) = buf

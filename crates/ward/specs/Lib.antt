@@ -1,0 +1,7 @@
+pub mod Codec
+pub mod Grammar
+pub mod Layout
+pub mod Fields
+pub mod Place
+pub mod Answers
+pub mod Examples

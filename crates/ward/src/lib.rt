@@ -1,0 +1,175 @@
+// The ward file: its reader and its writer.
+mod codec;
+mod layout;
+
+use codec::Number;
+use layout::Want;
+ghost use mathlib.Core.Path.{_≡_};
+ghost use lib.ListN.{length};
+ghost use Rattle.ward.specs.Answers.{refusedOf, readingOf, readWard, counted, checkWard, checkedOf, writingOf, leftOf};
+
+pub enum Answer {
+    Yes,
+    No { question: u32, place: usize },
+}
+
+pub struct Ward {
+    pub numbers: [u64; 4094],
+    pub count: usize,
+}
+
+pub struct Reading {
+    pub answer: Answer,
+    pub ward: Ward,
+}
+
+fn refused(question: u32, place: usize) -> Reading
+    ensures { λ r. ⌜ r ≡ refusedOf question place ⌝ }
+{
+    Reading {
+        answer: Answer::No { question, place },
+        ward: Ward {
+            numbers: [0; 4094],
+            count: 0,
+        },
+    }
+}
+
+// The ward of a file, or the first question that it fails.
+pub fn read(file: &[u8]) -> Reading
+    ensures { λ r. ⌜ r ≡ readingOf (readWard (now (file .entry))) ⌝ }
+{
+    let mut numbers = [0u64; 4094];
+    let mut count: usize = 0;
+    let mut at: usize = 0;
+    let mut c = layout::start();
+    loop {
+        match layout::wanted_at(c) {
+            Want::Nothing => {
+                if at < file.len() {
+                    return refused(5, at);
+                }
+                return Reading {
+                    answer: Answer::Yes,
+                    ward: Ward { numbers, count },
+                };
+            }
+            Want::Next(f) => match codec::number_at(file, at) {
+                Number::Ended => return refused(1, at),
+                Number::Long => return refused(2, at),
+                Number::Value { value, used } => {
+                    let question = layout::ask(f, value);
+                    if question != 0 {
+                        return refused(question, at);
+                    }
+                    numbers[count] = value;
+                    count += 1;
+                    at += used;
+                    c = layout::step(c, value);
+                }
+            },
+        }
+    }
+}
+
+// What the questions of a ward's numbers come to, and how many bytes they take.
+pub struct Checked {
+    pub answer: Answer,
+    pub bytes: usize,
+}
+
+// What the writer answers: how many bytes it wrote.
+pub struct Writing {
+    pub answer: Answer,
+    pub bytes: usize,
+}
+
+// The questions 1, 3, 4 and 5 of a ward's counted numbers.
+fn questions(ward: Ward) -> Checked
+    ensures { λ r. ⌜ r ≡ checkedOf (checkWard (counted ward)) ⌝ }
+{
+    let count = ward.count;
+    let mut i: usize = 0;
+    let mut bytes: usize = 0;
+    let mut c = layout::start();
+    loop {
+        match layout::wanted_at(c) {
+            Want::Nothing => {
+                if i < count {
+                    return Checked {
+                        answer: Answer::No {
+                            question: 5,
+                            place: i,
+                        },
+                        bytes: 0,
+                    };
+                }
+                return Checked {
+                    answer: Answer::Yes,
+                    bytes,
+                };
+            }
+            Want::Next(f) => {
+                if i >= count {
+                    return Checked {
+                        answer: Answer::No {
+                            question: 1,
+                            place: i,
+                        },
+                        bytes: 0,
+                    };
+                }
+                let v = ward.numbers[i];
+                let question = layout::ask(f, v);
+                if question != 0 {
+                    return Checked {
+                        answer: Answer::No { question, place: i },
+                        bytes: 0,
+                    };
+                }
+                bytes += codec::size(v);
+                i += 1;
+                c = layout::step(c, v);
+            }
+        }
+    }
+}
+
+// The counted numbers as bytes from the buffer's start.
+pub fn write(ward: Ward, buf: &mut [u8]) -> Writing
+    ensures says { λ r. ⌜ r ≡ writingOf (length (now (buf .entry))) (checkWard (counted ward)) ⌝ }
+    ensures leaves { λ _. ⌜ now (buf .exit) ≡ leftOf (now (buf .entry)) (checkWard (counted ward)) ⌝ }
+{
+    let checked = questions(ward);
+    let bytes = checked.bytes;
+    let answer = checked.answer;
+    match answer {
+        Answer::No { question, place } => Writing {
+            answer: Answer::No { question, place },
+            bytes: 0,
+        },
+        Answer::Yes => {
+            if buf.len() < bytes {
+                return Writing {
+                    answer: Answer::No {
+                        question: 6,
+                        place: 0,
+                    },
+                    bytes: 0,
+                };
+            }
+            let count = ward.count;
+            let mut i: usize = 0;
+            let mut at: usize = 0;
+            while i < count {
+                let v = ward.numbers[i];
+                at = codec::put(buf, at, v);
+                i += 1;
+            }
+            Writing {
+                answer: Answer::Yes,
+                bytes: at,
+            }
+        }
+    }
+}
