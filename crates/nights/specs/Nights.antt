@@ -1,0 +1,47 @@
+-- The night rule and the common list.
+use mathlib.Core.Bool.{Bool, true, false, cond, _&&_}
+use mathlib.Core.List.{List, [], _∷_}
+use Prim.Native.Nat.{ℕ, _+_, _^_, _≤_}
+use lib.Dec.{leb, eqb}
+use lib.ListN.{length}
+use Rattle.numbers.specs.Range.{upFrom, keep}
+use Rattle.rows.specs.Rows.{started}
+use Rattle.ward.specs.Fields.{days, mostNights, longestRun, gap1, gap2, gap3}
+use Rattle.nights.specs.declared.Rules.{Rules}
+
+-- the ward's rules: V, L and the gaps g1, g2, g3
+abbrev pub rulesOf : List ℕ → Rules
+rulesOf w = record { most = mostNights w; longest = longestRun w; g1 = gap1 w; g2 = gap2 w; g3 = gap3 w }
+
+-- the starts of p in a month of n days, ascending
+unfoldable pub starts : ℕ → ℕ → List ℕ
+starts n p = keep (started p) (upFrom 1 n)
+
+-- the gap after a run of so many starts; g3 beyond three
+abbrev pub gap : Rules → ℕ → ℕ
+gap r run = cond (leb run 1) (r .g1) (cond (eqb run 2) (r .g2) (r .g3))
+
+-- A start on day s, where the start before it was on day prev, the run-th of its run; run 0: there is none before it.
+-- Two days on is one run, of at most `longest` starts; anything else is a new run, and is at least 2 and the gap days on.
+abbrev pub allowed : Rules → ℕ → ℕ → ℕ → Bool
+allowed r prev run s = cond (eqb run 0) true (cond (eqb s (prev + 2)) (leb (run + 1) (r .longest)) (leb (prev + 2 + gap r run) s))
+
+-- and how many starts its run then has
+abbrev pub runWith : ℕ → ℕ → ℕ → ℕ
+runWith prev run s = cond (eqb s (prev + 2)) (run + 1) 1
+
+-- each of these starts, in order, is allowed after the one before it
+unfoldable pub follow : Rules → ℕ → ℕ → List ℕ → Bool
+follow r prev run [] = true
+follow r prev run (s ∷ ss) = allowed r prev run s && follow r s (runWith prev run s) ss
+
+-- at most V starts, which keep the rule
+unfoldable pub inCommon : Rules → ℕ → ℕ → Bool
+inCommon r n p = leb (length (starts n p)) (r .most) && follow r 0 0 (starts n p)
+
+-- all patterns of at most V starts that keep the rule, by ascending number
+unfoldable pub common : Rules → ℕ → List ℕ
+common r n = keep (inCommon r n) (upFrom 0 (2 ^ n))
+
+abbrev pub commonOf : List ℕ → List ℕ
+commonOf w = common (rulesOf w) (days w)

@@ -1,0 +1,98 @@
+-- The penalty: what is short of the needs and lows, what is above the highs, and the nurses not yet placed.
+-- Nurses, groups and days count from 0 here; k is 0 for night and 1 for day.
+use mathlib.Core.Bool.{Bool, true, false, cond, not, _&&_}
+use mathlib.Core.List.{List, [], _∷_}
+use mathlib.Core.Option.{Option, none, some}
+use Prim.Native.Nat.{ℕ, zero, suc, _+_, _-_, _*_}
+use lib.ListN.{length, getD}
+use Rattle.numbers.specs.Sum.{sumTo, countTo}
+use Rattle.numbers.specs.Digits.{has, numberOf}
+use Rattle.ward.specs.Fields.{nurses, days, groups, weight, block, masks, needs, need, low, high}
+use Rattle.rows.specs.Rows.{availableOn, fixedNight, fixedDay}
+
+-- the pattern in use by a nurse; none while she is unplaced
+abbrev pub Slot : Type 0
+Slot = Option ℕ
+
+-- ---- one duty of one day: `on i` says whether nurse i counts
+
+-- the nurses who count, all of them and those of group g
+unfoldable pub onDuty : List ℕ → (ℕ → Bool) → ℕ
+onDuty w on = countTo (nurses w) on
+
+unfoldable pub members : List ℕ → (ℕ → Bool) → ℕ → ℕ
+members w on g = countTo (nurses w) (λ i. on i && has (getD (masks w) g 0) i)
+
+-- w for each nurse short of the need; for each group u for each member short of low
+unfoldable pub shortOn : List ℕ → ℕ → (ℕ → Bool) → ℕ → ℕ
+shortOn w k on d =
+    weight w (3 * k) * (need (needs w d) k - onDuty w on)
+    + sumTo (groups w) (λ g. weight w (3 * k + 1) * (low (needs w d) k g - members w on g))
+
+-- for each group v for each member above high
+unfoldable pub overOn : List ℕ → ℕ → (ℕ → Bool) → ℕ → ℕ
+overOn w k on d = sumTo (groups w) (λ g. weight w (3 * k + 2) * (members w on g - high (needs w d) k g))
+
+-- ---- the parts
+
+pub record Parts : Type 0 where
+  pub short : ℕ
+  pub over : ℕ
+  pub unplaced : ℕ
+
+-- a nurse not yet placed adds 10,000,000, flat
+abbrev pub unplacedCost : ℕ
+unplacedCost = 10000000
+
+abbrev pub total : Parts → ℕ
+total x = x .short + x .over + unplacedCost * x .unplaced
+
+abbrev pub isNone : Slot → Bool
+isNone none = true
+isNone (some p) = false
+
+unfoldable pub unplaced : List ℕ → (ℕ → Slot) → ℕ
+unplaced w slots = countTo (nurses w) (λ i. isNone (slots i))
+
+-- ---- the night search: nights count on N days, day counts are of available nurses, and day highs are ignored
+
+-- nurse i's starts: her pattern, or her marks 3 while she is unplaced
+abbrev pub startsIn : List ℕ → ℕ → Slot → ℕ
+startsIn w i (some p) = p
+startsIn w i none = numberOf (fixedNight (block w i)) (days w)
+
+abbrev pub atNight : List ℕ → (ℕ → Slot) → ℕ → ℕ → Bool
+atNight w slots d i = has (startsIn w i (slots i)) d
+
+abbrev pub free : List ℕ → (ℕ → Slot) → ℕ → ℕ → Bool
+free w slots d i = availableOn (block w i) (startsIn w i (slots i)) (suc d)
+
+unfoldable pub nightParts : List ℕ → (ℕ → Slot) → Parts
+nightParts w slots = record {
+  short = sumTo (days w) (λ d. shortOn w 0 (atNight w slots d) d + shortOn w 1 (free w slots d) d);
+  over = sumTo (days w) (λ d. overOn w 0 (atNight w slots d) d);
+  unplaced = unplaced w slots;
+}
+
+unfoldable pub nightPenalty : List ℕ → (ℕ → Slot) → ℕ
+nightPenalty w slots = total (nightParts w slots)
+
+-- ---- the day search: the night terms are zero
+
+-- nurse i's worked days: her pattern, or her marks 2 while she is unplaced
+abbrev pub workedIn : List ℕ → ℕ → Slot → ℕ
+workedIn w i (some q) = q
+workedIn w i none = numberOf (fixedDay (block w i)) (days w)
+
+abbrev pub atDay : List ℕ → (ℕ → Slot) → ℕ → ℕ → Bool
+atDay w slots d i = has (workedIn w i (slots i)) d
+
+unfoldable pub dayParts : List ℕ → (ℕ → Slot) → Parts
+dayParts w slots = record {
+  short = sumTo (days w) (λ d. shortOn w 1 (atDay w slots d) d);
+  over = sumTo (days w) (λ d. overOn w 1 (atDay w slots d) d);
+  unplaced = unplaced w slots;
+}
+
+unfoldable pub dayPenalty : List ℕ → (ℕ → Slot) → ℕ
+dayPenalty w slots = total (dayParts w slots)
