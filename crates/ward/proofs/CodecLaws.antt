@@ -1,6 +1,7 @@
 -- What `decodeGroups` is at each return of `groups`.
 use Prim.Native.Nat.{ℕ, zero, suc, _+_, _-_, _*_, _^_, _≤_, _<_}
 use mathlib.Core.Path.{_≡_, refl, sym, ap, _∙_}
+use mathlib.Core.Bool.{cond}
 use mathlib.Core.List.{List, [], _∷_}
 use native.Mathlib.Nat.{pow-succ', pow-le-pow-right, le-trans}
 use native.Mathlib.Numerals.{add-one}
@@ -11,7 +12,7 @@ use lib.Seq.{drop-cons}
 use lib.Dec.{lit≤}
 use Rattle.ward.specs.declared.codec.Number.{Number}
 use Rattle.ward.specs.declared.codec.Number.the-variants.{Value, Ended, Long}
-use Rattle.ward.specs.Codec.{decodeGroups, final, under, pick, Below}
+use Rattle.ward.specs.Codec.{decodeGroups, final, under, Below}
 
 -- the last group's case does not depend on how many may follow
 last-group : (more least b : ℕ) (bs : List ℕ) → b < 128 → decodeGroups more least (b ∷ bs) ≡ final least b

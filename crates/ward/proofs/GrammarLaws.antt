@@ -1,7 +1,7 @@
 -- Reading and checking by any grammar, a number at a time.
 use Prim.Native.Nat.{ℕ, zero, suc, _+_, _-_, _^_, _≤_, _<_}
 use mathlib.Core.Path.{_≡_, refl, sym, ap, _∙_, subst}
-use mathlib.Core.Bool.{Bool, true, false}
+use mathlib.Core.Bool.{Bool, true, false, cond}
 use mathlib.Core.List.{List, [], _∷_, _++_, append-assoc}
 use native.Mathlib.Omega.{arith}
 use borrow.Author.Tests.{ltb-true, ltb-false}
@@ -12,7 +12,7 @@ use Rattle.ward.specs.declared.codec.Number.{Number}
 use Rattle.ward.specs.declared.codec.Number.the-variants.{Value, Ended, Long}
 use Rattle.ward.specs.declared.layout.Want.{Want}
 use Rattle.ward.specs.declared.layout.Want.the-variants.{Next, Nothing}
-use Rattle.ward.specs.Codec.{pick, decode, decodeGroups, final, under}
+use Rattle.ward.specs.Codec.{decode, decodeGroups, final, under}
 use Rattle.ward.specs.Grammar.{Grammar, done, number, wanted, after, asked, fits, Read, good, bad, prepend, unless, heard, read, check, Within}
 use Rattle.ward.specs.Answers.{Small}
 
@@ -21,7 +21,7 @@ pub in-range : (f : Field) (v : ℕ) → asked f v ≡ 0 → (f .least ≤ v) ×
 unfolding asked
 in-range f v e = go (ltb v (f .least)) (ltb (f .most) v) refl refl e
   where
-    go : (a b : Bool) → ltb v (f .least) ≡ a → ltb (f .most) v ≡ b → pick {X = ℕ} a 3 (pick b 3 (pick (fits (f .rule) v) 0 4)) ≡ 0 → (f .least ≤ v) × (v ≤ f .most)
+    go : (a b : Bool) → ltb v (f .least) ≡ a → ltb (f .most) v ≡ b → cond {A = ℕ} a 3 (cond b 3 (cond (fits (f .rule) v) 0 4)) ≡ 0 → (f .least ≤ v) × (v ≤ f .most)
     go true b p q h = absurd (omega arith)
     go false true p q h = absurd (omega arith)
     go false false p q h = (ltb-false _ _ p, ltb-false _ _ q)
@@ -100,10 +100,10 @@ Inside bs (Value v used) = (0 < used) × (used ≤ length bs)
 Inside bs Ended = Unit
 Inside bs Long = Unit
 
-inside-pick : (x y : Bool) (b : ℕ) (bs : List ℕ) (n : Number) → Inside (b ∷ bs) n → Inside (b ∷ bs) (pick x (pick y Long (Value b 1)) n)
-inside-pick true true b bs n h = tt
-inside-pick true false b bs n h = (omega arith, omega arith)
-inside-pick false y b bs n h = h
+inside-cond : (x y : Bool) (b : ℕ) (bs : List ℕ) (n : Number) → Inside (b ∷ bs) n → Inside (b ∷ bs) (cond x (cond y Long (Value b 1)) n)
+inside-cond true true b bs n h = tt
+inside-cond true false b bs n h = (omega arith, omega arith)
+inside-cond false y b bs n h = h
 
 inside-under : (b : ℕ) (bs : List ℕ) (n : Number) → Inside bs n → Inside (b ∷ bs) (under b n)
 unfolding under
@@ -115,9 +115,9 @@ inside-groups : (more least : ℕ) (bs : List ℕ) → Inside bs (decodeGroups m
 unfolding decodeGroups final
 inside-groups zero least [] = tt
 inside-groups (suc more) least [] = tt
-inside-groups zero least (b ∷ bs) = inside-pick (ltb b 128) (ltb b least) b bs Long tt
+inside-groups zero least (b ∷ bs) = inside-cond (ltb b 128) (ltb b least) b bs Long tt
 inside-groups (suc more) least (b ∷ bs) =
-    inside-pick (ltb b 128) (ltb b least) b bs (under b (decodeGroups more 1 bs)) (inside-under b bs (decodeGroups more 1 bs) (inside-groups more 1 bs))
+    inside-cond (ltb b 128) (ltb b least) b bs (under b (decodeGroups more 1 bs)) (inside-under b bs (decodeGroups more 1 bs) (inside-groups more 1 bs))
 
 pub inside : (bs : List ℕ) (v used : ℕ) → decode bs ≡ Value v used → (0 < used) × (used ≤ length bs)
 unfolding decode

@@ -13,3 +13,4 @@ pub mod BufLaws
 pub mod RoundTrip
 pub mod AccessLaws
 pub mod AcceptedLaws
+pub mod FieldLaws

@@ -1,7 +1,7 @@
 -- The round trips, of a number and of any grammar's numbers.
 use Prim.Native.Nat.{ℕ, zero, suc, _+_, _-_, _*_, _/_, _%_, _^_, _≤_, _<_}
 use mathlib.Core.Path.{_≡_, refl, sym, ap, ap₂, _∙_, subst}
-use mathlib.Core.Bool.{Bool, true, false}
+use mathlib.Core.Bool.{Bool, true, false, cond}
 use mathlib.Core.List.{List, [], _∷_, _++_, append-assoc}
 use native.Mathlib.Nat.{pow-succ'}
 use native.Mathlib.Numerals.{add-one}
@@ -13,7 +13,7 @@ use lib.Dec.{ltb}
 use Rattle.ward.specs.declared.layout.Field.{Field}
 use Rattle.ward.specs.declared.codec.Number.{Number}
 use Rattle.ward.specs.declared.codec.Number.the-variants.{Value, Ended, Long}
-use Rattle.ward.specs.Codec.{pick, encodeGroups, encode, under, final, decodeGroups, decode}
+use Rattle.ward.specs.Codec.{encodeGroups, encode, under, final, decodeGroups, decode}
 use Rattle.ward.specs.Grammar.{Grammar, done, number, asked, Read, good, bad, prepend, unless, heard, read, check, bytesOf, Within}
 use Rattle.ward.specs.Layout.{ward}
 use Rattle.ward.specs.Answers.{readWard, checkWard}
@@ -42,8 +42,8 @@ groups-read (suc k) least v rest h l m = go (ltb v 128) refl (λ p. groups-read 
   where
     go : (b : Bool) → ltb v 128 ≡ b →
         (1 ≤ v / 128 → decodeGroups k 1 (encodeGroups k (v / 128) ++ rest) ≡ Value (v / 128) (length (encodeGroups k (v / 128)))) →
-        decodeGroups (suc k) least (pick b (v ∷ []) ((128 + v % 128) ∷ encodeGroups k (v / 128)) ++ rest)
-        ≡ Value v (length (pick b (v ∷ []) ((128 + v % 128) ∷ encodeGroups k (v / 128))))
+        decodeGroups (suc k) least (cond b (v ∷ []) ((128 + v % 128) ∷ encodeGroups k (v / 128)) ++ rest)
+        ≡ Value v (length (cond b (v ∷ []) ((128 + v % 128) ∷ encodeGroups k (v / 128))))
     go true e ih = last-read (suc k) least v rest (ltb-true _ _ e) l
     go false e ih =
         let big : 128 ≤ v = ltb-false _ _ e in
@@ -70,7 +70,7 @@ pow-at-least : (k : ℕ) → 128 ≤ 128 ^ (k + 1)
 pow-at-least zero = omega arith
 pow-at-least (suc k) = rw (add-one, pow-succ', ← add-one k) (omega (arith, pow-at-least k))
 
-last-back : (k least b : ℕ) (bs : List ℕ) (v used : ℕ) → b < 128 → (x : Bool) → ltb b least ≡ x → pick x Long (Value b 1) ≡ Value v used → Back k least (b ∷ bs) v used
+last-back : (k least b : ℕ) (bs : List ℕ) (v used : ℕ) → b < 128 → (x : Bool) → ltb b least ≡ x → cond x Long (Value b 1) ≡ Value v used → Back k least (b ∷ bs) v used
 unfolding encodeGroups
 last-back k least b bs v used h true p e = let z : _≡_ {A = ℕ} 0 1 = cc in absurd (omega arith)
 last-back k least b bs v used h false p e =
@@ -92,7 +92,7 @@ groups-back zero least [] v used m a e = let z : _≡_ {A = ℕ} 0 1 = cc in abs
 groups-back (suc k) least [] v used m a e = let z : _≡_ {A = ℕ} 0 1 = cc in absurd (omega arith)
 groups-back zero least (b ∷ bs) v used m a e = go (ltb b 128) refl e
   where
-    go : (x : Bool) → ltb b 128 ≡ x → pick x (pick (ltb b least) Long (Value b 1)) Long ≡ Value v used → Back zero least (b ∷ bs) v used
+    go : (x : Bool) → ltb b 128 ≡ x → cond x (cond (ltb b least) Long (Value b 1)) Long ≡ Value v used → Back zero least (b ∷ bs) v used
     go true p q = last-back zero least b bs v used (ltb-true _ _ p) (ltb b least) refl q
     go false p q = let z : _≡_ {A = ℕ} 0 1 = cc in absurd (omega arith)
 groups-back (suc k) least (b ∷ bs) v used m a e = go (ltb b 128) refl e (λ v′ used′. groups-back k 1 bs v′ used′ (omega arith) (a .1))
@@ -113,7 +113,7 @@ groups-back (suc k) least (b ∷ bs) v used m a e = go (ltb b 128) refl e (λ v�
     more Ended q h ih = let z : _≡_ {A = ℕ} 0 1 = cc in absurd (omega arith)
     more Long q h ih = let z : _≡_ {A = ℕ} 0 1 = cc in absurd (omega arith)
 
-    go : (x : Bool) → ltb b 128 ≡ x → pick x (pick (ltb b least) Long (Value b 1)) (under b (decodeGroups k 1 bs)) ≡ Value v used →
+    go : (x : Bool) → ltb b 128 ≡ x → cond x (cond (ltb b least) Long (Value b 1)) (under b (decodeGroups k 1 bs)) ≡ Value v used →
         ((v′ used′ : ℕ) → decodeGroups k 1 bs ≡ Value v′ used′ → Back k 1 bs v′ used′) → Back (suc k) least (b ∷ bs) v used
     go true p q ih = last-back (suc k) least b bs v used (ltb-true _ _ p) (ltb b least) refl q
     go false p q ih = more (decodeGroups k 1 bs) q (ltb-false _ _ p) ih

@@ -1,5 +1,6 @@
 -- What the calls answer.
 use Prim.Native.Nat.{ℕ, _+_, _-_, _<_, _^_}
+use mathlib.Core.Bool.{cond}
 use mathlib.Core.List.{List, _++_}
 use lib.ListN.{length, take, drop, replicate}
 use lib.Dec.{ltb}
@@ -10,7 +11,6 @@ use Rattle.ward.specs.declared.Reading.{Reading}
 use Rattle.ward.specs.declared.Ward.{Ward}
 use Rattle.ward.specs.declared.Checked.{Checked}
 use Rattle.ward.specs.declared.Writing.{Writing}
-use Rattle.ward.specs.Codec.{pick}
 use Rattle.ward.specs.Grammar.{Read, good, bad, read, check, bytesOf}
 use Rattle.ward.specs.Layout.{ward}
 
@@ -57,10 +57,10 @@ checkedOf (bad q p) = record { answer = No q p; bytes = 0 }
 unfoldable pub writingOf : ℕ → Read → Writing
 unfolding bytesOf
 writingOf room (good ws) =
-    pick (ltb room (length (bytesOf ws))) (record { answer = No 6 0; bytes = 0 }) (record { answer = Yes; bytes = length (bytesOf ws) })
+    cond (ltb room (length (bytesOf ws))) (record { answer = No 6 0; bytes = 0 }) (record { answer = Yes; bytes = length (bytesOf ws) })
 writingOf room (bad q p) = record { answer = No q p; bytes = 0 }
 
 unfoldable pub leftOf : List ℕ → Read → List ℕ
 unfolding bytesOf
-leftOf buf (good ws) = pick (ltb (length buf) (length (bytesOf ws))) buf (bytesOf ws ++ drop (length (bytesOf ws)) buf)
+leftOf buf (good ws) = cond (ltb (length buf) (length (bytesOf ws))) buf (bytesOf ws ++ drop (length (bytesOf ws)) buf)
 leftOf buf (bad q p) = buf

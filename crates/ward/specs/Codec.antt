@@ -2,20 +2,16 @@
 -- at most seven groups, the shortest form only.
 use Prim.Native.Nat.{ℕ, zero, suc, _+_, _-_, _*_, _/_, _%_, _^_, _≤_, _<_}
 use mathlib.Core.List.{List, [], _∷_, _++_}
-use mathlib.Core.Bool.{Bool, true, false}
+use mathlib.Core.Bool.{Bool, true, false, cond}
 use mathlib.Core.Path.{_≡_, refl}
 use lib.Dec.{ltb, leb}
 use Rattle.ward.specs.declared.codec.Number.{Number}
 use Rattle.ward.specs.declared.codec.Number.the-variants.{Value, Ended, Long}
 
-abbrev pub pick {ℓ} : {X : Type ℓ} → Bool → X → X → X
-pick true x y = x
-pick false x y = y
-
 -- the bytes of v in at most k groups more than one
 unfoldable pub encodeGroups : ℕ → ℕ → List ℕ
 encodeGroups zero v = v ∷ []
-encodeGroups (suc k) v = pick (ltb v 128) (v ∷ []) ((128 + v % 128) ∷ encodeGroups k (v / 128))
+encodeGroups (suc k) v = cond (ltb v 128) (v ∷ []) ((128 + v % 128) ∷ encodeGroups k (v / 128))
 
 unfoldable pub encode : ℕ → List ℕ
 unfolding encodeGroups
@@ -29,14 +25,14 @@ under b Long = Long
 
 -- a last group, which is at least `least`
 unfoldable pub final : ℕ → ℕ → Number
-final least b = pick (ltb b least) Long (Value b 1)
+final least b = cond (ltb b least) Long (Value b 1)
 
 -- the number at the front of the bytes, when `more` groups may follow its next one
 unfoldable pub decodeGroups : ℕ → ℕ → List ℕ → Number
 unfolding under final
 decodeGroups more least [] = Ended
-decodeGroups zero least (b ∷ bs) = pick (ltb b 128) (final least b) Long
-decodeGroups (suc more) least (b ∷ bs) = pick (ltb b 128) (final least b) (under b (decodeGroups more 1 bs))
+decodeGroups zero least (b ∷ bs) = cond (ltb b 128) (final least b) Long
+decodeGroups (suc more) least (b ∷ bs) = cond (ltb b 128) (final least b) (under b (decodeGroups more 1 bs))
 
 unfoldable pub decode : List ℕ → Number
 unfolding decodeGroups

@@ -1,7 +1,7 @@
 -- A layout is a grammar: the fields in order, where what follows a number may depend on the number. Reading and writing are two
 -- folds over it. Each asks every question of one number before the next.
 use Prim.Native.Nat.{ℕ, zero, suc, _+_, _^_, _≤_, _<_}
-use mathlib.Core.Bool.{Bool, true, false, not}
+use mathlib.Core.Bool.{Bool, true, false, not, cond}
 use mathlib.Core.List.{List, [], _∷_, _++_}
 use lib.ListN.{drop}
 use lib.Dec.{ltb, eqb}
@@ -14,7 +14,7 @@ use Rattle.ward.specs.declared.layout.Want.{Want}
 use Rattle.ward.specs.declared.layout.Want.the-variants.{Next, Nothing}
 use Rattle.ward.specs.declared.Answer.{Answer}
 use Rattle.ward.specs.declared.Answer.the-variants.{Yes, No}
-use Rattle.ward.specs.Codec.{pick, decode, encode}
+use Rattle.ward.specs.Codec.{decode, encode}
 
 pub data Grammar : Type 0 where
   done : Grammar
@@ -32,11 +32,11 @@ after (number f k) v = k v
 -- a duty is 3 exactly after a 2
 abbrev pub fits : Rule → ℕ → Bool
 fits Any v = true
-fits (After d) v = pick (eqb d 2) (eqb v 3) (not (eqb v 3))
+fits (After d) v = cond (eqb d 2) (eqb v 3) (not (eqb v 3))
 
 -- 0, or the first question of 3 and 4 that v fails in its field
 unfoldable pub asked : Field → ℕ → ℕ
-asked f v = pick (ltb v (f .least)) 3 (pick (ltb (f .most) v) 3 (pick (fits (f .rule) v) 0 4))
+asked f v = cond (ltb v (f .least)) 3 (cond (ltb (f .most) v) 3 (cond (fits (f .rule) v) 0 4))
 
 -- what reading comes to: the numbers, or a question and a place
 pub data Read : Type 0 where

@@ -1,5 +1,6 @@
 // The ward file: its reader and its writer.
 mod codec;
+pub mod fields;
 mod layout;
 
 use codec::Number;
