@@ -14,3 +14,4 @@ pub mod RoundTrip
 pub mod AccessLaws
 pub mod AcceptedLaws
 pub mod FieldLaws
+pub mod BothWaysLaws

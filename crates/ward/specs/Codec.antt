@@ -3,7 +3,6 @@
 use Prim.Native.Nat.{ℕ, zero, suc, _+_, _-_, _*_, _/_, _%_, _^_, _≤_, _<_}
 use mathlib.Core.List.{List, [], _∷_, _++_}
 use mathlib.Core.Bool.{Bool, true, false, cond}
-use mathlib.Core.Path.{_≡_, refl}
 use lib.Dec.{ltb, leb}
 use Rattle.ward.specs.declared.codec.Number.{Number}
 use Rattle.ward.specs.declared.codec.Number.the-variants.{Value, Ended, Long}
@@ -43,15 +42,3 @@ abbrev pub Below : ℕ → Number → Type 0
 Below more (Value v used) = (v < 128 ^ (more + 1)) × (used ≤ more + 1)
 Below more Ended = Unit
 Below more Long = Unit
-
-ex0 : encode 0 ≡ 0x00 ∷ []
-unfolding encode
-ex0 = refl
-
-ex127 : encode 127 ≡ 0x7f ∷ []
-unfolding encode
-ex127 = refl
-
-ex128 : encode 128 ≡ 0x80 ∷ 0x01 ∷ []
-unfolding encode
-ex128 = refl

@@ -4,4 +4,5 @@ pub mod Layout
 pub mod Fields
 pub mod Place
 pub mod Answers
+pub mod BothWays
 pub mod Examples

@@ -167,8 +167,9 @@ pub fn write(ward: Ward, buf: &mut [u8]) -> Writing
                 at = codec::put(buf, at, v);
                 i += 1;
             }
+            let answer = Answer::Yes;
             Writing {
-                answer: Answer::Yes,
+                answer,
                 bytes: at,
             }
         }
