@@ -1,0 +1,4 @@
+pub mod TestsLaws
+pub mod ChooseLaws
+pub mod AllowedLaws
+pub mod RunLaws

@@ -1,0 +1,4 @@
+pub mod Phase
+pub mod History
+pub mod Record
+pub mod Claim
