@@ -13,6 +13,9 @@ use Rattle.numbers.specs.Range.{upFrom}
 use Rattle.search.specs.Claim.{NotAfter}
 use Rattle.search.proofs.TestsLaws.{and-true, or-true, or-false, cases, and-false-right, not-both}
 
+pub step-path : (s t : Step) → s .nurse ≡ t .nurse → s .pattern ≡ t .pattern → s ≡ t
+step-path s t p q = λ i. record { nurse = p i; pattern = q i }
+
 pub notAfter-refl : (c : ℕ) (s : Step) → NotAfter c c s s
 notAfter-refl c s = omega arith
 
