@@ -28,7 +28,7 @@ and-cong : (a b c : Bool) → (a ≡ true → b ≡ c) → (a && b) ≡ (a && c)
 and-cong true b c f = f refl
 and-cong false b c f = refl
 
-pub barred-givenUp : (i p n : ℕ) (h : History) → barred (take n (removals h)) i p ≡ givenUp n h i p
+pub barred-givenUp : (i p n : ℕ) (h : History) → barred (take n (removals h)) (suc i) p ≡ givenUp n h i p
 barred-givenUp i p zero h = refl
 barred-givenUp i p (suc n) [] = refl
 barred-givenUp i p (suc n) (s ∷ h) =

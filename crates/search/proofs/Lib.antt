@@ -6,3 +6,6 @@ pub mod FollowLaws
 pub mod PlacedLaws
 pub mod DemandLaws
 pub mod Unique
+pub mod Worked
+pub mod RemovalLaws
+pub mod ViewLaws

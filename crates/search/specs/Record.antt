@@ -38,14 +38,14 @@ recordOf P h = record { slots = inUse h; removals = take (P .tabu) (removals h);
 abbrev pub fresh : Record
 fresh = record { slots = λ i. none; removals = []; steps = 0 }
 
--- is p one that these removals bar for nurse i?
+-- is p one that these removals bar for the nurse of this number? One that she gave up, herself
 abbrev pub barred : List Removal → ℕ → ℕ → Bool
-barred [] i p = false
-barred (r ∷ rs) i p = (eqb (suc i) (r .nurse) && holds (r .pattern) p) || barred rs i p
+barred [] number p = false
+barred (r ∷ rs) number p = (eqb number (r .nurse) && holds (r .pattern) p) || barred rs number p
 
 -- neither in use by her nor given up by her in the last TL steps
 unfoldable pub mayTake : Record → ℕ → ℕ → Bool
-mayTake r i p = not (holds (r .slots i) p) && not (barred (r .removals) i p)
+mayTake r i p = not (holds (r .slots i) p) && not (barred (r .removals) (suc i) p)
 
 unfoldable pub total : Phase → Record → ℕ
 total P r = P .cost (r .slots)
