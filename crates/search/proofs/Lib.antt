@@ -9,3 +9,4 @@ pub mod Unique
 pub mod Worked
 pub mod RemovalLaws
 pub mod ViewLaws
+pub mod StoredLaws

@@ -56,13 +56,17 @@ storedRemoval x = record { nurse = x .nurse; has = flagOf (x .pattern); pattern 
 abbrev pub noRemoval : StoredRemoval
 noRemoval = record { nurse = 0; has = false; pattern = 0 }
 
+-- n places: those of a list, and d in the rest
+abbrev pub padded : {A : Type 0} → ℕ → A → List A → List A
+padded n d xs = xs ++ replicate (n - length xs) d
+
 -- how a record is stored: every unused field is 0
 unfoldable pub store : Record → Stored
 store r =
     record {
       patterns = map (λ i. patternOf (r .slots i)) (upFrom 0 48);
       placed = map (λ i. flagOf (r .slots i)) (upFrom 0 48);
-      removals = map storedRemoval (r .removals) ++ replicate (64 - length (r .removals)) noRemoval;
+      removals = padded 64 noRemoval (map storedRemoval (r .removals));
       steps = r .steps;
     }
 
