@@ -10,3 +10,4 @@ pub mod Worked
 pub mod RemovalLaws
 pub mod ViewLaws
 pub mod StoredLaws
+pub mod AdvanceLaws

@@ -67,6 +67,11 @@ costIn P r i p = costAfter P r (record { nurse = i; pattern = p })
 abbrev pub bestOver : Phase → Record → ℕ → Best
 bestOver P r m = overNurses (mayTake r) (costIn P r) (P .patterns) m
 
+-- the exchange that was found
+abbrev pub found : Best → Option Step
+found Nothing = none
+found (Exchange i p c) = some (record { nurse = i; pattern = p })
+
 -- a step, if there is an exchange
 unfoldable pub steppedOf : Phase → Stored → Stepped
 steppedOf P r =
