@@ -11,3 +11,5 @@ pub mod RemovalLaws
 pub mod ViewLaws
 pub mod StoredLaws
 pub mod AdvanceLaws
+pub mod BestLaws
+pub mod QuestionLaws
