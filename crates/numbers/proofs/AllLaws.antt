@@ -2,13 +2,11 @@
 use mathlib.Core.Path.{_≡_, refl, sym, ap, ap₂, _∙_}
 use mathlib.Core.Bool.{Bool, true, false, _&&_}
 use mathlib.Core.List.{List, [], _∷_, _++_}
-use Prim.Native.Nat.{ℕ, zero, suc, _+_, _≤_, _<_}
-use native.Mathlib.Nat.{not-suc-le-zero, zero-add, le-suc, le-trans, lt-suc-self}
+use Prim.Native.Nat.{ℕ, zero, suc, _+_, _<_}
+use native.Mathlib.Nat.{zero-add, le-suc, le-trans, lt-suc-self}
 use native.Mathlib.Numerals.{add-one}
-use native.Mathlib.Omega.{arith}
-use lib.ListN.{length, getD}
 use Rattle.numbers.specs.Range.{upFrom, all}
-use Rattle.numbers.proofs.RangeLaws.{range-add, range-at, length-range, all-at, and-parts}
+use Rattle.numbers.proofs.RangeLaws.{range-add, range-at, length-range, all-at}
 
 and-assoc : (a b c : Bool) → (a && (b && c)) ≡ ((a && b) && c)
 and-assoc true b c = refl

@@ -1,31 +1,30 @@
 -- An advance over stored records, as a loop of steps makes it; and demand 3 of such advances.
-use Prim.Native.Nat.{ℕ, zero, suc, _+_, _-_, _≤_, _<_, min}
+use Prim.Native.Nat.{ℕ, zero, _+_, _-_, _≤_, _<_, min}
 use mathlib.Core.Path.{_≡_, refl, sym, ap, ap₂, _∙_, subst}
 use mathlib.Core.Bool.{Bool, true, false, cond, _&&_, false≢true}
-use mathlib.Core.Logic.{_≢_, _⊎_, inl, inr, ⊎-elim}
-use mathlib.Core.List.{List, [], _∷_, List·Memᴰ}
-use mathlib.Core.Option.{Option, none, some, Option·none-ne-some}
+use mathlib.Core.Logic.{_≢_}
+use mathlib.Core.List.{List, []}
+use mathlib.Core.Option.{Option, none, some}
 use native.Mathlib.Nat.{sub-zero, add-zero}
-use native.Mathlib.Numerals.{add-one}
 use native.Mathlib.Omega.{arith}
 use lib.Dec.{leb, eqb}
 use lib.ListN.{length}
 use borrow.Author.Tests.{eq-eqb, ne-eqb, eqb-true}
-use Rattle.numbers.specs.Range.{upFrom, all}
+use Rattle.numbers.specs.Range.{upFrom}
 use Rattle.numbers.proofs.AllLaws.{all-each}
 use Rattle.penalty.specs.Penalty.{Slot}
-use Rattle.search.specs.Phase.{Step, Phase, Call, No, Answer, refused, ended, End, End·zero, End·asked, End·none, exchanges, least, run, refusal, given, first, unless}
-use Rattle.search.specs.History.{History, inUse, penalty, extend, reply, advance}
-use Rattle.search.specs.Record.{Record, recordOf, fresh, mayTake, costAfter, total, best, stepped, proceed, among, hers, allName, lacking, sound, refusalOf, replyOf, advanceRecord}
+use Rattle.search.specs.Phase.{Step, Phase, Call, No, Answer, refused, ended, End, End·zero, End·asked, End·none, exchanges, run, refusal, given, first}
+use Rattle.search.specs.History.{History, penalty, extend, reply, advance}
+use Rattle.search.specs.Record.{Record, recordOf, mayTake, costAfter, total, best, stepped, proceed, among, hers, allName, lacking, sound, replyOf}
 use Rattle.search.specs.Claim.{Lawful, Demand3}
 use Rattle.search.specs.Stored.{store, view, viewOf, allZero, unusedZero, soundStored, refusalStored, replyStored, advanceStored, Sized, Fits}
 use Rattle.search.specs.Walk.{exchangedIn, steppedOf}
 use Rattle.search.specs.declared.Record.{Record as Stored}
 use Rattle.search.specs.declared.Stepped.{Stepped}
 use Rattle.search.proofs.TestsLaws.{and-true}
-use Rattle.search.proofs.ChooseLaws.{First, least-first, offers-only, range-only}
+use Rattle.search.proofs.ChooseLaws.{least-first, offers-only, range-only}
 use Rattle.search.proofs.RunLaws.{run-zero, run-asked, run-stuck, run-on}
-use Rattle.search.proofs.FollowLaws.{Grown, among-member, fresh-record, removals-held, none-past, lacking-none, refusal-record, sound-record, advance-refused, advance-goes, proceed-extend, extend-grown}
+use Rattle.search.proofs.FollowLaws.{Grown, among-member, fresh-record, removals-held, none-past, lacking-none, sound-record, advance-refused, advance-goes, proceed-extend}
 use Rattle.search.proofs.DemandLaws.{demand3-of}
 use Rattle.search.proofs.StoredLaws.{Held, Whole, view-store, store-fresh, unused-store, view-exchanged, exchanged-whole, store-view}
 

@@ -1,21 +1,21 @@
 -- The test `allowed` is the statement `Allowed`, and `next` is the step to take of all that are allowed.
-use Prim.Native.Nat.{ℕ, zero, suc, _+_, _≤_, _<_}
-use mathlib.Core.Path.{_≡_, refl, sym, ap, _∙_, subst}
-use mathlib.Core.Bool.{Bool, true, false, not, cond, _&&_, _||_, false≢true}
-use mathlib.Core.Logic.{_≢_, _⊎_, inl, inr, ⊎-elim}
-use mathlib.Core.List.{List, [], _∷_, _++_, List·Memᴰ, List·Memᴰ·not-nil}
-use mathlib.Core.Option.{Option, none, some, Option·none-ne-some}
+use Prim.Native.Nat.{ℕ, zero, suc, _+_, _<_}
+use mathlib.Core.Path.{_≡_, refl, sym, ap}
+use mathlib.Core.Bool.{true, false, not, _&&_, false≢true}
+use mathlib.Core.Logic.{_≢_, _⊎_, ⊎-elim}
+use mathlib.Core.List.{[], _∷_, _++_, List·Memᴰ, List·Memᴰ·not-nil}
+use mathlib.Core.Option.{none, some}
 use native.Mathlib.Omega.{arith}
-use native.Mathlib.Nat.{not-suc-le-zero, zero-add}
-use lib.Dec.{ltb, eqb}
+use native.Mathlib.Nat.{not-suc-le-zero}
+use lib.Dec.{eqb}
 use lib.ListN.{length}
 use borrow.Author.Tests.{eqb-true, eq-eqb}
 use Rattle.search.specs.Phase.{Step, Phase, holds, exchanges, least}
 use Rattle.numbers.specs.Range.{upFrom}
 use Rattle.search.specs.History.{History, inUse, givenUp, penalty, allowed, next}
-use Rattle.search.specs.Claim.{NotAfter, Allowed, Least}
-use Rattle.search.proofs.TestsLaws.{and-true, or-true, cases, false-of, false-of-not, not-of-false, not-both, holds-true, holds-some, or-left, or-right, both-true}
-use Rattle.search.proofs.ChooseLaws.{First, least-none, least-first, offers-only, offers-all, range-only, range-all}
+use Rattle.search.specs.Claim.{Allowed, Least}
+use Rattle.search.proofs.TestsLaws.{and-true, or-true, false-of, false-of-not, not-of-false, not-both, holds-true, holds-some, or-left, or-right, both-true}
+use Rattle.search.proofs.ChooseLaws.{least-none, least-first, offers-only, offers-all, range-only, range-all}
 
 module _ (i p : ℕ) where
   -- where she gave p up

@@ -1,8 +1,8 @@
 -- The search for the best exchange as loops make it, nurse by nurse and each nurse's list in order, finds the exchange that a step takes.
 use Prim.Native.Nat.{ℕ, zero, suc, _+_, _-_, _≤_, _<_, suc-le-suc}
-use mathlib.Core.Path.{_≡_, refl, sym, ap, ap₂, _∙_, subst}
+use mathlib.Core.Path.{_≡_, refl, sym, ap, _∙_, subst}
 use mathlib.Core.Bool.{Bool, true, false, cond, _&&_}
-use mathlib.Core.Logic.{_≢_, _⊎_, inl, inr, ⊎-elim}
+use mathlib.Core.Logic.{_⊎_, ⊎-elim}
 use mathlib.Core.List.{List, [], _∷_, _++_, append-assoc, append-nil, List·Memᴰ, List·Memᴰ·head, List·Memᴰ·tail, List·Memᴰ·cases-cons, List·Memᴰ·not-nil, List·Memᴰ·append-cases, List·Memᴰ·eq-of-singleton, Memᴰ·append-left, Memᴰ·append-right}
 use mathlib.Core.Option.{Option, none, some}
 use native.Mathlib.Omega.{arith}
@@ -10,14 +10,14 @@ use native.Mathlib.Nat.{zero-add}
 use native.Mathlib.Numerals.{add-one}
 use lib.Dec.{ltb}
 use lib.ListN.{length, getD, take}
-use lib.Seq.{take-suc, take-length, take-all}
+use lib.Seq.{take-suc, take-all}
 use borrow.Author.Tests.{ltb-true, ltb-false}
 use Rattle.numbers.specs.Range.{upFrom, keep, Ascending}
 use Rattle.numbers.proofs.RangeLaws.{range-add}
 use Rattle.search.specs.Phase.{Step, Phase, offersTo, offers, exchanges, least}
 use Rattle.search.specs.Record.{Record, mayTake, costAfter, best}
 use Rattle.search.specs.Claim.{NotAfter}
-use Rattle.search.specs.Walk.{improves, considered, overList, overNurses, costIn, bestOver, found}
+use Rattle.search.specs.Walk.{improves, considered, overList, overNurses, bestOver, found}
 use Rattle.search.specs.declared.best.Best.{Best}
 use Rattle.search.specs.declared.best.Best.the-variants.{Nothing, Exchange}
 use Rattle.search.proofs.ChooseLaws.{First, least-none, least-first, step-path, offersTo-only, offers-only, range-only}

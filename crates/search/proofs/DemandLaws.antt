@@ -1,17 +1,15 @@
 -- Demand 3 holds of every list of advances.
-use Prim.Native.Nat.{ℕ, zero, suc, _+_, _-_, _≤_, _<_}
-use mathlib.Core.Path.{_≡_, refl, sym, ap, _∙_, subst}
-use mathlib.Core.Bool.{Bool, true, false, cond}
+use Prim.Native.Nat.{ℕ, zero, _+_, _-_, _≤_, _<_}
+use mathlib.Core.Path.{_≡_, refl, sym, ap, _∙_}
 use mathlib.Core.Logic.{_≢_, _↔_}
 use mathlib.Core.List.{List, [], _∷_, _++_}
-use mathlib.Core.Option.{Option, none, some, Option·none-ne-some}
+use mathlib.Core.Option.{Option, none, some}
 use native.Mathlib.Omega.{arith}
-use lib.Dec.{eqb}
 use lib.ListN.{length, length-append}
 use lib.Seq.{append-snoc}
 use borrow.Author.Tests.{eq-eqb, ne-eqb}
 use Rattle.penalty.specs.Penalty.{Slot}
-use Rattle.search.specs.Phase.{Step, Phase, Call, No, Answer, refused, ended, End, End·zero, End·asked, End·none, refusal, given, inTurn}
+use Rattle.search.specs.Phase.{Step, Phase, Call, No, Answer, End, End·zero, End·asked, End·none, refusal, given, inTurn}
 use Rattle.search.specs.History.{History, inUse, penalty, next, extend, reply, advance, answers, history}
 use Rattle.search.specs.Record.{Record, fresh, recordOf, advanceRecord}
 use Rattle.search.specs.Claim.{Allowed, Least, Lawful, Made, Went, refuses, goes, Turns, done, turn, Demand3}

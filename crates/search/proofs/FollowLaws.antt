@@ -1,22 +1,20 @@
 -- A search that keeps only its record follows the history, advance by advance.
-use Prim.Native.Nat.{ℕ, zero, suc, _+_, _-_, _≤_, _<_, min}
-use mathlib.Core.Path.{_≡_, refl, sym, ap, ap₂, _∙_, subst, fun-ext}
-use mathlib.Core.Bool.{Bool, true, false, not, cond, _&&_, _||_}
-use mathlib.Core.Logic.{_≢_, _⊎_, inl, inr, ⊎-elim}
-use mathlib.Core.List.{List, [], _∷_, _++_, List·Memᴰ, List·Memᴰ·head, List·Memᴰ·tail, List·Memᴰ·cases-cons, List·Memᴰ·not-nil}
+use Prim.Native.Nat.{ℕ, zero, suc, _-_, _≤_, min}
+use mathlib.Core.Path.{_≡_, refl, sym, ap, ap₂, _∙_, fun-ext}
+use mathlib.Core.Bool.{Bool, true, false, cond, _&&_, _||_}
+use mathlib.Core.Logic.{_≢_, _⊎_, ⊎-elim}
+use mathlib.Core.List.{List, [], _∷_, List·Memᴰ, List·Memᴰ·head, List·Memᴰ·tail, List·Memᴰ·cases-cons, List·Memᴰ·not-nil}
 use mathlib.Core.Option.{Option, none, some}
 use native.Mathlib.Omega.{arith}
-use native.Mathlib.Nat.{zero-add}
-use lib.Dec.{ltb, eqb, eqb·suc-suc}
+use lib.Dec.{eqb, eqb·suc-suc}
 use lib.ListN.{length, take, length-take}
 use lib.Seq.{take-take, take-nil}
-use borrow.Author.Tests.{eqb-true, eqb-false, eq-eqb, ne-eqb, lt-ltb}
+use borrow.Author.Tests.{eqb-true, eq-eqb, ne-eqb, lt-ltb}
 use Rattle.numbers.specs.Range.{upFrom, all}
-use Rattle.penalty.specs.Penalty.{Slot}
-use Rattle.search.specs.Phase.{Step, Phase, Call, No, Answer, refused, ended, End, holds, exchanged, offersTo, offers, exchanges, least, run, refusal, given, first, unless, inTurn}
-use Rattle.search.specs.History.{History, inUse, givenUp, penalty, allowed, next, extend, reply, advance, answers, history}
-use Rattle.search.specs.Record.{Removal, Record, removals, recordOf, fresh, barred, mayTake, total, best, stepped, proceed, among, hers, names, allName, lacking, sound, refusalOf, replyOf, advanceRecord}
-use Rattle.search.specs.Claim.{Allowed, Least, Lawful}
+use Rattle.search.specs.Phase.{Step, Phase, Call, No, Answer, refused, holds, exchanged, exchanges, least, refusal, first, inTurn}
+use Rattle.search.specs.History.{History, inUse, givenUp, penalty, allowed, next, extend, reply, advance, history}
+use Rattle.search.specs.Record.{Record, removals, recordOf, fresh, barred, mayTake, total, best, stepped, proceed, among, hers, allName, lacking, sound, refusalOf, replyOf, advanceRecord}
+use Rattle.search.specs.Claim.{Least, Lawful}
 use Rattle.search.proofs.TestsLaws.{or-left, or-right}
 use Rattle.search.proofs.ChooseLaws.{range-only}
 use Rattle.search.proofs.AllowedLaws.{next-some}

@@ -1,21 +1,21 @@
 -- An unplaced nurse costs more than all else, so each step places one while there is one.
 use Prim.Native.Nat.{ℕ, zero, suc, _+_, _-_, _*_, _≤_, _<_}
-use mathlib.Core.Path.{_≡_, refl, sym, ap, _∙_, subst}
+use mathlib.Core.Path.{_≡_, refl, sym, _∙_}
 use mathlib.Core.Bool.{Bool, true, false, cond}
-use mathlib.Core.Logic.{_≢_, _⊎_, inl, inr, ⊎-elim}
+use mathlib.Core.Logic.{_≢_, _⊎_, ⊎-elim}
 use mathlib.Core.List.{List, [], _∷_, _++_, List·Memᴰ, List·Memᴰ·head}
-use mathlib.Core.Option.{Option, none, some, Option·none-ne-some, Option·some-ne-none}
+use mathlib.Core.Option.{none, some, Option·none-ne-some, Option·some-ne-none}
 use native.Mathlib.Omega.{arith}
 use native.Mathlib.Nat.{not-suc-le-zero, le-of-suc-le-suc, eq-or-lt-of-le}
 use lib.Dec.{eqb}
 use lib.ListN.{length}
-use borrow.Author.Tests.{eqb-true, eqb-false, eq-eqb, ne-eqb}
+use borrow.Author.Tests.{eq-eqb, ne-eqb}
 use Rattle.numbers.specs.Sum.{sumTo, countTo, oneIf}
 use Rattle.numbers.proofs.SumLaws.{count-le}
 use Rattle.penalty.specs.Penalty.{Slot, isNone}
 use Rattle.search.specs.Phase.{Step, Phase, exchanged}
 use Rattle.search.specs.History.{History, inUse, penalty}
-use Rattle.search.specs.Claim.{NotAfter, Allowed, Least, Lawful, unplaced}
+use Rattle.search.specs.Claim.{Allowed, Least, Lawful, unplaced}
 use Rattle.search.proofs.FollowLaws.{Grown, start, more}
 
 -- how many of the first n slots are empty

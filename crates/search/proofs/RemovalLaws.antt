@@ -1,8 +1,8 @@
 -- The laws by which loops over the stored removals find one and put one in front.
-use Prim.Native.Nat.{ℕ, zero, suc, _+_, _-_, _≤_, _<_, min}
+use Prim.Native.Nat.{ℕ, zero, suc, _+_, _-_, _≤_, _<_}
 use mathlib.Core.Path.{_≡_, refl, sym, ap, ap₂, _∙_}
-use mathlib.Core.Bool.{Bool, true, false, cond, _&&_, _||_}
-use mathlib.Core.List.{List, [], _∷_, _++_, map, map-append}
+use mathlib.Core.Bool.{Bool, true, false, _&&_, _||_}
+use mathlib.Core.List.{List, [], _∷_, _++_, map}
 use native.Mathlib.Nat.{not-suc-le-zero, sub-self, sub-zero}
 use native.Mathlib.Numerals.{add-one}
 use native.Mathlib.Omega.{arith}
@@ -10,8 +10,8 @@ use lib.Dec.{eqb}
 use lib.ListN.{length, getD, take, drop, set, length-take, take-append-drop, List·getD-append}
 use lib.Seq.{take-suc, drop-cons, set-at, getD-take, length-take-le, append-snoc, split-at, take-take}
 use Rattle.search.specs.Phase.{holds}
-use Rattle.search.specs.Record.{Removal, barred}
-use Rattle.search.specs.Stored.{slot, slotAt, removalOf}
+use Rattle.search.specs.Record.{barred}
+use Rattle.search.specs.Stored.{slot, removalOf}
 use Rattle.search.specs.Walk.{inFront, removalBy}
 use Rattle.search.specs.declared.Record.{Record as Stored}
 use Rattle.search.specs.declared.Removal.{Removal as StoredRemoval}
@@ -64,9 +64,9 @@ module _ (number p : ℕ) where
       split-at (take n l) k d (rw (length-take-le n l g) h)
       ∙ ap₂ (λ (a : List StoredRemoval) (b : StoredRemoval). a ++ b ∷ rest) (take-take k n l (omega arith)) (getD-take n l k d h) in
       sym (
-        ap (λ (y : List StoredRemoval). barred (map removalOf y) number p) e ∙ barred-append (take k l) (getD l k d ∷ rest)
-        ∙ ap (λ (b : Bool). barred (map removalOf (take k l)) number p || (b || barred (map removalOf rest) number p)) (sym q ∙ f)
-        ∙ or-true (barred (map removalOf (take k l)) number p))
+      ap (λ (y : List StoredRemoval). barred (map removalOf y) number p) e ∙ barred-append (take k l) (getD l k d ∷ rest)
+      ∙ ap (λ (b : Bool). barred (map removalOf (take k l)) number p || (b || barred (map removalOf rest) number p)) (sym q ∙ f)
+      ∙ or-true (barred (map removalOf (take k l)) number p))
 
 -- ---- one more in front
 

@@ -1,7 +1,6 @@
 -- The claim's own words fix the answers and the history: whoever believes `Turns` and `Steps` need not read how the history is computed.
 use Prim.Native.Nat.{ℕ, zero, suc, _+_, _-_, _≤_, _<_}
-use mathlib.Core.Path.{_≡_, refl, sym, ap, ap₂, _∙_, subst}
-use mathlib.Core.Bool.{Bool, true, false}
+use mathlib.Core.Path.{_≡_, refl, sym, ap, _∙_, subst}
 use mathlib.Core.Logic.{_≢_, _↔_, ⊎-elim}
 use mathlib.Core.List.{List, [], _∷_, _++_, reverse, reverseAux, reverseAux-eq, reverse-reverse, append-assoc}
 use mathlib.Core.Option.{Option, none, some}
@@ -9,10 +8,10 @@ use native.Mathlib.Omega.{arith}
 use native.Mathlib.Nat.{not-suc-le-zero}
 use lib.Dec.{eqb}
 use lib.ListN.{length, length-append, length-reverse}
-use borrow.Author.Tests.{eqb-true, eqb-false, eq-eqb, ne-eqb}
-use Rattle.search.specs.Phase.{Step, Phase, Call, No, Answer, refused, ended, End, End·zero, End·asked, End·none, run, refusal, given, inTurn}
+use borrow.Author.Tests.{eqb-true, eqb-false}
+use Rattle.search.specs.Phase.{Step, Phase, Call, Answer, ended, End, End·zero, End·asked, End·none, given, inTurn}
 use Rattle.search.specs.History.{History, inUse, penalty, next, extend, reply, advance, answers, history}
-use Rattle.search.specs.Claim.{NotAfter, Allowed, Least, Steps, Made, Went, refuses, goes, Turns, done, turn}
+use Rattle.search.specs.Claim.{Allowed, Least, Steps, Made, Went, refuses, goes, Turns, done, turn}
 use Rattle.search.proofs.TestsLaws.{cases}
 use Rattle.search.proofs.AllowedLaws.{next-none, next-some}
 use Rattle.search.proofs.RunLaws.{run-zero, run-asked, run-none, run-step}

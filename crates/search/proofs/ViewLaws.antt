@@ -1,16 +1,15 @@
 -- What the code asks of a stored record, in terms of the record that it stands for.
-use Prim.Native.Nat.{ℕ, zero, suc, _+_, _-_, _≤_, _<_, min}
-use mathlib.Core.Path.{_≡_, refl, sym, ap, ap₂, _∙_}
-use mathlib.Core.Bool.{Bool, true, false, cond, not, _&&_}
-use mathlib.Core.List.{List, [], _∷_, _++_, map}
+use Prim.Native.Nat.{ℕ, _+_, _-_, _<_, min}
+use mathlib.Core.Path.{_≡_}
+use mathlib.Core.Bool.{Bool, true, false, not}
+use mathlib.Core.List.{List, map}
 use native.Mathlib.Numerals.{add-one}
-use lib.Dec.{ltb, eqb}
-use lib.ListN.{length, getD, take, set}
+use lib.ListN.{take, set}
 use borrow.Author.Tests.{lt-ltb, eq-eqb, ne-eqb}
 use Rattle.numbers.specs.Range.{upFrom, all}
 use Rattle.search.specs.Phase.{holds}
 use Rattle.search.specs.Record.{barred, mayTake}
-use Rattle.search.specs.Stored.{slot, slotAt, removalOf, view, slotZero, removalZero, unusedZero}
+use Rattle.search.specs.Stored.{slotAt, removalOf, view, slotZero, removalZero, unusedZero}
 use Rattle.search.specs.Walk.{inFront, pushed, removalBy, exchangedIn}
 use Rattle.search.specs.declared.Record.{Record as Stored}
 use Rattle.search.specs.declared.Removal.{Removal as StoredRemoval}

@@ -1,5 +1,5 @@
 -- The worked ward's nights as a phase, its lists and its penalty written out: it is lawful, and its advances compute.
-use Prim.Native.Nat.{ℕ, zero, suc, _+_, _-_, _*_, _≤_, _<_}
+use Prim.Native.Nat.{ℕ, zero, suc, _+_, _-_, _*_}
 use mathlib.Core.Path.{_≡_, refl}
 use mathlib.Core.Logic.{_≢_}
 use mathlib.Core.List.{List, [], _∷_, cons≢nil}
@@ -8,10 +8,10 @@ use lib.Dec.{leb}
 use Rattle.numbers.specs.Range.{upFrom, all}
 use Rattle.numbers.specs.Sum.{sumTo, countTo}
 use Rattle.penalty.specs.Penalty.{Slot, isNone, unplacedCost}
-use Rattle.search.specs.Phase.{Step, Phase, Call, No, Answer, refused, ended, End·zero, End·asked, End·none, holds, unless, run, refusal, given, inTurn}
-use Rattle.search.specs.History.{History, penalty, allowed, next, extend, reply, advance}
-use Rattle.search.specs.Record.{Record, recordOf, fresh, mayTake, total, best, stepped, proceed, sound, refusalOf, replyOf, advanceRecord}
-use Rattle.search.specs.Claim.{Lawful, unplaced}
+use Rattle.search.specs.Phase.{Step, Phase, Call, refused, ended, End·zero, End·asked, holds, unless, run, refusal, given, inTurn}
+use Rattle.search.specs.History.{penalty, allowed, next, extend, reply, advance}
+use Rattle.search.specs.Record.{recordOf, fresh, mayTake, total, best, stepped, proceed, sound, refusalOf, replyOf, advanceRecord}
+use Rattle.search.specs.Claim.{Lawful}
 
 -- how many start on day 1, and how many on day 2
 abbrev first : (ℕ → Slot) → ℕ

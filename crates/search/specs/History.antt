@@ -1,12 +1,12 @@
 -- The history of a list of advances, from what each is handed alone.
 use Prim.Native.Nat.{ℕ, zero, suc, _-_}
-use mathlib.Core.Bool.{Bool, true, false, cond, not, _&&_, _||_}
+use mathlib.Core.Bool.{Bool, false, cond, not, _&&_, _||_}
 use mathlib.Core.List.{List, [], _∷_}
 use mathlib.Core.Option.{Option, none, some}
 use lib.Dec.{eqb}
 use lib.ListN.{length}
 use Rattle.penalty.specs.Penalty.{Slot}
-use Rattle.search.specs.Phase.{Step, Phase, Call, No, Answer, refused, ended, End, holds, exchanges, least, run, refusal, given, inTurn}
+use Rattle.search.specs.Phase.{Step, Phase, Call, Answer, refused, ended, End, holds, exchanges, least, run, refusal, given, inTurn}
 
 -- the steps made, the last one first; empty at fresh
 abbrev pub History : Type 0

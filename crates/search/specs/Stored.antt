@@ -1,14 +1,14 @@
 -- How a record is stored, what a stored record of any content stands for, and the advances over stored records.
-use Prim.Native.Nat.{ℕ, zero, suc, _+_, _-_, _≤_, min}
+use Prim.Native.Nat.{ℕ, _+_, _-_, _≤_, min}
 use mathlib.Core.Path.{_≡_}
 use mathlib.Core.Bool.{Bool, true, false, cond, not, _&&_, _||_}
-use mathlib.Core.List.{List, [], _∷_, _++_, map}
+use mathlib.Core.List.{List, _++_, map}
 use mathlib.Core.Option.{Option, none, some}
 use lib.Dec.{ltb, eqb}
 use lib.ListN.{length, getD, take, replicate}
 use Rattle.numbers.specs.Range.{upFrom, all}
 use Rattle.penalty.specs.Penalty.{Slot}
-use Rattle.search.specs.Phase.{Phase, Call, No, Answer, refused, End, refusal, first, unless}
+use Rattle.search.specs.Phase.{Phase, Call, No, Answer, refused, refusal, first, unless}
 use Rattle.search.specs.Record.{Record, Removal, lacking, sound, proceed, replyOf}
 use Rattle.search.specs.declared.Record.{Record as Stored}
 use Rattle.search.specs.declared.Removal.{Removal as StoredRemoval}

@@ -4,7 +4,7 @@ use mathlib.Core.Bool.{Bool, true, false, cond}
 use mathlib.Core.List.{List, [], _∷_, _++_}
 use mathlib.Core.Option.{Option, none, some}
 use lib.Dec.{ltb, eqb}
-use lib.ListN.{getD, take, drop, set}
+use lib.ListN.{take, drop, set}
 use Rattle.search.specs.Phase.{Step, Phase}
 use Rattle.search.specs.Record.{Record, mayTake, costAfter, best}
 use Rattle.search.specs.Stored.{slotAt, storedRemoval, viewOf}

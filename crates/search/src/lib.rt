@@ -6,7 +6,7 @@ mod unused;
 ghost use mathlib.Core.Path.{_≡_};
 ghost use Prim.Native.Nat.{ℕ, _<_, _≤_};
 ghost use Rattle.search.specs.Record.{mayTake};
-ghost use Rattle.search.specs.Stored.{view, allZero, unusedZero};
+ghost use Rattle.search.specs.Stored.{view, allZero, unusedZero, Sized};
 ghost use Rattle.search.specs.Walk.{removalBy, exchangedIn};
 
 // One of the TL places: a nurse's number, from 1, and the pattern that she gave up, or none where the step placed her.
@@ -98,9 +98,10 @@ impl Record {
         next
     }
 
-    // Whether every field that m nurses and the removals held leave unused is 0.
+    // Whether every field that m nurses and the removals held leave unused is 0. That its arrays have their lengths is told with it.
     pub fn unused_zero(self, m: usize, tl: usize) -> bool
-        ensures { λ r. ⌜ r ≡ unusedZero m tl self ⌝ }
+        ensures zero { λ r. ⌜ r ≡ unusedZero m tl self ⌝ }
+        ensures sized { λ r. ⌜ Sized self ⌝ }
     {
         let held = removals::lesser(self.steps as usize, tl);
         let placed = self.placed;

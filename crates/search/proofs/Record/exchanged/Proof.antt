@@ -3,10 +3,6 @@ use Rattle.search.proofs.ViewLaws.{exchanged-is}
 use borrow.Author.Needs.{needs}
 use Rattle.search.proofs.Record.exchanged.Statement.{statement}
 use Rattle.search.proofs.Record.exchanged.Tie as tie
-use Rattle.search.proofs.Record.exchanged.Reads as reads
-use Rattle.search.proofs.Record.exchanged.Lts as lts
-use Rattle.search.proofs.Record.removal_by.Reads as removal-by-reads
-use Rattle.search.proofs.removals.push.Reads as push-reads
 
 removal-by-requires : tie.Need-removal-by-requires
 removal-by-requires c κs = search needs

@@ -9,10 +9,6 @@ use Rattle.search.proofs.ViewLaws.{may-not, may-else}
 use borrow.Author.Needs.{needs}
 use Rattle.search.proofs.Record.may_take.Statement.{statement}
 use Rattle.search.proofs.Record.may_take.Tie as tie
-use Rattle.search.proofs.Record.may_take.Reads as reads
-use Rattle.search.proofs.Record.may_take.Lts as lts
-use Rattle.search.proofs.removals.barred.Reads as barred-reads
-use Rattle.search.proofs.removals.lesser.Reads as lesser-reads
 
 element-copy-out-if1 : tie.Need-element-copy-out-if1
 element-copy-out-if1 c = search needs
@@ -42,7 +38,7 @@ barred-requires : tie.Need-barred-requires
 barred-requires c κs = search needs
 
 returns-2 : tie.Need-returns-2
-returns-2 c = 
+returns-2 c =
     let a = c .before .before .before .before .before .args in
     let u : holds (slotAt (a .t1) (a .nurse)) (a .pattern) ≡ false = ⊎-elim (λ t. rw (t .0 .taken, ne-eqb _ _ (t .2 .left))) (λ t. rw (t .left)) (c .before .before .before .if1 .came) in
     λ m l. may-else m (a .tl) (a .t1) (a .nurse) (a .pattern) l u (c .before .before .lesser .ensures) (c .barred .ensures)

@@ -3,8 +3,6 @@ use Rattle.search.proofs.RemovalLaws.{removal-placed, removal-unplaced}
 use borrow.Author.Needs.{needs}
 use Rattle.search.proofs.Record.removal_by.Statement.{statement}
 use Rattle.search.proofs.Record.removal_by.Tie as tie
-use Rattle.search.proofs.Record.removal_by.Reads as reads
-use Rattle.search.proofs.Record.removal_by.Lts as lts
 
 element-copy-out-if1 : tie.Need-element-copy-out-if1
 element-copy-out-if1 c = search needs

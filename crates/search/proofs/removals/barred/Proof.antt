@@ -1,5 +1,5 @@
 -- `barred` meets its contract: none of the first k bars the pattern.
-use Prim.Native.Nat.{_≤_, _<_, _-_}
+use Prim.Native.Nat.{_≤_, _-_}
 use mathlib.Core.Path.{_≡_, refl, sym}
 use mathlib.Core.Bool.{false}
 use mathlib.Core.List.{map}
@@ -11,9 +11,6 @@ use Rattle.search.proofs.RemovalLaws.{barred-turn, barred-found}
 use borrow.Author.Needs.{needs}
 use Rattle.search.proofs.removals.barred.Statement.{statement}
 use Rattle.search.proofs.removals.barred.Tie as tie
-use Rattle.search.proofs.removals.barred.Reads as reads
-use Rattle.search.proofs.removals.barred.Lts as lts
-use Rattle.search.proofs.removals.bars.Reads as bars-reads
 
 abbrev Inv-loop : tie.InvT-loop
 Inv-loop held nurse pattern list k₀ k = (k ≤ held) × (barred (map removalOf (take k list)) nurse pattern ≡ false)
@@ -34,7 +31,7 @@ bars-requires : tie.Need-bars-requires Inv-loop μ-loop
 bars-requires c κs = search needs
 
 returns : tie.Need-returns Inv-loop μ-loop
-returns c = 
+returns c =
     let long : length (c .before .before .before .before .before .args .t1) ≡ 64 = search needs in
     barred-found (c .before .before .before .before .before .args .nurse) (c .before .before .before .before .before .args .pattern) (c .before .before .before .before .before .args .t1) (c .before .before .before .before .loop .k) (c .before .before .before .before .before .args .held) _ (c .before .before .before .loop-test .taken) (omega arith) (c .before .bars .ensures) (c .if1 .taken)
 
@@ -45,12 +42,12 @@ loop-less : tie.Need-loop-less Inv-loop μ-loop
 loop-less c = search needs
 
 loop-again : tie.Need-loop-again Inv-loop μ-loop
-loop-again c = 
+loop-again c =
     let long : length (c .before .before .before .before .before .args .t1) ≡ 64 = search needs in
     (omega arith, barred-turn (c .before .before .before .before .before .args .nurse) (c .before .before .before .before .before .args .pattern) (c .before .before .before .before .before .args .t1) (c .before .before .before .before .loop .k) _ (omega arith) (c .before .before .before .before .loop .inv .1) (c .before .bars .ensures) (c .if1 .left))
 
 returns-2 : tie.Need-returns-2 Inv-loop μ-loop
-returns-2 c = 
+returns-2 c =
     let e : c .before .loop .k ≡ c .before .before .args .held = omega arith in
     rw (← e) (sym (c .before .loop .inv .1))
 

@@ -1,9 +1,7 @@
 -- `bars` meets its contract, by the cases of its tests.
-use borrow.Author.Tests.{eq-eqb, ne-eqb, lt-ltb, le-ltb}
+use borrow.Author.Tests.{eq-eqb, ne-eqb}
 use Rattle.search.proofs.removals.bars.Statement.{statement}
 use Rattle.search.proofs.removals.bars.Tie as tie
-use Rattle.search.proofs.removals.bars.Reads as reads
-use Rattle.search.proofs.removals.bars.Lts as lts
 
 returns : tie.Need-returns
 returns c = rw (eq-eqb _ _ (c .before .before .if1 .taken), c .before .if2 .taken)

@@ -3,10 +3,6 @@ use Rattle.search.proofs.ViewLaws.{push-none, push-one}
 use borrow.Author.Needs.{needs}
 use Rattle.search.proofs.removals.push.Statement.{statement}
 use Rattle.search.proofs.removals.push.Tie as tie
-use Rattle.search.proofs.removals.push.Reads as reads
-use Rattle.search.proofs.removals.push.Lts as lts
-use Rattle.search.proofs.removals.lesser.Reads as lesser-reads
-use Rattle.search.proofs.removals.put_in_front.Reads as put-in-front-reads
 
 returns : tie.Need-returns
 returns c = push-none (c .before .args .tl) (c .before .args .steps) (c .before .args .x) (c .before .args .list) (c .if1 .taken)

@@ -2,13 +2,10 @@
 use Prim.Native.Nat.{_≤_}
 use mathlib.Core.Path.{_≡_}
 use native.Mathlib.Omega.{arith}
-use lib.ListN.{length}
 use Rattle.search.proofs.RemovalLaws.{shifted, shifted-start, shifted-turn, shifted-end}
 use borrow.Author.Needs.{needs}
 use Rattle.search.proofs.removals.put_in_front.Statement.{statement}
 use Rattle.search.proofs.removals.put_in_front.Tie as tie
-use Rattle.search.proofs.removals.put_in_front.Reads as reads
-use Rattle.search.proofs.removals.put_in_front.Lts as lts
 
 abbrev Inv-loop : tie.InvT-loop
 Inv-loop k x moved₀ i₀ moved i = (i ≤ k) × (moved ≡ shifted moved₀ k i)
@@ -50,7 +47,7 @@ array-set-from-moved-2 : tie.Need-array-set-from-moved-2 Inv-loop μ-loop
 array-set-from-moved-2 c = search needs
 
 returns : tie.Need-returns Inv-loop μ-loop
-returns c = 
+returns c =
     shifted-end (c .before .before .args .list) (c .before .before .args .k) (c .before .loop .moved) (c .before .loop .i) (c .before .before .args .x) (omega arith) (search needs) (c .before .loop .inv .1)
 
 pub put-in-front-spec : {M : Type 1} → statement M

@@ -1,10 +1,8 @@
 -- `removal_zero` meets its contract, by the cases of its tests.
-use borrow.Author.Tests.{eq-eqb, ne-eqb, lt-ltb, le-ltb}
+use borrow.Author.Tests.{eq-eqb, ne-eqb}
 use borrow.Author.Needs.{needs}
 use Rattle.search.proofs.unused.removal_zero.Statement.{statement}
 use Rattle.search.proofs.unused.removal_zero.Tie as tie
-use Rattle.search.proofs.unused.removal_zero.Reads as reads
-use Rattle.search.proofs.unused.removal_zero.Lts as lts
 
 returns : tie.Need-returns
 returns c = search needs

@@ -1,6 +1,6 @@
 -- `removals_zero` meets its contract: the unused fields of the first k removals are 0.
 use Prim.Native.Nat.{_≤_, _-_}
-use mathlib.Core.Path.{_≡_, refl, sym, _∙_}
+use mathlib.Core.Path.{_≡_, sym, _∙_}
 use mathlib.Core.Bool.{true}
 use borrow.Author.Tests.{not-true, not-false}
 use native.Mathlib.Omega.{arith}
@@ -10,9 +10,6 @@ use Rattle.search.specs.Stored.{removalZero}
 use borrow.Author.Needs.{needs}
 use Rattle.search.proofs.unused.removals_zero.Statement.{statement}
 use Rattle.search.proofs.unused.removals_zero.Tie as tie
-use Rattle.search.proofs.unused.removals_zero.Reads as reads
-use Rattle.search.proofs.unused.removals_zero.Lts as lts
-use Rattle.search.proofs.unused.removal_zero.Reads as removal-zero-reads
 
 abbrev Inv-loop : tie.InvT-loop
 Inv-loop held list k₀ k = (k ≤ 64) × (all (removalZero held list) (upFrom 0 k) ≡ true)
@@ -45,7 +42,7 @@ loop-again : tie.Need-loop-again Inv-loop μ-loop
 loop-again c = (search needs, all-turn (removalZero (c .before .before .before .before .before .args .held) (c .before .before .before .before .before .args .t1)) (c .before .before .before .before .loop .k) (c .before .before .before .before .loop .inv .1) (sym (c .before .removal-zero .ensures) ∙ not-false _ (c .if1 .left)))
 
 returns-2 : tie.Need-returns-2 Inv-loop μ-loop
-returns-2 c = 
+returns-2 c =
     let e : c .before .loop .k ≡ 64 = omega arith in
     rw (← e) (sym (c .before .loop .inv .1))
 

@@ -2,8 +2,6 @@
 use borrow.Author.Needs.{needs}
 use Rattle.search.proofs.unused.slot_zero.Statement.{statement}
 use Rattle.search.proofs.unused.slot_zero.Tie as tie
-use Rattle.search.proofs.unused.slot_zero.Reads as reads
-use Rattle.search.proofs.unused.slot_zero.Lts as lts
 
 returns : tie.Need-returns
 returns c = search needs

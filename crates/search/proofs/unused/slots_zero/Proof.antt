@@ -1,6 +1,6 @@
 -- `slots_zero` meets its contract: the unused fields of the first i nurses are 0.
 use Prim.Native.Nat.{_≤_, _-_}
-use mathlib.Core.Path.{_≡_, refl, sym, _∙_}
+use mathlib.Core.Path.{_≡_, sym, _∙_}
 use mathlib.Core.Bool.{true}
 use borrow.Author.Tests.{not-true, not-false}
 use native.Mathlib.Omega.{arith}
@@ -10,9 +10,6 @@ use Rattle.search.specs.Stored.{slotZero}
 use borrow.Author.Needs.{needs}
 use Rattle.search.proofs.unused.slots_zero.Statement.{statement}
 use Rattle.search.proofs.unused.slots_zero.Tie as tie
-use Rattle.search.proofs.unused.slots_zero.Reads as reads
-use Rattle.search.proofs.unused.slots_zero.Lts as lts
-use Rattle.search.proofs.unused.slot_zero.Reads as slot-zero-reads
 
 abbrev Inv-loop : tie.InvT-loop
 Inv-loop m placed patterns i₀ i = (i ≤ 48) × (all (slotZero m placed patterns) (upFrom 0 i) ≡ true)
@@ -48,7 +45,7 @@ loop-again : tie.Need-loop-again Inv-loop μ-loop
 loop-again c = (search needs, all-turn (slotZero (c .before .before .before .before .args .m) (c .before .before .before .before .args .t1) (c .before .before .before .before .args .t2)) (c .before .before .before .loop .i) (c .before .before .before .loop .inv .1) (sym (c .before .slot-zero .ensures) ∙ not-false _ (c .if1 .left)))
 
 returns-2 : tie.Need-returns-2 Inv-loop μ-loop
-returns-2 c = 
+returns-2 c =
     let e : c .before .loop .i ≡ 48 = omega arith in
     rw (← e) (sym (c .before .loop .inv .1))
 
