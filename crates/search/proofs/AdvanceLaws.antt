@@ -21,7 +21,7 @@ use Rattle.search.specs.Stored.{store, view, viewOf, allZero, unusedZero
 use Rattle.search.specs.Walk.{exchangedIn, steppedOf}
 use Rattle.search.specs.declared.Record.{Record as Stored}
 use Rattle.search.specs.declared.Stepped.{Stepped}
-use Rattle.search.proofs.TestsLaws.{and-true}
+use Rattle.search.proofs.TestLaws.{and-true}
 use Rattle.search.proofs.ChooseLaws.{least-first, offers-only, range-only}
 use Rattle.search.proofs.RunLaws.{run-zero, run-asked, run-stuck, run-on}
 use Rattle.search.proofs.FollowLaws.{Grown, among-member, fresh-record, removals-held, none-past, lacking-none, sound-record, advance-refused, advance-goes, proceed-extend}

@@ -14,7 +14,7 @@ use Rattle.search.specs.Phase.{Step, Phase, holds, exchanges, least}
 use Rattle.numbers.specs.Range.{upFrom}
 use Rattle.search.specs.History.{History, inUse, givenUp, penalty, allowed, next}
 use Rattle.search.specs.Claim.{Allowed, Least}
-use Rattle.search.proofs.TestsLaws.{and-true, or-true, false-of, false-of-not, not-of-false, not-both, holds-true, holds-some, or-left, or-right, both-true}
+use Rattle.search.proofs.TestLaws.{and-true, or-true, false-of, false-of-not, not-of-false, not-both, holds-true, holds-some, or-left, or-right, both-true}
 use Rattle.search.proofs.ChooseLaws.{least-none, least-first, offers-only, offers-all, range-only, range-all}
 
 module _ (i p : ℕ) where

@@ -22,6 +22,18 @@ use Rattle.search.specs.declared.best.Best.{Best}
 use Rattle.search.specs.declared.best.Best.the-variants.{Nothing, Exchange}
 use Rattle.search.proofs.ChooseLaws.{First, least-none, least-first, step-path, offersTo-only, offers-only, range-only}
 
+-- ---- one exchange more
+
+module _ (may : ℕ → Bool) (c i : ℕ) (b : Best) (p : ℕ) where
+  pub considered-barred : {u : Bool} → u ≡ may p → u ≡ false → b ≡ considered may (λ q. c) i b p
+  considered-barred e f = rw (sym e ∙ f)
+
+  pub considered-worse : {u t : Bool} → u ≡ may p → u ≡ true → t ≡ improves b c → t ≡ false → b ≡ considered may (λ q. c) i b p
+  considered-worse e f g h = rw (sym e ∙ f, sym g ∙ h)
+
+  pub considered-better : {u t : Bool} → u ≡ may p → u ≡ true → t ≡ improves b c → t ≡ true → Exchange i p c ≡ considered may (λ q. c) i b p
+  considered-better e f g h = rw (sym e ∙ f, sym g ∙ h)
+
 -- ---- the loop over a list
 
 module _ (may : ℕ → Bool) (cost : ℕ → ℕ) (i : ℕ) where
@@ -53,6 +65,9 @@ module _ (may : ℕ → Bool) (cost : ℕ → ℕ) (i : ℕ) where
     same : (t : Bool) (x : Best) → cond t x x ≡ x
     same true x = refl
     same false x = refl
+
+    pub turn-considered : {c : ℕ} {b′ : Best} → c ≡ cost (getD ps k 0) → b′ ≡ considered may (λ q. c) i b (getD ps k 0) → b′ ≡ overList may cost i b₀ (take (k + 1) ps)
+    turn-considered q s = turn _ (ap (λ (x : ℕ). cond (may here) (cond (improves b x) (Exchange i here x) b) b) (sym q) ∙ sym s)
 
     pub turn-worse : {c : ℕ} {t : Bool} → c ≡ cost (getD ps k 0) → t ≡ improves b c → t ≡ false → b ≡ overList may cost i b₀ (take (k + 1) ps)
     turn-worse q s f =

@@ -11,7 +11,7 @@ use borrow.Author.Tests.{ltb-true, ltb-false, eqb-true, eqb-false, eq-eqb}
 use Rattle.search.specs.Phase.{Step, before, lesser, least, offersTo, offers}
 use Rattle.numbers.specs.Range.{upFrom}
 use Rattle.search.specs.Claim.{NotAfter}
-use Rattle.search.proofs.TestsLaws.{and-true, or-true, or-false, cases, and-false-right, not-both}
+use Rattle.search.proofs.TestLaws.{and-true, or-true, or-false, cases, and-false-right, not-both}
 
 pub step-path : (s t : Step) → s .nurse ≡ t .nurse → s .pattern ≡ t .pattern → s ≡ t
 step-path s t p q = λ i. record { nurse = p i; pattern = q i }

@@ -15,7 +15,7 @@ use Rattle.search.specs.Phase.{Step, Phase, Call, No, Answer, refused, h
 use Rattle.search.specs.History.{History, inUse, givenUp, penalty, allowed, next, extend, reply, advance, history}
 use Rattle.search.specs.Record.{Record, removals, recordOf, fresh, barred, mayTake, total, best, stepped, proceed, among, hers, allName, lacking, sound, refusalOf, replyOf, advanceRecord}
 use Rattle.search.specs.Claim.{Least, Lawful}
-use Rattle.search.proofs.TestsLaws.{or-left, or-right}
+use Rattle.search.proofs.TestLaws.{or-left, or-right}
 use Rattle.search.proofs.ChooseLaws.{range-only}
 use Rattle.search.proofs.AllowedLaws.{next-some}
 use Rattle.search.proofs.RunLaws.{alike, by-turns}

@@ -1,4 +1,4 @@
-pub mod TestsLaws
+pub mod TestLaws
 pub mod ChooseLaws
 pub mod AllowedLaws
 pub mod RunLaws

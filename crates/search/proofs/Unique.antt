@@ -12,7 +12,7 @@ use borrow.Author.Tests.{eqb-true, eqb-false}
 use Rattle.search.specs.Phase.{Step, Phase, Call, Answer, ended, End, End·zero, End·asked, End·none, given, inTurn}
 use Rattle.search.specs.History.{History, inUse, penalty, next, extend, reply, advance, answers, history}
 use Rattle.search.specs.Claim.{Allowed, Least, Steps, Made, Went, refuses, goes, Turns, done, turn}
-use Rattle.search.proofs.TestsLaws.{cases}
+use Rattle.search.proofs.TestLaws.{cases}
 use Rattle.search.proofs.AllowedLaws.{next-none, next-some}
 use Rattle.search.proofs.RunLaws.{run-zero, run-asked, run-none, run-step}
 use Rattle.search.proofs.FollowLaws.{advance-refused, advance-goes}
