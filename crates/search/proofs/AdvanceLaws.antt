@@ -10,22 +10,25 @@ use native.Mathlib.Omega.{arith}
 use lib.Dec.{leb, eqb}
 use lib.ListN.{length}
 use borrow.Author.Tests.{eq-eqb, ne-eqb, eqb-true}
-use Rattle.numbers.specs.Range.{upFrom}
+use Rattle.numbers.specs.Range.{Ascending, upFrom}
 use Rattle.numbers.proofs.AllLaws.{all-each}
 use Rattle.penalty.specs.Penalty.{Slot}
-use Rattle.search.specs.Phase.{Step, Phase, Call, No, Answer, refused, ended, End, End·zero, End·asked, End·none, exchanges, run, refusal, given, first}
+use Rattle.search.specs.Phase.{Step, Phase, Call, No, Answer, refused, ended, End, End·zero, End·asked, End·none, exchanges, run, refusal, given}
 use Rattle.search.specs.History.{History, penalty, extend, reply, advance}
 use Rattle.search.specs.Record.{Record, recordOf, mayTake, costAfter, total, best, stepped, proceed, among, hers, allName, lacking, sound, replyOf}
 use Rattle.search.specs.Claim.{Lawful, Demand3}
 use Rattle.search.specs.Stored.{store, view, viewOf, allZero, unusedZero, soundStored, refusalStored, replyStored, advanceStored, Sized, Fits}
-use Rattle.search.specs.Walk.{exchangedIn, steppedOf}
+use Rattle.search.specs.Walk.{exchangedIn, bestOver, found, steppedOf}
 use Rattle.search.specs.declared.Record.{Record as Stored}
 use Rattle.search.specs.declared.Stepped.{Stepped}
+use Rattle.search.specs.declared.best.Best.{Best}
+use Rattle.search.specs.declared.best.Best.the-variants.{Nothing, Exchange}
 use Rattle.search.proofs.TestLaws.{and-true}
 use Rattle.search.proofs.ChooseLaws.{least-first, offers-only, range-only}
 use Rattle.search.proofs.RunLaws.{run-zero, run-asked, run-stuck, run-on}
-use Rattle.search.proofs.FollowLaws.{Grown, among-member, fresh-record, removals-held, none-past, lacking-none, sound-record, advance-refused, advance-goes, proceed-extend}
+use Rattle.search.proofs.FollowLaws.{Grown, first-none, among-member, fresh-record, removals-held, none-past, lacking-none, sound-record, advance-refused, advance-goes, proceed-extend}
 use Rattle.search.proofs.DemandLaws.{demand3-of}
+use Rattle.search.proofs.BestLaws.{found-best}
 use Rattle.search.proofs.StoredLaws.{Held, Whole, view-store, store-fresh, unused-store, view-exchanged, exchanged-whole, store-view}
 
 -- ---- an exchange to take names a nurse of the phase
@@ -157,6 +160,20 @@ pub step-some : (P : Phase) (r : Stored) (s : Step) {r′ : Stored} → best P (
 unfolding steppedOf
 step-some P r s e q = sym (rw (e, q, steppedOf))
 
+-- by the best exchange that loops over the nurses found
+module _ (P : Phase) (r : Stored) (up : (i : ℕ) → i < P .nurses → Ascending (P .patterns i)) {b : Best} (e : b ≡ bestOver P (viewOf P r) (P .nurses)) where
+  best-found : best P (viewOf P r) ≡ found b
+  best-found = sym (ap found e ∙ found-best P (viewOf P r) up)
+
+  pub takes-none : b ≡ Nothing → record { moved = false; after = r } ≡ steppedOf P r
+  takes-none q = step-none P r (best-found ∙ ap found q)
+
+  pub takes-some : {i p c : ℕ} {r′ : Stored} → b ≡ Exchange i p c → r′ ≡ exchangedIn (P .tabu) r i p → record { moved = true; after = r′ } ≡ steppedOf P r
+  takes-some {i} {p} q f = step-some P r (record { nurse = i; pattern = p }) (best-found ∙ ap found q) f
+
+  pub takes-nurse : {i p c : ℕ} → b ≡ Exchange i p c → i < P .nurses
+  takes-nurse {i} {p} q = best-nurse P (viewOf P r) (record { nurse = i; pattern = p }) (best-found ∙ ap found q)
+
 -- what a step says
 pub step-stays : (P : Phase) (r : Stored) {x : Stepped} → x ≡ steppedOf P r → x .moved ≡ false → best P (viewOf P r) ≡ none
 step-stays P r {x} e f = go (best P (viewOf P r)) refl
@@ -219,10 +236,6 @@ module _ (P : Phase) (c : Call) (r : Stored) where
     asks-none g h = rw (e, f, g, h)
 
 -- ---- demand 3 of advances over stored records
-
-first-none : (o : Option No) → first o none ≡ o
-first-none none = refl
-first-none (some n) = refl
 
 stored-steps : (P : Phase) (h : History) → (store (recordOf P h)) .steps ≡ length h
 unfolding store recordOf

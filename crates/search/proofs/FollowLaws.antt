@@ -152,7 +152,7 @@ module _ (P : Phase) (c : Call) where
   unfolding advanceRecord
   advanceRecord-goes r e = rw (e, advanceRecord)
 
-first-none : (o : Option No) → first o none ≡ o
+pub first-none : (o : Option No) → first o none ≡ o
 first-none none = refl
 first-none (some n) = refl
 

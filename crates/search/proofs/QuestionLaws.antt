@@ -1,7 +1,7 @@
 -- Question 11 of a stored record, as loops over its nurses and its removals ask it.
 use Prim.Native.Nat.{ℕ, zero, suc, _+_, _≤_, min}
 use mathlib.Core.Path.{_≡_, refl, sym, ap, ap₂, _∙_}
-use mathlib.Core.Bool.{Bool, true, false, _&&_}
+use mathlib.Core.Bool.{Bool, _&&_}
 use mathlib.Core.List.{List, [], _∷_, _++_, map}
 use mathlib.Core.Option.{none}
 use native.Mathlib.Omega.{arith}
@@ -16,15 +16,8 @@ use Rattle.search.specs.Record.{hers, names, allName, sound}
 use Rattle.search.specs.Stored.{slot, slotAt, removalOf, held, noRemoval, view, viewOf, unusedZero, soundStored, Sized, Fits}
 use Rattle.search.specs.declared.Record.{Record as Stored}
 use Rattle.search.specs.declared.Removal.{Removal as StoredRemoval}
+use Rattle.search.proofs.TestLaws.{and-assoc, and-with-true}
 use Rattle.search.proofs.StoredLaws.{view-held}
-
-and-assoc : (a b c : Bool) → ((a && b) && c) ≡ (a && (b && c))
-and-assoc true b c = refl
-and-assoc false b c = refl
-
-and-true : (a : Bool) → (a && true) ≡ a
-and-true true = refl
-and-true false = refl
 
 -- whether a stored removal names a nurse, with one of hers or with none
 abbrev pub namesAt : Phase → List StoredRemoval → ℕ → Bool
@@ -42,7 +35,7 @@ module _ (P : Phase) where
   name-all rs (suc n) l =
       ap (λ (x : List StoredRemoval). allName P (map removalOf x)) (take-suc rs n noRemoval l)
       ∙ name-append (take n rs) (getD rs n noRemoval ∷ [])
-      ∙ ap₂ (λ (a b : Bool). a && b) (name-all rs n (omega arith)) (and-true (namesAt P rs n))
+      ∙ ap₂ (λ (a b : Bool). a && b) (name-all rs n (omega arith)) (and-with-true (namesAt P rs n))
       ∙ sym (all-more (namesAt P rs) n) ∙ ap (λ (k : ℕ). all (namesAt P rs) (upFrom 0 k)) (add-one n)
 
   slots-all : (r : Stored) → all (λ i. hers P i ((viewOf P r) .slots i)) (upFrom 0 (P .nurses)) ≡ all (λ i. hers P i (slotAt r i)) (upFrom 0 (P .nurses))
@@ -56,5 +49,5 @@ module _ (P : Phase) where
   unfolding soundStored sound view
   question-eleven r s f =
       let n : length (map removalOf (take (held (P .tabu) r) (r .removals))) ≡ min (r .steps) (P .tabu) = view-held (P .nurses) (P .tabu) r s (f .tabu-most) .count in
-      rw (slots-all r, name-all (r .removals) (held (P .tabu) r) (omega (arith, s .removals-long, f .tabu-most)), eq-eqb _ _ n, and-true)
+      rw (slots-all r, name-all (r .removals) (held (P .tabu) r) (omega (arith, s .removals-long, f .tabu-most)), eq-eqb _ _ n, and-with-true)
       (and-assoc (all (λ i. hers P i (slotAt r i)) (upFrom 0 (P .nurses))) (all (namesAt P (r .removals)) (upFrom 0 (held (P .tabu) r))) (unusedZero (P .nurses) (P .tabu) r))

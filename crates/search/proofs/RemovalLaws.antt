@@ -13,6 +13,7 @@ use Rattle.search.specs.Phase.{holds}
 use Rattle.search.specs.Record.{barred}
 use Rattle.search.specs.Stored.{slot, removalOf}
 use Rattle.search.specs.Walk.{inFront, removalBy}
+use Rattle.search.proofs.TestLaws.{or-assoc, or-with-true}
 use Rattle.search.specs.declared.Record.{Record as Stored}
 use Rattle.search.specs.declared.Removal.{Removal as StoredRemoval}
 
@@ -25,14 +26,6 @@ pub removal-unplaced : (r : Stored) (i : ℕ) → getD (r .placed) i false ≡ f
 removal-unplaced r i e = rw (e, add-one i)
 
 -- ---- what is barred
-
-or-assoc : (a b c : Bool) → (a || (b || c)) ≡ ((a || b) || c)
-or-assoc true b c = refl
-or-assoc false b c = refl
-
-or-true : (a : Bool) → (a || true) ≡ true
-or-true true = refl
-or-true false = refl
 
 -- whether a stored removal bars p for the nurse of this number
 abbrev bars : ℕ → ℕ → StoredRemoval → Bool
@@ -66,7 +59,7 @@ module _ (number p : ℕ) where
       sym (
       ap (λ (y : List StoredRemoval). barred (map removalOf y) number p) e ∙ barred-append (take k l) (getD l k d ∷ rest)
       ∙ ap (λ (b : Bool). barred (map removalOf (take k l)) number p || (b || barred (map removalOf rest) number p)) (sym q ∙ f)
-      ∙ or-true (barred (map removalOf (take k l)) number p))
+      ∙ or-with-true (barred (map removalOf (take k l)) number p))
 
 -- ---- one more in front
 

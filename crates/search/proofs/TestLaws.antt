@@ -1,5 +1,5 @@
 -- Laws of Boolean tests, read as equations.
-use mathlib.Core.Path.{_≡_, refl}
+use mathlib.Core.Path.{_≡_, refl, sym, _∙_}
 use mathlib.Core.Bool.{Bool, true, false, not, _&&_, _||_, true≢false, false≢true}
 use mathlib.Core.Logic.{_⊎_, inl, inr}
 use mathlib.Core.Option.{none, some}
@@ -21,10 +21,7 @@ or-false true b e = absurd (true≢false e)
 or-false false b e = (refl, e)
 
 pub not-both : {b : Bool} → b ≡ true → b ≡ false → ⊥
-not-both p q = let z : _≡_ {A = ℕ} 0 1 = cc in omega-false z
-  where
-    omega-false : _≡_ {A = ℕ} 0 1 → ⊥
-    omega-false z = absurd (true≢false (cc))
+not-both p q = true≢false (sym p ∙ q)
 
 -- a test by its two values
 pub cases : (b : Bool) → (b ≡ true) ⊎ (b ≡ false)
@@ -62,3 +59,19 @@ or-right false b e = e
 
 pub both-true : (a b : Bool) → a ≡ true → b ≡ true → (a && b) ≡ true
 both-true a b p q = rw (p, q)
+
+pub and-assoc : (a b c : Bool) → ((a && b) && c) ≡ (a && (b && c))
+and-assoc true b c = refl
+and-assoc false b c = refl
+
+pub or-assoc : (a b c : Bool) → (a || (b || c)) ≡ ((a || b) || c)
+or-assoc true b c = refl
+or-assoc false b c = refl
+
+pub and-with-true : (a : Bool) → (a && true) ≡ a
+and-with-true true = refl
+and-with-true false = refl
+
+pub or-with-true : (a : Bool) → (a || true) ≡ true
+or-with-true true = refl
+or-with-true false = refl

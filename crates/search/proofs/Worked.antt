@@ -5,12 +5,15 @@ use mathlib.Core.Logic.{_≢_}
 use mathlib.Core.List.{List, [], _∷_, cons≢nil}
 use native.Mathlib.Omega.{arith}
 use lib.Dec.{leb}
+use lib.ListN.{take}
 use Rattle.numbers.specs.Range.{upFrom, all}
 use Rattle.numbers.specs.Sum.{sumTo, countTo}
 use Rattle.penalty.specs.Penalty.{Slot, isNone, unplacedCost}
 use Rattle.search.specs.Phase.{Step, Phase, Call, refused, ended, End·zero, End·asked, holds, unless, run, refusal, given, inTurn}
 use Rattle.search.specs.History.{penalty, allowed, next, extend, reply, advance}
 use Rattle.search.specs.Record.{recordOf, fresh, mayTake, total, best, stepped, proceed, sound, refusalOf, replyOf, advanceRecord}
+use mathlib.Core.Bool.{true, false}
+use Rattle.search.specs.Stored.{store, noRemoval}
 use Rattle.search.specs.Claim.{Lawful}
 
 -- how many start on day 1, and how many on day 2
@@ -74,3 +77,15 @@ some-advances = refl
 by-record : (inTurn (advanceRecord worked) (call 1 4 ∷ call 10001 4 ∷ call 10000 4 ∷ []) fresh) .1 ≡ recordOf worked (did 1 0 ∷ did 0 1 ∷ [])
 unfolding advanceRecord replyOf proceed run refusalOf refusal given best total mayTake stepped sound recordOf upFrom all sumTo
 by-record = refl
+
+-- what is stored of it: the last one first, a nurse by her number, and 0 in the places not in use
+stored-placings : take 3 ((store (recordOf worked (did 1 0 ∷ did 0 1 ∷ []))) .removals)
+    ≡ record { nurse = 2; has = false; pattern = 0 } ∷ record { nurse = 1; has = false; pattern = 0 } ∷ noRemoval ∷ []
+unfolding store recordOf
+stored-placings = refl
+
+-- with TL 2, a third step that gives up pattern 1 drops the first placing
+stored-given-up : take 3 ((store (recordOf worked (did 0 2 ∷ did 1 0 ∷ did 0 1 ∷ []))) .removals)
+    ≡ record { nurse = 1; has = true; pattern = 1 } ∷ record { nurse = 2; has = false; pattern = 0 } ∷ noRemoval ∷ []
+unfolding store recordOf
+stored-given-up = refl
