@@ -1,0 +1,6 @@
+pub mod Phase
+pub mod History
+pub mod Record
+pub mod Claim
+pub mod Stored
+pub mod Walk
