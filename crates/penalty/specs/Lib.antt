@@ -1,1 +1,4 @@
 pub mod Penalty
+pub mod Columns
+pub mod Costs
+pub mod Walk

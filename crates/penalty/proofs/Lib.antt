@@ -1,0 +1,4 @@
+pub mod FieldLaws
+pub mod DutyLaws
+pub mod ColumnLaws
+pub mod CountLaws

@@ -1,0 +1,65 @@
+use borrow.Author.Needs.{needs}
+use Rattle.penalty.proofs.costs.night_day.Statement.{statement}
+use Rattle.penalty.proofs.costs.night_day.Tie as tie
+use Rattle.penalty.proofs.costs.night_day.Reads as reads
+use Rattle.penalty.proofs.costs.night_day.Lts as lts
+use Rattle.penalty.proofs.duty.pair_on.Reads as pair-on-reads
+use Rattle.penalty.proofs.fields.low_weights.Reads as low-weights-reads
+use Rattle.penalty.proofs.fields.masks.Reads as masks-reads
+use Rattle.penalty.proofs.fields.needs.Reads as needs-reads
+use Rattle.penalty.proofs.fields.weights.Reads as weights-reads
+
+-- src/costs.rt:34:9
+masks-requires : tie.Need-masks-requires
+masks-requires c κs = search needs
+
+-- src/costs.rt:35:9
+needs-requires : tie.Need-needs-requires
+needs-requires c κs = search needs
+
+-- src/costs.rt:36:27
+weights-requires : tie.Need-weights-requires
+weights-requires c κs = search needs
+
+-- src/costs.rt:36:9
+pair-on-requires : tie.Need-pair-on-requires
+pair-on-requires c κs = ?
+
+-- src/costs.rt:37:27
+low-weights-requires : tie.Need-low-weights-requires
+low-weights-requires c κs = search needs
+
+-- src/costs.rt:37:9
+pair-on-requires-2 : tie.Need-pair-on-requires-2
+pair-on-requires-2 c κs = ?
+
+-- src/costs.rt:39:16
+add-t11 : tie.Need-add-t11
+add-t11 c = search needs
+
+-- src/costs.rt:40:15
+add-t12 : tie.Need-add-t12
+add-t12 c = search needs
+
+-- src/costs.rt:41:15
+add-t13 : tie.Need-add-t13
+add-t13 c = search needs
+
+-- src/costs.rt:30:1
+returns : tie.Need-returns
+returns c = ?
+
+pub night-day-spec : {M : Type 1} → statement M
+night-day-spec =
+    tie.close
+    (tie.spec
+    masks-requires
+    needs-requires
+    weights-requires
+    pair-on-requires
+    low-weights-requires
+    pair-on-requires-2
+    add-t11
+    add-t12
+    add-t13
+    returns)

@@ -1,0 +1,94 @@
+use Rattle.penalty.proofs.costs.nurse_costs_day.Statement.{statement}
+use Rattle.penalty.proofs.costs.nurse_costs_day.Tie as tie
+use Rattle.penalty.proofs.costs.nurse_costs_day.Reads as reads
+use Rattle.penalty.proofs.costs.nurse_costs_day.Lts as lts
+use Rattle.penalty.proofs.costs.day_day.Reads as day-day-reads
+use Rattle.penalty.proofs.fields.days.Reads as days-reads
+
+abbrev Inv-loop : tie.InvT-loop
+Inv-loop w i cols c₀ n d₀ c d = ?
+
+abbrev μ-loop : tie.MeasureT-loop
+μ-loop w i cols c₀ n d₀ c d = ?
+
+-- src/costs.rt:92:9
+days-requires : tie.Need-days-requires Inv-loop μ-loop
+days-requires c κs = ?
+
+-- src/costs.rt:93:5
+loop-holds : tie.Need-loop-holds Inv-loop μ-loop
+loop-holds c = ?
+
+-- src/costs.rt:94:34
+mul-day-day : tie.Need-mul-day-day Inv-loop μ-loop
+mul-day-day c = ?
+
+-- src/costs.rt:94:34
+element-copy-out-day-day : tie.Need-element-copy-out-day-day Inv-loop μ-loop
+element-copy-out-day-day c = ?
+
+-- src/costs.rt:94:13
+day-day-requires : tie.Need-day-day-requires Inv-loop μ-loop
+day-day-requires c κs = ?
+
+-- src/costs.rt:95:9
+mul-c : tie.Need-mul-c Inv-loop μ-loop
+mul-c c = ?
+
+-- src/costs.rt:95:9
+element-write-c : tie.Need-element-write-c Inv-loop μ-loop
+element-write-c c = ?
+
+-- src/costs.rt:96:9
+mul-c-2 : tie.Need-mul-c-2 Inv-loop μ-loop
+mul-c-2 c = ?
+
+-- src/costs.rt:96:9
+element-write-c-2 : tie.Need-element-write-c-2 Inv-loop μ-loop
+element-write-c-2 c = ?
+
+-- src/costs.rt:97:9
+mul-c-3 : tie.Need-mul-c-3 Inv-loop μ-loop
+mul-c-3 c = ?
+
+-- src/costs.rt:97:9
+element-write-c-3 : tie.Need-element-write-c-3 Inv-loop μ-loop
+element-write-c-3 c = ?
+
+-- src/costs.rt:93:9
+add-d : tie.Need-add-d Inv-loop μ-loop
+add-d c = ?
+
+-- src/costs.rt:93:5
+loop-less : tie.Need-loop-less Inv-loop μ-loop
+loop-less c = ?
+
+-- src/costs.rt:93:5
+loop-again : tie.Need-loop-again Inv-loop μ-loop
+loop-again c = ?
+
+-- src/costs.rt:82:1
+returns : tie.Need-returns Inv-loop μ-loop
+returns c = ?
+
+pub nurse-costs-day-spec : {M : Type 1} → statement M
+nurse-costs-day-spec =
+    tie.close
+    (tie.spec
+    Inv-loop
+    μ-loop
+    days-requires
+    loop-holds
+    mul-day-day
+    element-copy-out-day-day
+    day-day-requires
+    mul-c
+    element-write-c
+    mul-c-2
+    element-write-c-2
+    mul-c-3
+    element-write-c-3
+    add-d
+    loop-less
+    loop-again
+    returns)

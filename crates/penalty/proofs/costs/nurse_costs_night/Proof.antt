@@ -1,0 +1,104 @@
+use Rattle.penalty.proofs.costs.nurse_costs_night.Statement.{statement}
+use Rattle.penalty.proofs.costs.nurse_costs_night.Tie as tie
+use Rattle.penalty.proofs.costs.nurse_costs_night.Reads as reads
+use Rattle.penalty.proofs.costs.nurse_costs_night.Lts as lts
+use Rattle.penalty.proofs.costs.night_day.Reads as night-day-reads
+use Rattle.penalty.proofs.fields.days.Reads as days-reads
+
+abbrev Inv-loop : tie.InvT-loop
+Inv-loop w i cols c₀ n d₀ c d = ?
+
+abbrev μ-loop : tie.MeasureT-loop
+μ-loop w i cols c₀ n d₀ c d = ?
+
+-- src/costs.rt:71:9
+days-requires : tie.Need-days-requires Inv-loop μ-loop
+days-requires c κs = ?
+
+-- src/costs.rt:72:5
+loop-holds : tie.Need-loop-holds Inv-loop μ-loop
+loop-holds c = ?
+
+-- src/costs.rt:73:36
+mul-night-day : tie.Need-mul-night-day Inv-loop μ-loop
+mul-night-day c = ?
+
+-- src/costs.rt:73:36
+element-copy-out-night-day : tie.Need-element-copy-out-night-day Inv-loop μ-loop
+element-copy-out-night-day c = ?
+
+-- src/costs.rt:73:51
+mul-night-day-2 : tie.Need-mul-night-day-2 Inv-loop μ-loop
+mul-night-day-2 c = ?
+
+-- src/costs.rt:73:51
+element-copy-out-night-day-2 : tie.Need-element-copy-out-night-day-2 Inv-loop μ-loop
+element-copy-out-night-day-2 c = ?
+
+-- src/costs.rt:73:13
+night-day-requires : tie.Need-night-day-requires Inv-loop μ-loop
+night-day-requires c κs = ?
+
+-- src/costs.rt:74:9
+mul-c : tie.Need-mul-c Inv-loop μ-loop
+mul-c c = ?
+
+-- src/costs.rt:74:9
+element-write-c : tie.Need-element-write-c Inv-loop μ-loop
+element-write-c c = ?
+
+-- src/costs.rt:75:9
+mul-c-2 : tie.Need-mul-c-2 Inv-loop μ-loop
+mul-c-2 c = ?
+
+-- src/costs.rt:75:9
+element-write-c-2 : tie.Need-element-write-c-2 Inv-loop μ-loop
+element-write-c-2 c = ?
+
+-- src/costs.rt:76:9
+mul-c-3 : tie.Need-mul-c-3 Inv-loop μ-loop
+mul-c-3 c = ?
+
+-- src/costs.rt:76:9
+element-write-c-3 : tie.Need-element-write-c-3 Inv-loop μ-loop
+element-write-c-3 c = ?
+
+-- src/costs.rt:72:9
+add-d : tie.Need-add-d Inv-loop μ-loop
+add-d c = ?
+
+-- src/costs.rt:72:5
+loop-less : tie.Need-loop-less Inv-loop μ-loop
+loop-less c = ?
+
+-- src/costs.rt:72:5
+loop-again : tie.Need-loop-again Inv-loop μ-loop
+loop-again c = ?
+
+-- src/costs.rt:61:1
+returns : tie.Need-returns Inv-loop μ-loop
+returns c = ?
+
+pub nurse-costs-night-spec : {M : Type 1} → statement M
+nurse-costs-night-spec =
+    tie.close
+    (tie.spec
+    Inv-loop
+    μ-loop
+    days-requires
+    loop-holds
+    mul-night-day
+    element-copy-out-night-day
+    mul-night-day-2
+    element-copy-out-night-day-2
+    night-day-requires
+    mul-c
+    element-write-c
+    mul-c-2
+    element-write-c-2
+    mul-c-3
+    element-write-c-3
+    add-d
+    loop-less
+    loop-again
+    returns)

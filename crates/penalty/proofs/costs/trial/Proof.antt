@@ -1,0 +1,94 @@
+use Rattle.penalty.proofs.costs.trial.Statement.{statement}
+use Rattle.penalty.proofs.costs.trial.Tie as tie
+use Rattle.penalty.proofs.costs.trial.Reads as reads
+use Rattle.penalty.proofs.costs.trial.Lts as lts
+use Rattle.numbers.proofs.has_bit.Reads as has-bit-reads
+use Rattle.penalty.proofs.costs.by_state.Reads as by-state-reads
+
+abbrev Inv-loop : tie.InvT-loop
+Inv-loop n nights free c total₀ d₀ total d = ?
+
+abbrev μ-loop : tie.MeasureT-loop
+μ-loop n nights free c total₀ d₀ total d = ?
+
+-- src/costs.rt:121:5
+loop-holds : tie.Need-loop-holds Inv-loop μ-loop
+loop-holds c = ?
+
+-- src/costs.rt:122:13
+has-bit-requires : tie.Need-has-bit-requires Inv-loop μ-loop
+has-bit-requires c κs = ?
+
+-- src/costs.rt:123:13
+has-bit-requires-2 : tie.Need-has-bit-requires-2 Inv-loop μ-loop
+has-bit-requires-2 c κs = ?
+
+-- src/costs.rt:124:53
+mul-by-state : tie.Need-mul-by-state Inv-loop μ-loop
+mul-by-state c = ?
+
+-- src/costs.rt:124:53
+element-copy-out-by-state : tie.Need-element-copy-out-by-state Inv-loop μ-loop
+element-copy-out-by-state c = ?
+
+-- src/costs.rt:124:65
+mul-by-state-2 : tie.Need-mul-by-state-2 Inv-loop μ-loop
+mul-by-state-2 c = ?
+
+-- src/costs.rt:124:65
+element-copy-out-by-state-2 : tie.Need-element-copy-out-by-state-2 Inv-loop μ-loop
+element-copy-out-by-state-2 c = ?
+
+-- src/costs.rt:124:76
+mul-by-state-3 : tie.Need-mul-by-state-3 Inv-loop μ-loop
+mul-by-state-3 c = ?
+
+-- src/costs.rt:124:76
+element-copy-out-by-state-3 : tie.Need-element-copy-out-by-state-3 Inv-loop μ-loop
+element-copy-out-by-state-3 c = ?
+
+-- src/costs.rt:124:25
+by-state-requires : tie.Need-by-state-requires Inv-loop μ-loop
+by-state-requires c κs = ?
+
+-- src/costs.rt:124:17
+add-total : tie.Need-add-total Inv-loop μ-loop
+add-total c = ?
+
+-- src/costs.rt:121:9
+add-d : tie.Need-add-d Inv-loop μ-loop
+add-d c = ?
+
+-- src/costs.rt:121:5
+loop-less : tie.Need-loop-less Inv-loop μ-loop
+loop-less c = ?
+
+-- src/costs.rt:121:5
+loop-again : tie.Need-loop-again Inv-loop μ-loop
+loop-again c = ?
+
+-- src/costs.rt:116:1
+returns : tie.Need-returns Inv-loop μ-loop
+returns c = ?
+
+pub trial-spec : {M : Type 1} → statement M
+trial-spec =
+    tie.close
+    (tie.spec
+    Inv-loop
+    μ-loop
+    loop-holds
+    has-bit-requires
+    has-bit-requires-2
+    mul-by-state
+    element-copy-out-by-state
+    mul-by-state-2
+    element-copy-out-by-state-2
+    mul-by-state-3
+    element-copy-out-by-state-3
+    by-state-requires
+    add-total
+    add-d
+    loop-less
+    loop-again
+    returns)

@@ -1,0 +1,54 @@
+use borrow.Author.Needs.{needs}
+use Rattle.penalty.proofs.night_day.Statement.{statement}
+use Rattle.penalty.proofs.night_day.Tie as tie
+use Rattle.penalty.proofs.night_day.Reads as reads
+use Rattle.penalty.proofs.night_day.Lts as lts
+use Rattle.penalty.proofs.duty.on_column.Reads as on-column-reads
+use Rattle.penalty.proofs.fields.masks.Reads as masks-reads
+use Rattle.penalty.proofs.fields.needs.Reads as needs-reads
+use Rattle.penalty.proofs.fields.weights.Reads as weights-reads
+
+-- src/lib.rt:50:9
+masks-requires : tie.Need-masks-requires
+masks-requires c κs = search needs
+
+-- src/lib.rt:51:9
+needs-requires : tie.Need-needs-requires
+needs-requires c κs = search needs
+
+-- src/lib.rt:52:29
+weights-requires : tie.Need-weights-requires
+weights-requires c κs = search needs
+
+-- src/lib.rt:52:9
+on-column-requires : tie.Need-on-column-requires
+on-column-requires c κs = ?
+
+-- src/lib.rt:53:29
+weights-requires-2 : tie.Need-weights-requires-2
+weights-requires-2 c κs = search needs
+
+-- src/lib.rt:53:9
+on-column-requires-2 : tie.Need-on-column-requires-2
+on-column-requires-2 c κs = ?
+
+-- src/lib.rt:55:16
+add-t10 : tie.Need-add-t10
+add-t10 c = search needs
+
+-- src/lib.rt:46:1
+returns : tie.Need-returns
+returns c = ?
+
+pub night-day-spec : {M : Type 1} → statement M
+night-day-spec =
+    tie.close
+    (tie.spec
+    masks-requires
+    needs-requires
+    weights-requires
+    on-column-requires
+    weights-requires-2
+    on-column-requires-2
+    add-t10
+    returns)
