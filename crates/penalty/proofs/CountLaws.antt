@@ -52,6 +52,22 @@ cost-low wt masks row k f =
     let z : dutyOver (noHigh wt) masks row k f ≡ 0 = sum-none (length masks) _ (λ g l. zero-mul (membersIn masks f g - high row k g)) in
     omega (arith, cost-both (noHigh wt) masks row k f)
 
+-- ---- one day, from what the calls gave
+
+pub duty-of : (w : List ℕ) (k d column : ℕ) {wt : Weights} {ms row : List ℕ} {r : Duty} {b c : ℕ} → wt ≡ weightsOf w k → ms ≡ masks w → row ≡ needs w d
+    → Counts r (dutyShort wt ms row k (has column)) b (dutyOver wt ms row k (has column)) c → Counts r (shortIn w k d (has column)) b (overIn w k d (has column)) c
+duty-of w k d column e m q h = record {
+  short-is = record { is = h .short-is .is ∙ (λ j. dutyShort (e j) (m j) (q j) k (has column)); most = h .short-is .most };
+  over-is = record { is = h .over-is .is ∙ (λ j. dutyOver (e j) (m j) (q j) k (has column)); most = h .over-is .most };
+}
+
+pub night-of : (w : List ℕ) (d night day : ℕ) {a b r : Duty} → Counts a (shortIn w 0 d (has night)) 81600 (overIn w 0 d (has night)) 104000
+    → Counts b (shortIn w 1 d (has day)) 81600 (overIn w 1 d (has day)) 104000 → r .short ≡ a .short + b .short → r .over ≡ a .over → NightParts w d night day r
+night-of w d night day x y e q = record {
+  short-is = record { is = e ∙ ap₂ (λ (m n : ℕ). m + n) (x .short-is .is) (y .short-is .is); most = omega (arith, x .short-is .most, y .short-is .most, e) };
+  over-is = record { is = q ∙ x .over-is .is; most = omega (arith, x .over-is .most, q) };
+}
+
 -- ---- the month: the loops over the days
 
 pub record NightSums (w nights free : List ℕ) (n d short over : ℕ) : Type 0 where
