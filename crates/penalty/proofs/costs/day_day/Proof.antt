@@ -1,3 +1,7 @@
+-- `costs::day_day` meets its contract.
+use native.Mathlib.Omega.{arith}
+use Rattle.penalty.proofs.FieldLaws.{row-of, light-of}
+use Rattle.penalty.proofs.CostLaws.{pair-of, day-three}
 use borrow.Author.Needs.{needs}
 use Rattle.penalty.proofs.costs.day_day.Statement.{statement}
 use Rattle.penalty.proofs.costs.day_day.Tie as tie
@@ -22,11 +26,11 @@ weights-requires c κs = search needs
 
 -- src/costs.rt:52:9
 pair-on-requires : tie.Need-pair-on-requires
-pair-on-requires c κs = ?
+pair-on-requires c κs = (light-of _ _ (c .before .before .before .before .pre .0) (omega arith) (c .weights .ensures), row-of _ _ (c .before .before .before .before .pre .0) (c .before .before .before .before .pre .1) (c .before .before .masks .ensures) (c .before .needs .ensures), search needs, c .before .before .before .before .pre .2)
 
 -- src/costs.rt:46:1
 returns : tie.Need-returns
-returns c = ?
+returns c = day-three _ _ _ _ (pair-of _ _ _ _ _ _ (c .before .weights .ensures) (c .before .before .before .masks .ensures) (c .before .before .needs .ensures) (c .pair-on .ensures))
 
 pub day-day-spec : {M : Type 1} → statement M
 day-day-spec =

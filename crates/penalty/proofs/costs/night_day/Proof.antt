@@ -1,3 +1,7 @@
+-- `costs::night_day` meets its contract.
+use native.Mathlib.Omega.{arith}
+use Rattle.penalty.proofs.FieldLaws.{row-of, light-of, low-light-of}
+use Rattle.penalty.proofs.CostLaws.{pair-of, night-three}
 use borrow.Author.Needs.{needs}
 use Rattle.penalty.proofs.costs.night_day.Statement.{statement}
 use Rattle.penalty.proofs.costs.night_day.Tie as tie
@@ -23,7 +27,7 @@ weights-requires c κs = search needs
 
 -- src/costs.rt:36:9
 pair-on-requires : tie.Need-pair-on-requires
-pair-on-requires c κs = ?
+pair-on-requires c κs = (light-of _ _ (c .before .before .before .before .pre .0) (omega arith) (c .weights .ensures), row-of _ _ (c .before .before .before .before .pre .0) (c .before .before .before .before .pre .1) (c .before .before .masks .ensures) (c .before .needs .ensures), search needs, c .before .before .before .before .pre .2)
 
 -- src/costs.rt:37:27
 low-weights-requires : tie.Need-low-weights-requires
@@ -31,7 +35,7 @@ low-weights-requires c κs = search needs
 
 -- src/costs.rt:37:9
 pair-on-requires-2 : tie.Need-pair-on-requires-2
-pair-on-requires-2 c κs = ?
+pair-on-requires-2 c κs = (low-light-of _ _ (c .before .before .before .before .before .before .pre .0) (omega arith) (c .low-weights .ensures), row-of _ _ (c .before .before .before .before .before .before .pre .0) (c .before .before .before .before .before .before .pre .1) (c .before .before .before .before .masks .ensures) (c .before .before .before .needs .ensures), search needs, c .before .before .before .before .before .before .pre .2)
 
 -- src/costs.rt:39:16
 add-t11 : tie.Need-add-t11
@@ -47,7 +51,8 @@ add-t13 c = search needs
 
 -- src/costs.rt:30:1
 returns : tie.Need-returns
-returns c = ?
+returns c = night-three _ _ _ _ _ (pair-of _ _ _ _ _ _ (c .before .before .before .before .before .before .before .before .before .weights .ensures) (c .before .before .before .before .before .before .before .before .before .before .before .masks .ensures) (c .before .before .before .before .before .before .before .before .before .before .needs .ensures) (c .before .before .before .before .before .before .before .before .pair-on .ensures))
+    (pair-of _ _ _ _ _ _ (c .before .before .before .before .before .before .before .low-weights .ensures) (c .before .before .before .before .before .before .before .before .before .before .before .masks .ensures) (c .before .before .before .before .before .before .before .before .before .before .needs .ensures) (c .before .before .before .before .before .before .pair-on2 .ensures))
 
 pub night-day-spec : {M : Type 1} → statement M
 night-day-spec =
