@@ -174,8 +174,14 @@ module _ (w : List ℕ) (c : Columns) (i : ℕ) (slots : ℕ → Slot) (a : Acce
       let g = put (has (getD (c .day) d 0)) i (availableOn (block w i) p (suc d)) in
       let x = night-after w slots i p l d _ (s .night-shown d h) in
       let y = free-after w slots i p l d _ (s .free-shown d h) in
-      omega (arith, cost-both (weightsOf w 0) (masks w) (needs w d) 0 f, cost-low (weightsOf w 1) (masks w) (needs w d) 1 g,
-      short-same w a 0 d f _ x, over-same w a 0 d f _ x, short-same w a 1 d g _ y)
+      omega (
+        arith,
+        cost-both (weightsOf w 0) (masks w) (needs w d) 0 f,
+        cost-low (weightsOf w 1) (masks w) (needs w d) 1 g,
+        short-same w a 0 d f _ x,
+        over-same w a 0 d f _ x,
+        short-same w a 1 d g _ y,
+      )
 
   pub night-trials : (t : Costs) {n e : ℕ} → NightTable w c i n e t → n ≤ e → n ≡ days w → ShowsNight w slots c → TrialsNight w slots i t
   unfolding trialOf trialAt nightParts

@@ -3,3 +3,5 @@ pub mod DutyLaws
 pub mod ColumnLaws
 pub mod CountLaws
 pub mod CostLaws
+pub mod BoundLaws
+pub mod HeldLaws

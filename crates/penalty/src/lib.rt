@@ -1,8 +1,8 @@
 // The penalty of a choice of patterns: what is short, what is over, and who is unplaced.
-mod fields;
 pub mod columns;
-pub mod duty;
 pub mod costs;
+pub mod duty;
+mod fields;
 
 use columns::Columns;
 use duty::Duty;

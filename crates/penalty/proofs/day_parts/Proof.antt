@@ -5,10 +5,6 @@ use native.Mathlib.Omega.{arith}
 use Rattle.penalty.proofs.CountLaws.{DaySums, day-start, day-turn, day-bounded, day-is}
 use Rattle.penalty.proofs.day_parts.Statement.{statement}
 use Rattle.penalty.proofs.day_parts.Tie as tie
-use Rattle.penalty.proofs.day_parts.Reads as reads
-use Rattle.penalty.proofs.day_parts.Lts as lts
-use Rattle.penalty.proofs.day_day.Reads as day-day-reads
-use Rattle.penalty.proofs.fields.days.Reads as days-reads
 
 abbrev Inv-loop : tie.InvT-loop
 Inv-loop w unplaced cols short₀ over₀ n d₀ short over d = DaySums w (cols .day) n d short over
@@ -16,50 +12,41 @@ Inv-loop w unplaced cols short₀ over₀ n d₀ short over d = DaySums w (cols 
 abbrev μ-loop : tie.MeasureT-loop
 μ-loop w unplaced cols short₀ over₀ n d₀ short over d = n - d
 
--- src/lib.rt:105:9
 days-requires : tie.Need-days-requires Inv-loop μ-loop
 days-requires c κs = search needs
 
--- src/lib.rt:106:5
 loop-holds : tie.Need-loop-holds Inv-loop μ-loop
 loop-holds c = day-start _ _ _
 
--- src/lib.rt:107:31
 mul-day-day : tie.Need-mul-day-day Inv-loop μ-loop
 mul-day-day c = search needs
 
--- src/lib.rt:107:31
 element-copy-out-day-day : tie.Need-element-copy-out-day-day Inv-loop μ-loop
 element-copy-out-day-day c = search needs
 
--- src/lib.rt:107:13
 day-day-requires : tie.Need-day-day-requires Inv-loop μ-loop
 day-day-requires c κs = search needs
 
--- src/lib.rt:108:17
 add-short : tie.Need-add-short Inv-loop μ-loop
 add-short c = search needs
 
--- src/lib.rt:109:16
 add-over : tie.Need-add-over Inv-loop μ-loop
 add-over c = search needs
 
--- src/lib.rt:106:9
 add-d : tie.Need-add-d Inv-loop μ-loop
 add-d c = search needs
 
--- src/lib.rt:106:5
 loop-less : tie.Need-loop-less Inv-loop μ-loop
 loop-less c = search needs
 
--- src/lib.rt:106:5
 loop-again : tie.Need-loop-again Inv-loop μ-loop
 loop-again c = day-turn _ _ _ (c .before .before .before .before .before .loop .inv) (c .before .before .before .before .loop-test .taken) (c .before .before .day-day .ensures)
 
--- src/lib.rt:97:1
 returns : tie.Need-returns Inv-loop μ-loop
-returns c = (day-bounded _ _ (c .before .loop .inv) (omega (arith, c .before .before .days .ensures, c .before .before .before .before .pre .0 .days-most)) (c .before .before .before .before .pre .1),
-    day-is _ _ (c .before .before .before .before .pre .0) (c .before .loop .inv) (c .loop-test .left) (c .before .before .days .ensures))
+returns c = (
+  day-bounded _ _ (c .before .loop .inv) (omega (arith, c .before .before .days .ensures, c .before .before .before .before .pre .0 .days-most)) (c .before .before .before .before .pre .1),
+  day-is _ _ (c .before .before .before .before .pre .0) (c .before .loop .inv) (c .loop-test .left) (c .before .before .days .ensures),
+)
 
 pub day-parts-spec : {M : Type 1} → statement M
 day-parts-spec =

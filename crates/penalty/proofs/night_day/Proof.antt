@@ -6,42 +6,28 @@ use Rattle.penalty.proofs.CountLaws.{duty-of, night-of}
 use borrow.Author.Needs.{needs}
 use Rattle.penalty.proofs.night_day.Statement.{statement}
 use Rattle.penalty.proofs.night_day.Tie as tie
-use Rattle.penalty.proofs.night_day.Reads as reads
-use Rattle.penalty.proofs.night_day.Lts as lts
-use Rattle.penalty.proofs.duty.on_column.Reads as on-column-reads
-use Rattle.penalty.proofs.fields.masks.Reads as masks-reads
-use Rattle.penalty.proofs.fields.needs.Reads as needs-reads
-use Rattle.penalty.proofs.fields.weights.Reads as weights-reads
 
--- src/lib.rt:50:9
 masks-requires : tie.Need-masks-requires
 masks-requires c κs = search needs
 
--- src/lib.rt:51:9
 needs-requires : tie.Need-needs-requires
 needs-requires c κs = search needs
 
--- src/lib.rt:52:29
 weights-requires : tie.Need-weights-requires
 weights-requires c κs = search needs
 
--- src/lib.rt:52:9
 on-column-requires : tie.Need-on-column-requires
 on-column-requires c κs = (light-of _ _ (c .before .before .before .before .pre .0) (omega arith) (c .weights .ensures), row-of _ _ (c .before .before .before .before .pre .0) (c .before .before .before .before .pre .1) (c .before .before .masks .ensures) (c .before .needs .ensures), search needs)
 
--- src/lib.rt:53:29
 weights-requires-2 : tie.Need-weights-requires-2
 weights-requires-2 c κs = search needs
 
--- src/lib.rt:53:9
 on-column-requires-2 : tie.Need-on-column-requires-2
 on-column-requires-2 c κs = (light-of _ _ (c .before .before .before .before .before .before .pre .0) (omega arith) (c .weights2 .ensures), row-of _ _ (c .before .before .before .before .before .before .pre .0) (c .before .before .before .before .before .before .pre .1) (c .before .before .before .before .masks .ensures) (c .before .before .before .needs .ensures), search needs)
 
--- src/lib.rt:55:16
 add-t10 : tie.Need-add-t10
 add-t10 c = search needs
 
--- src/lib.rt:46:1
 returns : tie.Need-returns
 returns c = night-of _ _ _ _ (duty-of _ _ _ _ (c .before .before .before .before .before .weights .ensures) (c .before .before .before .before .before .before .before .masks .ensures) (c .before .before .before .before .before .before .needs .ensures) (c .before .before .before .before .on-column .ensures))
     (duty-of _ _ _ _ (c .before .before .before .weights2 .ensures) (c .before .before .before .before .before .before .before .masks .ensures) (c .before .before .before .before .before .before .needs .ensures) (c .before .before .on-column2 .ensures)) refl refl

@@ -5,10 +5,6 @@ use native.Mathlib.Omega.{arith}
 use Rattle.penalty.proofs.CountLaws.{NightSums, night-start, night-turn, night-bounded, night-is}
 use Rattle.penalty.proofs.night_parts.Statement.{statement}
 use Rattle.penalty.proofs.night_parts.Tie as tie
-use Rattle.penalty.proofs.night_parts.Reads as reads
-use Rattle.penalty.proofs.night_parts.Lts as lts
-use Rattle.penalty.proofs.fields.days.Reads as days-reads
-use Rattle.penalty.proofs.night_day.Reads as night-day-reads
 
 abbrev Inv-loop : tie.InvT-loop
 Inv-loop w unplaced cols short₀ over₀ n d₀ short over d = NightSums w (cols .night) (cols .day) n d short over
@@ -16,58 +12,47 @@ Inv-loop w unplaced cols short₀ over₀ n d₀ short over d = NightSums w (col
 abbrev μ-loop : tie.MeasureT-loop
 μ-loop w unplaced cols short₀ over₀ n d₀ short over d = n - d
 
--- src/lib.rt:83:9
 days-requires : tie.Need-days-requires Inv-loop μ-loop
 days-requires c κs = search needs
 
--- src/lib.rt:84:5
 loop-holds : tie.Need-loop-holds Inv-loop μ-loop
 loop-holds c = night-start _ _ _ _
 
--- src/lib.rt:85:33
 mul-night-day : tie.Need-mul-night-day Inv-loop μ-loop
 mul-night-day c = search needs
 
--- src/lib.rt:85:33
 element-copy-out-night-day : tie.Need-element-copy-out-night-day Inv-loop μ-loop
 element-copy-out-night-day c = search needs
 
--- src/lib.rt:85:48
 mul-night-day-2 : tie.Need-mul-night-day-2 Inv-loop μ-loop
 mul-night-day-2 c = search needs
 
--- src/lib.rt:85:48
 element-copy-out-night-day-2 : tie.Need-element-copy-out-night-day-2 Inv-loop μ-loop
 element-copy-out-night-day-2 c = search needs
 
--- src/lib.rt:85:13
 night-day-requires : tie.Need-night-day-requires Inv-loop μ-loop
 night-day-requires c κs = search needs
 
--- src/lib.rt:86:17
 add-short : tie.Need-add-short Inv-loop μ-loop
 add-short c = search needs
 
--- src/lib.rt:87:16
 add-over : tie.Need-add-over Inv-loop μ-loop
 add-over c = search needs
 
--- src/lib.rt:84:9
 add-d : tie.Need-add-d Inv-loop μ-loop
 add-d c = search needs
 
--- src/lib.rt:84:5
 loop-less : tie.Need-loop-less Inv-loop μ-loop
 loop-less c = search needs
 
--- src/lib.rt:84:5
 loop-again : tie.Need-loop-again Inv-loop μ-loop
 loop-again c = night-turn _ _ _ _ (c .before .before .before .before .before .before .loop .inv) (c .before .before .before .before .before .loop-test .taken) (c .before .before .night-day .ensures)
 
--- src/lib.rt:75:1
 returns : tie.Need-returns Inv-loop μ-loop
-returns c = (night-bounded _ _ _ (c .before .loop .inv) (omega (arith, c .before .before .days .ensures, c .before .before .before .before .pre .0 .days-most)) (c .before .before .before .before .pre .1),
-    night-is _ _ (c .before .before .before .before .pre .0) (c .before .loop .inv) (c .loop-test .left) (c .before .before .days .ensures))
+returns c = (
+  night-bounded _ _ _ (c .before .loop .inv) (omega (arith, c .before .before .days .ensures, c .before .before .before .before .pre .0 .days-most)) (c .before .before .before .before .pre .1),
+  night-is _ _ (c .before .before .before .before .pre .0) (c .before .loop .inv) (c .loop-test .left) (c .before .before .days .ensures),
+)
 
 pub night-parts-spec : {M : Type 1} → statement M
 night-parts-spec =

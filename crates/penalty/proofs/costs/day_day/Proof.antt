@@ -5,30 +5,19 @@ use Rattle.penalty.proofs.CostLaws.{pair-of, day-three}
 use borrow.Author.Needs.{needs}
 use Rattle.penalty.proofs.costs.day_day.Statement.{statement}
 use Rattle.penalty.proofs.costs.day_day.Tie as tie
-use Rattle.penalty.proofs.costs.day_day.Reads as reads
-use Rattle.penalty.proofs.costs.day_day.Lts as lts
-use Rattle.penalty.proofs.duty.pair_on.Reads as pair-on-reads
-use Rattle.penalty.proofs.fields.masks.Reads as masks-reads
-use Rattle.penalty.proofs.fields.needs.Reads as needs-reads
-use Rattle.penalty.proofs.fields.weights.Reads as weights-reads
 
--- src/costs.rt:50:9
 masks-requires : tie.Need-masks-requires
 masks-requires c κs = search needs
 
--- src/costs.rt:51:9
 needs-requires : tie.Need-needs-requires
 needs-requires c κs = search needs
 
--- src/costs.rt:52:27
 weights-requires : tie.Need-weights-requires
 weights-requires c κs = search needs
 
--- src/costs.rt:52:9
 pair-on-requires : tie.Need-pair-on-requires
 pair-on-requires c κs = (light-of _ _ (c .before .before .before .before .pre .0) (omega arith) (c .weights .ensures), row-of _ _ (c .before .before .before .before .pre .0) (c .before .before .before .before .pre .1) (c .before .before .masks .ensures) (c .before .needs .ensures), search needs, c .before .before .before .before .pre .2)
 
--- src/costs.rt:46:1
 returns : tie.Need-returns
 returns c = day-three _ _ _ _ (pair-of _ _ _ _ _ _ (c .before .weights .ensures) (c .before .before .before .masks .ensures) (c .before .before .needs .ensures) (c .pair-on .ensures))
 

@@ -5,51 +5,34 @@ use Rattle.penalty.proofs.CostLaws.{pair-of, night-three}
 use borrow.Author.Needs.{needs}
 use Rattle.penalty.proofs.costs.night_day.Statement.{statement}
 use Rattle.penalty.proofs.costs.night_day.Tie as tie
-use Rattle.penalty.proofs.costs.night_day.Reads as reads
-use Rattle.penalty.proofs.costs.night_day.Lts as lts
-use Rattle.penalty.proofs.duty.pair_on.Reads as pair-on-reads
-use Rattle.penalty.proofs.fields.low_weights.Reads as low-weights-reads
-use Rattle.penalty.proofs.fields.masks.Reads as masks-reads
-use Rattle.penalty.proofs.fields.needs.Reads as needs-reads
-use Rattle.penalty.proofs.fields.weights.Reads as weights-reads
 
--- src/costs.rt:34:9
 masks-requires : tie.Need-masks-requires
 masks-requires c κs = search needs
 
--- src/costs.rt:35:9
 needs-requires : tie.Need-needs-requires
 needs-requires c κs = search needs
 
--- src/costs.rt:36:27
 weights-requires : tie.Need-weights-requires
 weights-requires c κs = search needs
 
--- src/costs.rt:36:9
 pair-on-requires : tie.Need-pair-on-requires
 pair-on-requires c κs = (light-of _ _ (c .before .before .before .before .pre .0) (omega arith) (c .weights .ensures), row-of _ _ (c .before .before .before .before .pre .0) (c .before .before .before .before .pre .1) (c .before .before .masks .ensures) (c .before .needs .ensures), search needs, c .before .before .before .before .pre .2)
 
--- src/costs.rt:37:27
 low-weights-requires : tie.Need-low-weights-requires
 low-weights-requires c κs = search needs
 
--- src/costs.rt:37:9
 pair-on-requires-2 : tie.Need-pair-on-requires-2
 pair-on-requires-2 c κs = (low-light-of _ _ (c .before .before .before .before .before .before .pre .0) (omega arith) (c .low-weights .ensures), row-of _ _ (c .before .before .before .before .before .before .pre .0) (c .before .before .before .before .before .before .pre .1) (c .before .before .before .before .masks .ensures) (c .before .before .before .needs .ensures), search needs, c .before .before .before .before .before .before .pre .2)
 
--- src/costs.rt:39:16
 add-t11 : tie.Need-add-t11
 add-t11 c = search needs
 
--- src/costs.rt:40:15
 add-t12 : tie.Need-add-t12
 add-t12 c = search needs
 
--- src/costs.rt:41:15
 add-t13 : tie.Need-add-t13
 add-t13 c = search needs
 
--- src/costs.rt:30:1
 returns : tie.Need-returns
 returns c = night-three _ _ _ _ _ (pair-of _ _ _ _ _ _ (c .before .before .before .before .before .before .before .before .before .weights .ensures) (c .before .before .before .before .before .before .before .before .before .before .before .masks .ensures) (c .before .before .before .before .before .before .before .before .before .before .needs .ensures) (c .before .before .before .before .before .before .before .before .pair-on .ensures))
     (pair-of _ _ _ _ _ _ (c .before .before .before .before .before .before .before .low-weights .ensures) (c .before .before .before .before .before .before .before .before .before .before .before .masks .ensures) (c .before .before .before .before .before .before .before .before .before .before .needs .ensures) (c .before .before .before .before .before .before .pair-on2 .ensures))

@@ -8,10 +8,6 @@ use Rattle.penalty.specs.Costs.{trialAt}
 use Rattle.penalty.proofs.CostLaws.{trial-start, trial-day, trial-turn, trial-end}
 use Rattle.penalty.proofs.costs.trial.Statement.{statement}
 use Rattle.penalty.proofs.costs.trial.Tie as tie
-use Rattle.penalty.proofs.costs.trial.Reads as reads
-use Rattle.penalty.proofs.costs.trial.Lts as lts
-use Rattle.numbers.proofs.has_bit.Reads as has-bit-reads
-use Rattle.penalty.proofs.costs.by_state.Reads as by-state-reads
 
 abbrev Inv-loop : tie.InvT-loop
 Inv-loop n nights free c total₀ d₀ total d = (d ≤ n) × Is total (0 + sumTo d (trialAt c nights free)) (0 + 371200 * d)
@@ -19,64 +15,51 @@ Inv-loop n nights free c total₀ d₀ total d = (d ≤ n) × Is total (0 + sumT
 abbrev μ-loop : tie.MeasureT-loop
 μ-loop n nights free c total₀ d₀ total d = n - d
 
--- src/costs.rt:121:5
 loop-holds : tie.Need-loop-holds Inv-loop μ-loop
 loop-holds c = (search needs, trial-start _ _ _)
 
--- src/costs.rt:122:13
 has-bit-requires : tie.Need-has-bit-requires Inv-loop μ-loop
 has-bit-requires c κs = search needs
 
--- src/costs.rt:123:13
 has-bit-requires-2 : tie.Need-has-bit-requires-2 Inv-loop μ-loop
 has-bit-requires-2 c κs = search needs
 
--- src/costs.rt:124:53
 mul-by-state : tie.Need-mul-by-state Inv-loop μ-loop
 mul-by-state c = search needs
 
--- src/costs.rt:124:53
 element-copy-out-by-state : tie.Need-element-copy-out-by-state Inv-loop μ-loop
 element-copy-out-by-state c = search needs
 
--- src/costs.rt:124:65
 mul-by-state-2 : tie.Need-mul-by-state-2 Inv-loop μ-loop
 mul-by-state-2 c = search needs
 
--- src/costs.rt:124:65
 element-copy-out-by-state-2 : tie.Need-element-copy-out-by-state-2 Inv-loop μ-loop
 element-copy-out-by-state-2 c = search needs
 
--- src/costs.rt:124:76
 mul-by-state-3 : tie.Need-mul-by-state-3 Inv-loop μ-loop
 mul-by-state-3 c = search needs
 
--- src/costs.rt:124:76
 element-copy-out-by-state-3 : tie.Need-element-copy-out-by-state-3 Inv-loop μ-loop
 element-copy-out-by-state-3 c = search needs
 
--- src/costs.rt:124:25
 by-state-requires : tie.Need-by-state-requires Inv-loop μ-loop
 by-state-requires c κs = search needs
 
--- src/costs.rt:124:17
 add-total : tie.Need-add-total Inv-loop μ-loop
 add-total c = omega (arith, trial-day _ _ _ _ _ (c .before .before .before .before .before .before .before .before .pre) (c .before .before .before .before .before .before .loop-test .taken) (c .before .before .before .before .before .has-bit .ensures) (c .before .before .before .before .has-bit2 .ensures) (c .by-state .ensures) .most)
 
--- src/costs.rt:121:9
 add-d : tie.Need-add-d Inv-loop μ-loop
 add-d c = search needs
 
--- src/costs.rt:121:5
 loop-less : tie.Need-loop-less Inv-loop μ-loop
 loop-less c = search needs
 
--- src/costs.rt:121:5
 loop-again : tie.Need-loop-again Inv-loop μ-loop
-loop-again c = (omega (arith, c .before .before .before .before .before .before .loop-test .taken),
-    trial-turn _ _ _ _ (c .before .before .before .before .before .before .before .loop .inv .1) (trial-day _ _ _ _ _ (c .before .before .before .before .before .before .before .before .pre) (c .before .before .before .before .before .before .loop-test .taken) (c .before .before .before .before .before .has-bit .ensures) (c .before .before .before .before .has-bit2 .ensures) (c .by-state .ensures)))
+loop-again c = (
+  omega (arith, c .before .before .before .before .before .before .loop-test .taken),
+  trial-turn _ _ _ _ (c .before .before .before .before .before .before .before .loop .inv .1) (trial-day _ _ _ _ _ (c .before .before .before .before .before .before .before .before .pre) (c .before .before .before .before .before .before .loop-test .taken) (c .before .before .before .before .before .has-bit .ensures) (c .before .before .before .before .has-bit2 .ensures) (c .by-state .ensures)),
+)
 
--- src/costs.rt:116:1
 returns : tie.Need-returns Inv-loop μ-loop
 returns c = let e : c .before .loop .d ≡ c .before .before .args .n = omega arith in
     trial-end _ _ _ _ (c .before .loop .inv .1) e (c .before .before .pre .at-most)

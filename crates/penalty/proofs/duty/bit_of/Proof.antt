@@ -4,14 +4,10 @@ use Rattle.numbers.proofs.DigitLaws.{bit-is, bit-lt}
 use borrow.Author.Needs.{needs}
 use Rattle.penalty.proofs.duty.bit_of.Statement.{statement}
 use Rattle.penalty.proofs.duty.bit_of.Tie as tie
-use Rattle.penalty.proofs.duty.bit_of.Reads as reads
-use Rattle.penalty.proofs.duty.bit_of.Lts as lts
 
--- src/duty.rt:93:6
 shr-result : tie.Need-shr-result
 shr-result c = search needs
 
--- src/duty.rt:89:1
 returns : tie.Need-returns
 returns c = record { is = bit-is (c .args .group) (c .args .i); most = omega (arith, bit-lt (c .args .group) (c .args .i)) }
 

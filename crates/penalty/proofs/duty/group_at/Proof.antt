@@ -4,76 +4,55 @@ use native.Mathlib.Omega.{arith}
 use borrow.Author.Needs.{needs}
 use Rattle.penalty.proofs.duty.group_at.Statement.{statement}
 use Rattle.penalty.proofs.duty.group_at.Tie as tie
-use Rattle.penalty.proofs.duty.group_at.Reads as reads
-use Rattle.penalty.proofs.duty.group_at.Lts as lts
-use Rattle.numbers.proofs.members.Reads as members-reads
-use Rattle.penalty.proofs.duty.group_term.Reads as group-term-reads
 
--- src/duty.rt:54:19
 mul-low : tie.Need-mul-low
 mul-low c = search needs
 
--- src/duty.rt:54:27
 mul-low-2 : tie.Need-mul-low-2
 mul-low-2 c = search needs
 
--- src/duty.rt:54:19
 add-low : tie.Need-add-low
 add-low c = search needs
 
--- src/duty.rt:54:19
 add-low-2 : tie.Need-add-low-2
 add-low-2 c = search needs
 
--- src/duty.rt:54:15
 mul-low-3 : tie.Need-mul-low-3
 mul-low-3 c = search needs
 
--- src/duty.rt:54:15
 shared-slice-read-low : tie.Need-shared-slice-read-low
 shared-slice-read-low c = search needs
 
--- src/duty.rt:55:20
 mul-high : tie.Need-mul-high
 mul-high c = search needs
 
--- src/duty.rt:55:28
 mul-high-2 : tie.Need-mul-high-2
 mul-high-2 c = search needs
 
--- src/duty.rt:55:20
 add-high : tie.Need-add-high
 add-high c = search needs
 
--- src/duty.rt:55:20
 add-high-2 : tie.Need-add-high-2
 add-high-2 c = search needs
 
--- src/duty.rt:55:16
 mul-high-3 : tie.Need-mul-high-3
 mul-high-3 c = search needs
 
--- src/duty.rt:55:16
 shared-slice-read-high : tie.Need-shared-slice-read-high
 shared-slice-read-high c = search needs
 
--- src/duty.rt:56:56
 mul-members : tie.Need-mul-members
 mul-members c = search needs
 
--- src/duty.rt:56:56
 shared-slice-read-members : tie.Need-shared-slice-read-members
 shared-slice-read-members c = search needs
 
--- src/duty.rt:56:31
 members-requires : tie.Need-members-requires
 members-requires c κs = search needs
 
--- src/duty.rt:56:5
 group-term-requires : tie.Need-group-term-requires
 group-term-requires c κs = (c .before .before .before .before .before .before .pre .0, c .before .before .before .before .before .before .pre .1 .small _, omega (arith, c .members .ensures .most))
 
--- src/duty.rt:49:1
 returns : tie.Need-returns
 returns c = group-is _ _ _ _ _ _ (c .before .members .ensures .is) (c .group-term .ensures)
 

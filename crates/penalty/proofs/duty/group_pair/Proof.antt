@@ -5,97 +5,70 @@ use Rattle.penalty.proofs.DutyLaws.{group-tells}
 use borrow.Author.Needs.{needs}
 use Rattle.penalty.proofs.duty.group_pair.Statement.{statement}
 use Rattle.penalty.proofs.duty.group_pair.Tie as tie
-use Rattle.penalty.proofs.duty.group_pair.Reads as reads
-use Rattle.penalty.proofs.duty.group_pair.Lts as lts
-use Rattle.numbers.proofs.members.Reads as members-reads
-use Rattle.penalty.proofs.duty.bit_of.Reads as bit-of-reads
-use Rattle.penalty.proofs.duty.group_term.Reads as group-term-reads
 
--- src/duty.rt:110:19
 mul-low : tie.Need-mul-low
 mul-low c = search needs
 
--- src/duty.rt:110:27
 mul-low-2 : tie.Need-mul-low-2
 mul-low-2 c = search needs
 
--- src/duty.rt:110:19
 add-low : tie.Need-add-low
 add-low c = search needs
 
--- src/duty.rt:110:19
 add-low-2 : tie.Need-add-low-2
 add-low-2 c = search needs
 
--- src/duty.rt:110:15
 mul-low-3 : tie.Need-mul-low-3
 mul-low-3 c = search needs
 
--- src/duty.rt:110:15
 shared-slice-read-low : tie.Need-shared-slice-read-low
 shared-slice-read-low c = search needs
 
--- src/duty.rt:111:20
 mul-high : tie.Need-mul-high
 mul-high c = search needs
 
--- src/duty.rt:111:28
 mul-high-2 : tie.Need-mul-high-2
 mul-high-2 c = search needs
 
--- src/duty.rt:111:20
 add-high : tie.Need-add-high
 add-high c = search needs
 
--- src/duty.rt:111:20
 add-high-2 : tie.Need-add-high-2
 add-high-2 c = search needs
 
--- src/duty.rt:111:16
 mul-high-3 : tie.Need-mul-high-3
 mul-high-3 c = search needs
 
--- src/duty.rt:111:16
 shared-slice-read-high : tie.Need-shared-slice-read-high
 shared-slice-read-high c = search needs
 
--- src/duty.rt:112:17
 mul-group : tie.Need-mul-group
 mul-group c = search needs
 
--- src/duty.rt:112:17
 shared-slice-read-group : tie.Need-shared-slice-read-group
 shared-slice-read-group c = search needs
 
--- src/duty.rt:113:9
 members-requires : tie.Need-members-requires
 members-requires c κs = search needs
 
--- src/duty.rt:114:9
 group-term-requires : tie.Need-group-term-requires
 group-term-requires c κs = (c .before .before .before .before .before .before .pre .0, c .before .before .before .before .before .before .pre .1 .small _, omega (arith, c .members .ensures .most))
 
--- src/duty.rt:115:47
 bit-of-requires : tie.Need-bit-of-requires
 bit-of-requires c κs = search needs
 
--- src/duty.rt:115:39
 add-group-term : tie.Need-add-group-term
 add-group-term c = search needs
 
--- src/duty.rt:115:9
 group-term-requires-2 : tie.Need-group-term-requires-2
 group-term-requires-2 c κs = (c .before .before .before .before .before .before .before .before .pre .0, c .before .before .before .before .before .before .before .before .pre .1 .small _, omega (arith, c .before .before .members .ensures .most, c .bit-of .ensures .most))
 
--- src/duty.rt:117:14
 add-t20 : tie.Need-add-t20
 add-t20 c = search needs
 
--- src/duty.rt:118:13
 add-t23 : tie.Need-add-t23
 add-t23 c = search needs
 
--- src/duty.rt:97:1
 returns : tie.Need-returns
 returns c = λ f e. group-tells _ _ _ _ _ _ _ f (c .before .before .before .before .before .before .before .before .before .before .before .pre .4) e (c .before .before .before .before .before .members .ensures .is) (c .before .before .before .bit-of .ensures .is) (c .before .before .before .before .group-term .ensures) (c .before .before .group-term2 .ensures) refl refl
 

@@ -5,29 +5,21 @@ use Rattle.penalty.proofs.DutyLaws.{u-le, v-le}
 use borrow.Author.Needs.{needs}
 use Rattle.penalty.proofs.duty.group_term.Statement.{statement}
 use Rattle.penalty.proofs.duty.group_term.Tie as tie
-use Rattle.penalty.proofs.duty.group_term.Reads as reads
-use Rattle.penalty.proofs.duty.group_term.Lts as lts
-use Rattle.penalty.proofs.duty.less.Reads as less-reads
 
--- src/duty.rt:50:9
 less-requires : tie.Need-less-requires
 less-requires c κs = search needs
 
--- src/duty.rt:51:9
 less-requires-2 : tie.Need-less-requires-2
 less-requires-2 c κs = search needs
 
--- src/duty.rt:53:16
 mul-t7 : tie.Need-mul-t7
 mul-t7 c = let h : c .before .before .less .result ≤ 48 = omega arith in
     omega (arith, u-le (c .before .before .before .pre .0) h)
 
--- src/duty.rt:54:15
 mul-t8 : tie.Need-mul-t8
 mul-t8 c = let h : c .before .before .less2 .result ≤ 65 = omega arith in
     omega (arith, v-le (c .before .before .before .before .pre .0) h)
 
--- src/duty.rt:46:1
 returns : tie.Need-returns
 returns c = let h : c .before .before .before .less .result ≤ 48 = omega arith in
     let k : c .before .before .less2 .result ≤ 65 = omega arith in

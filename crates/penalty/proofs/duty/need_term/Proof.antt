@@ -5,20 +5,14 @@ use Rattle.penalty.proofs.DutyLaws.{w-le}
 use borrow.Author.Needs.{needs}
 use Rattle.penalty.proofs.duty.need_term.Statement.{statement}
 use Rattle.penalty.proofs.duty.need_term.Tie as tie
-use Rattle.penalty.proofs.duty.need_term.Reads as reads
-use Rattle.penalty.proofs.duty.need_term.Lts as lts
-use Rattle.penalty.proofs.duty.less.Reads as less-reads
 
--- src/duty.rt:41:9
 less-requires : tie.Need-less-requires
 less-requires c κs = search needs
 
--- src/duty.rt:42:5
 mul-result : tie.Need-mul-result
 mul-result c = let h : c .before .less .result ≤ 48 = omega arith in
     omega (arith, w-le (c .before .before .pre .0) h)
 
--- src/duty.rt:37:1
 returns : tie.Need-returns
 returns c = let h : c .before .less .result ≤ 48 = omega arith in
     record { is = rw (c .before .less .ensures); most = w-le (c .before .before .pre .0) h }

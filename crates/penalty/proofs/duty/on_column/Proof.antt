@@ -2,17 +2,11 @@
 use borrow.Author.Needs.{needs}
 use Prim.Native.Nat.{_-_}
 use mathlib.Core.Path.{refl}
-use native.Mathlib.Omega.{arith}
 use lib.ListN.{length}
 use Rattle.numbers.specs.Digits.{has}
 use Rattle.penalty.proofs.DutyLaws.{Sums, need-is, sums-start, sums-turn, sums-end}
 use Rattle.penalty.proofs.duty.on_column.Statement.{statement}
 use Rattle.penalty.proofs.duty.on_column.Tie as tie
-use Rattle.penalty.proofs.duty.on_column.Reads as reads
-use Rattle.penalty.proofs.duty.on_column.Lts as lts
-use Rattle.numbers.proofs.on_duty.Reads as on-duty-reads
-use Rattle.penalty.proofs.duty.group_at.Reads as group-at-reads
-use Rattle.penalty.proofs.duty.need_term.Reads as need-term-reads
 
 abbrev Inv-loop : tie.InvT-loop
 Inv-loop wt masks row k column short₀ over₀ g₀ g-end short over g = Sums wt masks row k (has column) g short over
@@ -20,51 +14,39 @@ Inv-loop wt masks row k column short₀ over₀ g₀ g-end short over g = Sums w
 abbrev μ-loop : tie.MeasureT-loop
 μ-loop wt masks row k column short₀ over₀ g₀ g-end short over g = length masks - g
 
--- src/duty.rt:75:35
 mul-need-term : tie.Need-mul-need-term Inv-loop μ-loop
 mul-need-term c = search needs
 
--- src/duty.rt:75:35
 shared-slice-read-need-term : tie.Need-shared-slice-read-need-term Inv-loop μ-loop
 shared-slice-read-need-term c = search needs
 
--- src/duty.rt:75:43
 on-duty-requires : tie.Need-on-duty-requires Inv-loop μ-loop
 on-duty-requires c κs = search needs
 
--- src/duty.rt:75:9
 need-term-requires : tie.Need-need-term-requires Inv-loop μ-loop
 need-term-requires c κs = (c .before .before .before .before .pre .0, c .before .before .before .before .pre .1 .small _)
 
--- src/duty.rt:77:5
 loop-holds : tie.Need-loop-holds Inv-loop μ-loop
 loop-holds c = sums-start _ _ _ _ _ (need-is _ _ _ _ (c .before .on-duty .ensures .is) (c .need-term .ensures))
 
--- src/duty.rt:78:13
 group-at-requires : tie.Need-group-at-requires Inv-loop μ-loop
 group-at-requires c κs = search needs
 
--- src/duty.rt:79:17
 add-short : tie.Need-add-short Inv-loop μ-loop
 add-short c = search needs
 
--- src/duty.rt:80:16
 add-over : tie.Need-add-over Inv-loop μ-loop
 add-over c = search needs
 
--- src/duty.rt:77:9
 add-g : tie.Need-add-g Inv-loop μ-loop
 add-g c = search needs
 
--- src/duty.rt:77:5
 loop-less : tie.Need-loop-less Inv-loop μ-loop
 loop-less c = search needs
 
--- src/duty.rt:77:5
 loop-again : tie.Need-loop-again Inv-loop μ-loop
 loop-again c = sums-turn _ _ _ _ _ (c .before .before .before .before .loop .inv) (c .before .before .before .loop-test .taken) (c .before .before .group-at .ensures)
 
--- src/duty.rt:70:1
 returns : tie.Need-returns Inv-loop μ-loop
 returns c = sums-end _ _ _ _ _ (c .before .loop .inv) (c .loop-test .left) (c .before .before .before .before .before .before .before .pre .1 .groups) refl refl
 

@@ -8,11 +8,6 @@ use Rattle.numbers.specs.Digits.{has}
 use Rattle.penalty.proofs.DutyLaws.{Pairs, pairs-start, pairs-turn, pairs-end}
 use Rattle.penalty.proofs.duty.pair_on.Statement.{statement}
 use Rattle.penalty.proofs.duty.pair_on.Tie as tie
-use Rattle.penalty.proofs.duty.pair_on.Reads as reads
-use Rattle.penalty.proofs.duty.pair_on.Lts as lts
-use Rattle.numbers.proofs.put_bit.Reads as put-bit-reads
-use Rattle.penalty.proofs.duty.group_pair.Reads as group-pair-reads
-use Rattle.penalty.proofs.duty.need_pair.Reads as need-pair-reads
 
 abbrev Inv-loop : tie.InvT-loop
 Inv-loop wt masks row k column i others off₀ on₀ g₀ g-end off on g = Pairs wt masks row k i (has column) g off on
@@ -20,51 +15,39 @@ Inv-loop wt masks row k column i others off₀ on₀ g₀ g-end off on g = Pairs
 abbrev μ-loop : tie.MeasureT-loop
 μ-loop wt masks row k column i others off₀ on₀ g₀ g-end off on g = length masks - g
 
--- src/duty.rt:139:9
 put-bit-requires : tie.Need-put-bit-requires Inv-loop μ-loop
 put-bit-requires c κs = search needs
 
--- src/duty.rt:140:31
 mul-need-pair : tie.Need-mul-need-pair Inv-loop μ-loop
 mul-need-pair c = search needs
 
--- src/duty.rt:140:31
 shared-slice-read-need-pair : tie.Need-shared-slice-read-need-pair Inv-loop μ-loop
 shared-slice-read-need-pair c = search needs
 
--- src/duty.rt:140:9
 need-pair-requires : tie.Need-need-pair-requires Inv-loop μ-loop
 need-pair-requires c κs = (c .before .before .before .before .pre .0, c .before .before .before .before .pre .1 .small _)
 
--- src/duty.rt:143:5
 loop-holds : tie.Need-loop-holds Inv-loop μ-loop
 loop-holds c = pairs-start _ _ _ _ _ _ (c .need-pair .ensures _ _ _ _ (c .before .before .before .before .before .pre .3) refl (c .before .before .put-bit .ensures))
 
--- src/duty.rt:144:13
 group-pair-requires : tie.Need-group-pair-requires Inv-loop μ-loop
 group-pair-requires c κs = search needs
 
--- src/duty.rt:145:15
 add-off : tie.Need-add-off Inv-loop μ-loop
 add-off c = omega (arith, c .before .group-pair .ensures _ (c .before .before .before .before .before .before .put-bit .ensures) .off-is .most, c .before .before .before .loop .inv .off-sum .most)
 
--- src/duty.rt:146:14
 add-on : tie.Need-add-on Inv-loop μ-loop
 add-on c = omega (arith, c .before .before .group-pair .ensures _ (c .before .before .before .before .before .before .before .put-bit .ensures) .on-is .most, c .before .before .before .before .loop .inv .on-sum .most)
 
--- src/duty.rt:143:9
 add-g : tie.Need-add-g Inv-loop μ-loop
 add-g c = search needs
 
--- src/duty.rt:143:5
 loop-less : tie.Need-loop-less Inv-loop μ-loop
 loop-less c = search needs
 
--- src/duty.rt:143:5
 loop-again : tie.Need-loop-again Inv-loop μ-loop
 loop-again c = pairs-turn _ _ _ _ _ _ (c .before .before .before .before .loop .inv) (c .before .before .before .loop-test .taken) (c .before .before .group-pair .ensures _ (c .before .before .before .before .before .before .before .put-bit .ensures))
 
--- src/duty.rt:135:1
 returns : tie.Need-returns Inv-loop μ-loop
 returns c = pairs-end _ _ _ _ _ _ (c .before .loop .inv) (c .loop-test .left) (c .before .before .before .before .before .before .before .pre .1 .groups) refl refl
 

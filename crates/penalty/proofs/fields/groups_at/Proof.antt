@@ -6,30 +6,22 @@ use Rattle.penalty.proofs.FieldLaws.{groups-product}
 use borrow.Author.Needs.{needs}
 use Rattle.penalty.proofs.fields.groups_at.Statement.{statement}
 use Rattle.penalty.proofs.fields.groups_at.Tie as tie
-use Rattle.penalty.proofs.fields.groups_at.Reads as reads
-use Rattle.penalty.proofs.fields.groups_at.Lts as lts
 
--- src/fields.rt:19:11
 shared-slice-read-result : tie.Need-shared-slice-read-result
 shared-slice-read-result c = search needs
 
--- src/fields.rt:19:34
 shared-slice-read-result-2 : tie.Need-shared-slice-read-result-2
 shared-slice-read-result-2 c = search needs
 
--- src/fields.rt:19:29
 add-result : tie.Need-add-result
 add-result c = search needs
 
--- src/fields.rt:19:10
 mul-result : tie.Need-mul-result
 mul-result c = omega (arith, groups-product (c .before .before .pre))
 
--- src/fields.rt:19:5
 add-result-2 : tie.Need-add-result-2
 add-result-2 c = omega (arith, groups-product (c .before .before .pre))
 
--- src/fields.rt:15:1
 returns : tie.Need-returns
 unfolding groupsAt
 returns c = refl

@@ -4,46 +4,34 @@ use Rattle.penalty.specs.Walk.{weightsOf}
 use borrow.Author.Needs.{needs}
 use Rattle.penalty.proofs.fields.low_weights.Statement.{statement}
 use Rattle.penalty.proofs.fields.low_weights.Tie as tie
-use Rattle.penalty.proofs.fields.low_weights.Reads as reads
-use Rattle.penalty.proofs.fields.low_weights.Lts as lts
 
--- src/fields.rt:69:19
 mul-t3 : tie.Need-mul-t3
 mul-t3 c = search needs
 
--- src/fields.rt:69:14
 add-t4 : tie.Need-add-t4
 add-t4 c = search needs
 
--- src/fields.rt:69:12
 mul-t5 : tie.Need-mul-t5
 mul-t5 c = search needs
 
--- src/fields.rt:69:12
 shared-slice-read-t7 : tie.Need-shared-slice-read-t7
 shared-slice-read-t7 c = search needs
 
--- src/fields.rt:70:20
 mul-t8 : tie.Need-mul-t8
 mul-t8 c = search needs
 
--- src/fields.rt:70:20
 add-t9 : tie.Need-add-t9
 add-t9 c = search needs
 
--- src/fields.rt:70:14
 add-t10 : tie.Need-add-t10
 add-t10 c = search needs
 
--- src/fields.rt:70:12
 mul-t11 : tie.Need-mul-t11
 mul-t11 c = search needs
 
--- src/fields.rt:70:12
 shared-slice-read-t13 : tie.Need-shared-slice-read-t13
 shared-slice-read-t13 c = search needs
 
--- src/fields.rt:64:1
 returns : tie.Need-returns
 unfolding weightsOf
 returns c = refl

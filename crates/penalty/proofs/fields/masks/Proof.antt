@@ -4,39 +4,28 @@ use Rattle.ward.specs.Fields.{masks}
 use borrow.Author.Needs.{needs}
 use Rattle.penalty.proofs.fields.masks.Statement.{statement}
 use Rattle.penalty.proofs.fields.masks.Tie as tie
-use Rattle.penalty.proofs.fields.masks.Reads as reads
-use Rattle.penalty.proofs.fields.masks.Lts as lts
-use Rattle.penalty.proofs.fields.groups_at.Reads as groups-at-reads
 
--- src/fields.rt:27:9
 groups-at-requires : tie.Need-groups-at-requires
 groups-at-requires c κs = search needs
 
--- src/fields.rt:28:17
 shared-slice-read-e : tie.Need-shared-slice-read-e
 shared-slice-read-e c = search needs
 
--- src/fields.rt:28:13
 add-e : tie.Need-add-e
 add-e c = search needs
 
--- src/fields.rt:29:5
 mul-result : tie.Need-mul-result
 mul-result c = search needs
 
--- src/fields.rt:29:5
 sub-result : tie.Need-sub-result
 sub-result c = search needs
 
--- src/fields.rt:29:5
 part-result-start : tie.Need-part-result-start
 part-result-start c = search needs
 
--- src/fields.rt:29:5
 part-result-end : tie.Need-part-result-end
 part-result-end c = search needs
 
--- src/fields.rt:23:1
 returns : tie.Need-returns
 unfolding masks
 returns c = rw (add-sub-cancel-left, c .before .before .groups-at .ensures)

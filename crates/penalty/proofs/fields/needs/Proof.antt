@@ -5,47 +5,34 @@ use Rattle.ward.specs.Fields.{needs as dayNeeds}
 use borrow.Author.Needs.{needs}
 use Rattle.penalty.proofs.fields.needs.Statement.{statement}
 use Rattle.penalty.proofs.fields.needs.Tie as tie
-use Rattle.penalty.proofs.fields.needs.Reads as reads
-use Rattle.penalty.proofs.fields.needs.Lts as lts
-use Rattle.penalty.proofs.fields.needs_at.Reads as needs-at-reads
 
--- src/fields.rt:46:9
 needs-at-requires : tie.Need-needs-at-requires
 needs-at-requires c κs = search needs
 
--- src/fields.rt:47:23
 shared-slice-read-e : tie.Need-shared-slice-read-e
 shared-slice-read-e c = search needs
 
--- src/fields.rt:47:18
 mul-e : tie.Need-mul-e
 mul-e c = search needs
 
--- src/fields.rt:47:18
 add-e : tie.Need-add-e
 add-e c = search needs
 
--- src/fields.rt:47:13
 add-e-2 : tie.Need-add-e-2
 add-e-2 c = omega (arith, c .before .before .before .pre .0 .needs-fit (c .before .before .before .args .d) (c .before .before .before .pre .1))
 
--- src/fields.rt:48:5
 mul-result : tie.Need-mul-result
 mul-result c = omega (arith, c .before .before .before .pre .0 .needs-fit (c .before .before .before .args .d) (c .before .before .before .pre .1))
 
--- src/fields.rt:48:5
 sub-result : tie.Need-sub-result
 sub-result c = search needs
 
--- src/fields.rt:48:5
 part-result-start : tie.Need-part-result-start
 part-result-start c = search needs
 
--- src/fields.rt:48:5
 part-result-end : tie.Need-part-result-end
 part-result-end c = omega (arith, c .before .before .before .pre .0 .needs-fit (c .before .before .before .args .d) (c .before .before .before .pre .1))
 
--- src/fields.rt:42:1
 returns : tie.Need-returns
 unfolding dayNeeds
 returns c = rw (add-sub-cancel-left, c .before .before .needs-at .ensures)

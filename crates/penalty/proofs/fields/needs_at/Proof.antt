@@ -5,39 +5,28 @@ use Rattle.penalty.proofs.FieldLaws.{needs-product}
 use borrow.Author.Needs.{needs}
 use Rattle.penalty.proofs.fields.needs_at.Statement.{statement}
 use Rattle.penalty.proofs.fields.needs_at.Tie as tie
-use Rattle.penalty.proofs.fields.needs_at.Reads as reads
-use Rattle.penalty.proofs.fields.needs_at.Lts as lts
-use Rattle.penalty.proofs.fields.groups_at.Reads as groups-at-reads
 
--- src/fields.rt:36:13
 shared-slice-read-r : tie.Need-shared-slice-read-r
 shared-slice-read-r c = search needs
 
--- src/fields.rt:37:16
 mul-size : tie.Need-mul-size
 mul-size c = search needs
 
--- src/fields.rt:37:16
 add-size : tie.Need-add-size
 add-size c = search needs
 
--- src/fields.rt:38:5
 groups-at-requires : tie.Need-groups-at-requires
 groups-at-requires c κs = search needs
 
--- src/fields.rt:38:5
 add-result : tie.Need-add-result
 add-result c = search needs
 
--- src/fields.rt:38:24
 mul-result : tie.Need-mul-result
 mul-result c = omega (arith, needs-product (c .before .before .before .pre .0) (c .before .before .before .pre .1))
 
--- src/fields.rt:38:5
 add-result-2 : tie.Need-add-result-2
 add-result-2 c = omega (arith, needs-product (c .before .before .before .pre .0) (c .before .before .before .pre .1))
 
--- src/fields.rt:32:1
 returns : tie.Need-returns
 unfolding needsAt
 returns c = rw (c .groups-at .ensures)

@@ -4,66 +4,49 @@ use Rattle.penalty.specs.Walk.{weightsOf}
 use borrow.Author.Needs.{needs}
 use Rattle.penalty.proofs.fields.weights.Statement.{statement}
 use Rattle.penalty.proofs.fields.weights.Tie as tie
-use Rattle.penalty.proofs.fields.weights.Reads as reads
-use Rattle.penalty.proofs.fields.weights.Lts as lts
 
--- src/fields.rt:57:19
 mul-t3 : tie.Need-mul-t3
 mul-t3 c = search needs
 
--- src/fields.rt:57:14
 add-t4 : tie.Need-add-t4
 add-t4 c = search needs
 
--- src/fields.rt:57:12
 mul-t5 : tie.Need-mul-t5
 mul-t5 c = search needs
 
--- src/fields.rt:57:12
 shared-slice-read-t7 : tie.Need-shared-slice-read-t7
 shared-slice-read-t7 c = search needs
 
--- src/fields.rt:58:20
 mul-t8 : tie.Need-mul-t8
 mul-t8 c = search needs
 
--- src/fields.rt:58:20
 add-t9 : tie.Need-add-t9
 add-t9 c = search needs
 
--- src/fields.rt:58:14
 add-t10 : tie.Need-add-t10
 add-t10 c = search needs
 
--- src/fields.rt:58:12
 mul-t11 : tie.Need-mul-t11
 mul-t11 c = search needs
 
--- src/fields.rt:58:12
 shared-slice-read-t13 : tie.Need-shared-slice-read-t13
 shared-slice-read-t13 c = search needs
 
--- src/fields.rt:59:20
 mul-t14 : tie.Need-mul-t14
 mul-t14 c = search needs
 
--- src/fields.rt:59:20
 add-t15 : tie.Need-add-t15
 add-t15 c = search needs
 
--- src/fields.rt:59:14
 add-t16 : tie.Need-add-t16
 add-t16 c = search needs
 
--- src/fields.rt:59:12
 mul-t17 : tie.Need-mul-t17
 mul-t17 c = search needs
 
--- src/fields.rt:59:12
 shared-slice-read-t19 : tie.Need-shared-slice-read-t19
 shared-slice-read-t19 c = search needs
 
--- src/fields.rt:52:1
 returns : tie.Need-returns
 unfolding weightsOf
 returns c = refl
