@@ -1,2 +1,5 @@
 pub mod WalkLaws
 pub mod CommonLaws
+pub mod StartLaws
+pub mod BlockLaws
+pub mod HersLaws
