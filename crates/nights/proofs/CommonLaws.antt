@@ -27,7 +27,7 @@ cond-case : {A : Type 0} (P : A → Type 0) (b : Bool) (x y : A) → (b ≡ true
 cond-case P true x y f g = f refl
 cond-case P false x y f g = g refl
 
-leb-same : (a b m n : ℕ) → (a ≤ b → m ≤ n) → (m ≤ n → a ≤ b) → leb a b ≡ leb m n
+pub leb-same : (a b m n : ℕ) → (a ≤ b → m ≤ n) → (m ≤ n → a ≤ b) → leb a b ≡ leb m n
 leb-same a b m n f g = go (leb a b) (leb m n) refl refl
   where
     go : (t u : Bool) → leb a b ≡ t → leb m n ≡ u → leb a b ≡ leb m n
@@ -138,7 +138,7 @@ cond-same : (b : Bool) (x : ℕ) → cond b x x ≡ x
 cond-same true x = refl
 cond-same false x = refl
 
-follow-first : (r : Rules) (s : ℕ) (ss : List ℕ) → follow r 0 0 (s ∷ ss) ≡ follow r s 1 ss
+pub follow-first : (r : Rules) (s : ℕ) (ss : List ℕ) → follow r 0 0 (s ∷ ss) ≡ follow r s 1 ss
 unfolding follow
 follow-first r s ss = ap (λ (m : ℕ). follow r s m ss) (cond-same (eqb s 2) 1)
 

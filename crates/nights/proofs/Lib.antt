@@ -3,3 +3,5 @@ pub mod CommonLaws
 pub mod StartLaws
 pub mod BlockLaws
 pub mod HersLaws
+pub mod MaskLaws
+pub mod NearLaws

@@ -1,3 +1,4 @@
 pub mod Nights
 pub mod Hers
 pub mod Walk
+pub mod Masks

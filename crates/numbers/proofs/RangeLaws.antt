@@ -158,3 +158,13 @@ unfolding all
 all-at t [] e i h = absurd (not-suc-le-zero h)
 all-at t (x ∷ xs) e zero h = and-parts (t x) (all t xs) e .0
 all-at t (x ∷ xs) e (suc i) h = all-at t xs (and-parts (t x) (all t xs) e .1) i (le-of-suc-le-suc h)
+
+pub all-range : (t : ℕ → Bool) (a n : ℕ) → ((i : ℕ) → i < n → t (a + i) ≡ true) → all t (upFrom a n) ≡ true
+unfolding all upFrom
+all-range t a zero h = refl
+all-range t a (suc n) h =
+    let first : t a ≡ true = ap t (sym (add-zero a)) ∙ h 0 (omega arith) in
+    rw first (all-range t (suc a) n (λ i l. ap t (one-on i) ∙ h (suc i) (suc-le-suc l)))
+  where
+    one-on : (i : ℕ) → suc a + i ≡ a + suc i
+    one-on i = omega arith
