@@ -7,7 +7,7 @@ use native.Mathlib.Nat.{add-zero, lt-of-le-of-lt}
 use native.Mathlib.Numerals.{add-one, one-add}
 use native.Mathlib.Omega.{arith}
 use native.Mathlib.Decide.{decLt}
-use lib.Bits.{bitAnd, bitOr, and-le-l}
+use lib.Bits.{bitAnd, bitOr, and-le-l, and-le-r, or-lt}
 use lib.Dec.{eqb}
 use lib.ListN.{length, getD}
 use lib.Pow.{pow-mono, shr-lt}
@@ -20,8 +20,13 @@ use Rattle.numbers.proofs.DigitLaws.{number-lt, number-has, number-suc, number-
 use Rattle.numbers.proofs.SetLaws.{has-and, has-or, has-not, has-first, has-moved, has-back, has-above, none-zero}
 use Rattle.ward.specs.Fields.{duty, markOn}
 use Rattle.rows.specs.Rows.{stateAfter, dayZero, rowState, allows, marksAllow, available, availableOn}
+use Rattle.nights.specs.declared.Rules.{Rules}
+use Rattle.nights.specs.declared.hers.Run.{Run}
+use Rattle.nights.specs.declared.masks.Bars.{Bars}
+use Rattle.nights.specs.declared.masks.Masks.{Masks}
 use Rattle.nights.specs.declared.masks.Row.{Row}
-use Rattle.nights.specs.Masks.{barred, workable, RowOf, AvailableDays}
+use Rattle.nights.specs.Masks.{barred, workable, near, barsOf, masksOf, Masked, RowOf, AvailableDays}
+use Rattle.nights.specs.Hers.{lastRun}
 
 -- ---- the loops that make a set of days
 
@@ -170,6 +175,16 @@ module _ (b : List ℕ) (p : ℕ) (small : p < 2 ^ 32) where
       ∙ ap₂ _&&_ (has-twice seconds d ∙ second-is d (omega arith)) (not-night (suc d) l ∙ ap not (started-is d))
       ∙ sym (after-rest (rowState b p d) (has p d))
 
+-- what a mask leaves is small
+pub masked-twice : (y z : ℕ) → y < 2 ^ 60 → bitAnd y z * 2 < 2 ^ 64
+masked-twice y z h = omega (arith, and-le-l y z)
+
+pub masked-half : (y z : ℕ) → y < 2 ^ 32 → bitAnd y z / 2 < 2 ^ 32
+masked-half y z h = omega (arith, and-le-l y z)
+
+masked-small : (y z : ℕ) → bitAnd y ((2 ^ 64 - 1) - z) < 2 ^ 64
+masked-small y z = omega (arith, and-le-r y ((2 ^ 64 - 1) - z))
+
 pub row-made : (b : List ℕ) (p night second : ℕ) → p < 2 ^ 32 → night ≡ oneIf (eqb (duty b 6) 2) → second ≡ oneIf (eqb (duty b 6) 3) → (x : Row)
     → x .night ≡ p * 2 + night → x .second ≡ bitAnd (x .night * 2 + second) ((2 ^ 64 - 1) - x .night) → x .rest ≡ bitAnd (x .second * 2) ((2 ^ 64 - 1) - x .night)
     → RowOf b p x
@@ -182,6 +197,9 @@ row-made b p night second h en es x e1 e2 e3 =
       night = λ d l. ap (λ (v : ℕ). has v d) f1 ∙ night-is b p h d;
       second = λ d l. ap (λ (v : ℕ). has v d) f2 ∙ second-is b p h d l;
       rest = λ d l. ap (λ (v : ℕ). has v d) f3 ∙ rest-is b p h d l;
+      fits = or-lt 64 (bitOr (x .night) (x .second)) (x .rest)
+          (or-lt 64 (x .night) (x .second) (rw f1 (nights-small b p h)) (rw e2 (masked-small (x .night * 2 + second) (x .night))))
+          (rw e3 (masked-small (x .second * 2) (x .night)));
     }
 
 -- ---- what the marks allow
@@ -234,10 +252,10 @@ barring n b x =
     (bitAnd (x .second) (numberOf (barred b 2) (suc n))))
     (bitAnd (x .rest) (numberOf (barred b 3) (suc n)))
 
-module _ (b : List ℕ) (n p : ℕ) (x : Row) (ok : RowOf b p x) (fits : bitOr (bitOr (x .night) (x .second)) (x .rest) < 2 ^ 64) where
+module _ (b : List ℕ) (n p : ℕ) (x : Row) (ok : RowOf b p x) where
   open-day : (d : ℕ) → d < 64 → has ((2 ^ 64 - 1) - bitOr (bitOr (x .night) (x .second)) (x .rest)) d ≡ eqb (rowState b p d) 0
   open-day d l =
-      has-not 64 (bitOr (bitOr (x .night) (x .second)) (x .rest)) d fits l
+      has-not 64 (bitOr (bitOr (x .night) (x .second)) (x .rest)) d (ok .fits) l
       ∙ ap not (has-or (bitOr (x .night) (x .second)) (x .rest) d ∙ ap₂ _||_ (has-or (x .night) (x .second) d ∙ ap₂ _||_ (ok .night d l) (ok .second d l)) (ok .rest d l))
       ∙ open-is (rowState b p d) (row-small b p d)
 
@@ -283,13 +301,22 @@ module _ (b : List ℕ) (n p : ℕ) (x : Row) (ok : RowOf b p x) (fits : bitOr (
       go (yes q) = set-has (barred b (rowState b p (suc i))) n (suc i) (suc-le-suc q) ∙ ap not (there q)
       go (no q) = set-above (barred b (rowState b p (suc i))) n (suc i) (omega arith)
 
-  pub marks-by-sets : n ≤ 31 → barring n b x < 2 ^ 64 → eqb (barring n b x) 0 ≡ marksAllow b n p
-  marks-by-sets small h = go (eqb (barring n b x) 0) (marksAllow b n p) refl refl
+  barring-small : n ≤ 31 → barring n b x < 2 ^ 64
+  barring-small small =
+      or-lt 64 _ _ (or-lt 64 _ _
+      (or-lt 64 _ _ (part ((2 ^ 64 - 1) - bitOr (bitOr (x .night) (x .second)) (x .rest)) 0) (part (x .night) 1))
+      (part (x .second) 2)) (part (x .rest) 3)
+    where
+      part : (y t : ℕ) → bitAnd y (numberOf (barred b t) (suc n)) < 2 ^ 64
+      part y t = omega (arith, and-le-r y (numberOf (barred b t) (suc n)), set-small (barred b t) n small)
+
+  pub marks-by-sets : n ≤ 31 → eqb (barring n b x) 0 ≡ marksAllow b n p
+  marks-by-sets small = go (eqb (barring n b x) 0) (marksAllow b n p) refl refl
     where
       go : (s t : Bool) → eqb (barring n b x) 0 ≡ s → marksAllow b n p ≡ t → eqb (barring n b x) 0 ≡ marksAllow b n p
       go true t e f = e ∙ sym (none-bars small (eqb-true (barring n b x) 0 e))
       go false false e f = e ∙ sym f
-      go false true e f = absurd (eqb-false (barring n b x) 0 e (none-zero 64 (barring n b x) h (barred-not small f)))
+      go false true e f = absurd (eqb-false (barring n b x) 0 e (none-zero 64 (barring n b x) (barring-small small) (barred-not small f)))
 
   -- ---- the days on which she is available
 
@@ -310,3 +337,46 @@ module _ (b : List ℕ) (n p : ℕ) (x : Row) (ok : RowOf b p x) (fits : bitOr (
           has-back (bitAnd W F) d ∙ has-and W F (suc d)
           ∙ ap₂ _&&_ (set-has (workable b) n (suc d) (suc-le-suc l)) (open-day (suc d) (omega arith))
           ∙ available-where b p d
+
+-- ---- the same of a nurse's masks
+
+module _ (r : Rules) (n p : ℕ) (b : List ℕ) (m : Masks) (is : m ≡ masksOf r n b) where
+  pub masks-row : (x : Row) → (m .night ≡ oneIf (eqb (duty b 6) 2) → m .second ≡ oneIf (eqb (duty b 6) 3) → RowOf b p x) → RowOf b p x
+  unfolding masksOf
+  masks-row x f = f (ap (λ (k : Masks). k .night) is) (ap (λ (k : Masks). k .second) is)
+
+  pub masks-allow : n ≤ 31 → (x : Row) → RowOf b p x
+      → eqb (bitOr (bitOr (bitOr
+      (bitAnd ((2 ^ 64 - 1) - bitOr (bitOr (x .night) (x .second)) (x .rest)) (m .bars .free))
+      (bitAnd (x .night) (m .bars .night)))
+      (bitAnd (x .second) (m .bars .second)))
+      (bitAnd (x .rest) (m .bars .rest))) 0 ≡ marksAllow b n p
+  unfolding masksOf
+  masks-allow small x ok = rw (ap (λ (k : Masks). k .bars) is) (marks-by-sets b n p x ok small)
+
+  pub masks-available : n ≤ 31 → (x : Row) → RowOf b p x
+      → AvailableDays b n p (bitAnd (m .workable) ((2 ^ 64 - 1) - bitOr (bitOr (x .night) (x .second)) (x .rest)) / 2)
+  unfolding masksOf
+  masks-available small x ok = rw (ap (λ (k : Masks). k .workable) is) (available-by-sets b n p x ok small)
+
+-- ---- a nurse's masks, made of their parts
+
+module _ (r : Rules) (n : ℕ) (b : List ℕ) (bs : Bars) (wk ni se ne : ℕ) (la : Run)
+    (e1 : bs ≡ barsOf n b) (e2 : wk ≡ numberOf (workable b) (suc n)) (e3 : ni ≡ oneIf (eqb (duty b 6) 2)) (e4 : se ≡ oneIf (eqb (duty b 6) 3)) where
+  pub masks-made : ne ≡ 2 ^ near r (la .prev) (la .run) - 1 → (la .prev ≡ lastRun b .0) × (la .run ≡ lastRun b .1)
+      → record { bars = bs; workable = wk; night = ni; second = se; near = ne; last = la; least = getD b 7 0; most = getD b 8 0 } ≡ masksOf r n b
+  unfolding masksOf
+  masks-made e5 (e6, e7) =
+      let run : la ≡ record { prev = lastRun b .0; run = lastRun b .1 } = ap₂ (λ (x y : ℕ). record { prev = x; run = y }) e6 e7 in
+      let days : ne ≡ 2 ^ near r (lastRun b .0) (lastRun b .1) - 1 = e5 ∙ ap₂ (λ (x y : ℕ). 2 ^ near r x y - 1) e6 e7 in
+      rw (e1, e2, e3, e4, days, run)
+
+  pub masks-small : n ≤ 31 → (la .prev ≤ 7) × (la .run ≤ 7)
+      → Masked (record { bars = bs; workable = wk; night = ni; second = se; near = ne; last = la; least = getD b 7 0; most = getD b 8 0 })
+  masks-small small (h, k) = record {
+    night = rw e3 (omega (arith, one-below (eqb (duty b 6) 2)));
+    second = rw e4 (omega (arith, one-below (eqb (duty b 6) 3)));
+    workable = rw e2 (set-small (workable b) n small);
+    prev = h;
+    run = k;
+  }

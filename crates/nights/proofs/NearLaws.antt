@@ -1,6 +1,6 @@
 -- Where last month's run does not matter: a pattern with no start on the days near to it keeps the rule after it as it does alone.
 use mathlib.Core.Path.{_≡_, refl, sym, ap, ap₂, _∙_, subst}
-use mathlib.Core.Bool.{Bool, true, false, cond, not, _&&_, and-true}
+use mathlib.Core.Bool.{Bool, true, false, cond, not, _&&_, and-true, and-false}
 use mathlib.Core.List.{List, [], _∷_}
 use Prim.Native.Nat.{ℕ, zero, suc, _+_, _-_, _^_, _≤_, _<_}
 use native.Mathlib.Omega.{arith}
@@ -9,8 +9,9 @@ use lib.Bits.{bitAnd}
 use lib.Dec.{leb, ltb, eqb}
 use lib.ListN.{length, getD}
 use lib.Pow.{pow-pos}
-use borrow.Author.Tests.{eqb-true, eqb-false, eq-eqb, ne-eqb, le-leb, lt-ltb}
+use borrow.Author.Tests.{eqb-true, eqb-false, eq-eqb, ne-eqb, le-leb, lt-leb, lt-ltb}
 use Rattle.numbers.specs.Range.{upFrom, keep}
+use Rattle.numbers.specs.Sum.{countTo}
 use Rattle.numbers.specs.Digits.{has}
 use Rattle.numbers.proofs.RangeLaws.{keep-passes, kept-below, and-parts}
 use Rattle.numbers.proofs.SetLaws.{has-and, has-not, has-above}
@@ -19,8 +20,10 @@ use Rattle.ward.specs.Fields.{leastNightsOf, mostNightsOf}
 use Rattle.nights.specs.declared.Rules.{Rules}
 use Rattle.nights.specs.Nights.{gap, starts, follow, allowed, runWith, inCommon}
 use Rattle.nights.specs.Hers.{shifted, lastRun, hers}
-use Rattle.nights.specs.Masks.{near}
+use Rattle.nights.specs.declared.masks.Masks.{Masks}
+use Rattle.nights.specs.Masks.{near, masksOf}
 use Rattle.nights.proofs.CommonLaws.{leb-same, follow-first}
+use Rattle.nights.proofs.StartLaws.{count-starts}
 
 -- ---- the rule does not depend on where the days are counted from
 
@@ -133,3 +136,47 @@ hers-known r n p b h e = rw (lt-ltb p (2 ^ n) h, e)
 pub common-follows : (r : Rules) (n p : ℕ) → inCommon r n p ≡ true → follow r 0 0 (starts n p) ≡ true
 unfolding inCommon
 common-follows r n p e = and-parts (leb (length (starts n p)) (r .most)) (follow r 0 0 (starts n p)) e .1
+
+-- ---- how many days are near
+
+pub near-none : (r : Rules) (prev run : ℕ) → run ≡ 0 → 0 ≡ near r prev run
+near-none r prev run e = rw e
+
+pub near-some : (r : Rules) (prev run g : ℕ) → (run ≡ 0 → ⊥) → g ≡ gap r run → prev + g - 5 ≡ near r prev run
+near-some r prev run g f e = rw (ne-eqb run 0 f, e)
+
+-- ---- the ways out of the fast test
+
+module _ (r : Rules) (n p : ℕ) (b : List ℕ) (m : Masks) (is : m ≡ masksOf r n b) (small : p < 2 ^ n) (known : inCommon r n p ≡ true) where
+  pub out-marks : marksAllow b n p ≡ false → false ≡ hers r n b p
+  out-marks e = sym (hers-known r n p b small known ∙ simp (e, and-false))
+
+  pub out-few : (k : ℕ) → k ≡ countTo n (has p) → k < m .least → false ≡ hers r n b p
+  unfolding masksOf
+  out-few k e l =
+      let few : length (starts n p) < leastNightsOf b = omega (arith, count-starts n p, e, ap (λ (x : Masks). x .least) is) in
+      sym (hers-known r n p b small known ∙ simp (lt-leb (leastNightsOf b) (length (starts n p)) few, and-false))
+
+  pub out-many : (k : ℕ) → k ≡ countTo n (has p) → m .most < k → false ≡ hers r n b p
+  unfolding masksOf
+  out-many k e l =
+      let many : mostNightsOf b < length (starts n p) = omega (arith, count-starts n p, e, ap (λ (x : Masks). x .most) is) in
+      sym (hers-known r n p b small known ∙ simp (lt-leb (length (starts n p)) (mostNightsOf b) many, and-false))
+
+  -- her marks and bounds hold: last month's run decides
+  pub by-run : (k : ℕ) → marksAllow b n p ≡ true → k ≡ countTo n (has p) → m .least ≤ k → k ≤ m .most
+      → follow r (m .last .prev) (m .last .run) (shifted 7 (starts n p)) ≡ hers r n b p
+  unfolding masksOf
+  by-run k a e l h =
+      let least : leastNightsOf b ≤ length (starts n p) = omega (arith, count-starts n p, e, ap (λ (x : Masks). x .least) is) in
+      let most : length (starts n p) ≤ mostNightsOf b = omega (arith, count-starts n p, e, ap (λ (x : Masks). x .most) is) in
+      ap₂ (λ (u v : ℕ). follow r u v (shifted 7 (starts n p))) (ap (λ (x : Masks). x .last .prev) is) (ap (λ (x : Masks). x .last .run) is)
+      ∙ sym (hers-known r n p b small known ∙ simp (a, le-leb (leastNightsOf b) (length (starts n p)) least, le-leb (length (starts n p)) (mostNightsOf b) most, and-true))
+
+  -- no start is near to it
+  pub by-distance : bitAnd p (m .near) ≡ 0 → true ≡ follow r (m .last .prev) (m .last .run) (shifted 7 (starts n p))
+  unfolding masksOf
+  by-distance e =
+      let apart : bitAnd p (2 ^ near r (lastRun b .0) (lastRun b .1) - 1) ≡ 0 = ap (λ (x : Masks). bitAnd p (x .near)) (sym is) ∙ e in
+      sym (ap₂ (λ (u v : ℕ). follow r u v (shifted 7 (starts n p))) (ap (λ (x : Masks). x .last .prev) is) (ap (λ (x : Masks). x .last .run) is)
+      ∙ far-alone r (lastRun b .0) (lastRun b .1) n p apart ∙ common-follows r n p known)

@@ -3,6 +3,7 @@ use mathlib.Core.Path.{_≡_}
 use mathlib.Core.Bool.{Bool, true, false, cond, not}
 use mathlib.Core.List.{List}
 use Prim.Native.Nat.{ℕ, zero, suc, _+_, _-_, _^_, _≤_, _<_}
+use lib.Bits.{bitOr}
 use lib.Dec.{eqb}
 use lib.ListN.{getD}
 use Rattle.numbers.specs.Sum.{oneIf}
@@ -64,6 +65,7 @@ pub record RowOf (b : List ℕ) (p : ℕ) (x : Row) : Type 0 where
   pub night : (d : ℕ) → d < 64 → has (x .night) d ≡ eqb (rowState b p d) 1
   pub second : (d : ℕ) → d < 64 → has (x .second) d ≡ eqb (rowState b p d) 2
   pub rest : (d : ℕ) → d < 64 → has (x .rest) d ≡ eqb (rowState b p d) 3
+  pub fits : bitOr (bitOr (x .night) (x .second)) (x .rest) < 2 ^ 64
 
 -- q is the set of the days on which she is available under p
 pub record AvailableDays (b : List ℕ) (n p q : ℕ) : Type 0 where

@@ -110,16 +110,16 @@ fn bars_of(b: &[u64], n: u64) -> Bars
 }
 
 // How many of the month's first days are near to last month's run.
-fn near_days(r: Rules, last: Run) -> u64
+fn near_days(r: Rules, prev: u64, run: u64) -> u64
     requires { ⌜ Small r ⌝ }
-    requires { ⌜ last .prev ≤ 7 ⌝ }
-    ensures is { λ k. ⌜ k ≡ near r (last .prev) (last .run) ⌝ }
+    requires { ⌜ prev ≤ 7 ⌝ }
+    ensures is { λ k. ⌜ k ≡ near r prev run ⌝ }
     ensures few { λ k. ⌜ k ≤ 7 ⌝ }
 {
-    if last.run == 0 {
+    if run == 0 {
         return 0;
     }
-    let reach = last.prev + common::gap_after(r, last.run);
+    let reach = prev + common::gap_after(r, run);
     if reach < 5 {
         return 0;
     }
@@ -145,7 +145,7 @@ fn masks_by(r: Rules, n: u64, b: &[u64]) -> Masks
 {
     let bars = bars_of(b, n);
     let last = hers::last_run(b);
-    let near = numbers::bit(near_days(r, last)) - 1;
+    let near = numbers::bit(near_days(r, last.prev, last.run)) - 1;
     Masks {
         bars,
         workable: workable_days(b, n),

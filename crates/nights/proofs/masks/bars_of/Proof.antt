@@ -1,3 +1,5 @@
+-- `nights::masks::bars_of` meets its contract.
+use mathlib.Core.Path.{_≡_}
 use borrow.Author.Needs.{needs}
 use Rattle.nights.proofs.masks.bars_of.Statement.{statement}
 use Rattle.nights.proofs.masks.bars_of.Tie as tie
@@ -23,7 +25,11 @@ barred-days-requires-4 c κs = search needs
 
 -- src/masks.rt:99:1
 returns : tie.Need-returns
-returns c = ?
+returns c = let e1 = c .before .before .before .barred-days .ensures in
+    let e2 = c .before .before .barred-days2 .ensures in
+    let e3 = c .before .barred-days3 .ensures in
+    let e4 = c .barred-days4 .ensures in
+    rw (e1, e2, e3, e4)
 
 pub bars-of-spec : {M : Type 1} → statement M
 bars-of-spec =

@@ -1,3 +1,9 @@
+-- `nights::masks::masks_by` meets its contract: each field is what its call says.
+use mathlib.Core.Path.{_≡_, ap, _∙_}
+use Prim.Native.Nat.{ℕ, _-_, _^_}
+use native.Mathlib.Omega.{arith}
+use lib.Pow.{pow-pos}
+use Rattle.nights.proofs.MaskLaws.{masks-made, masks-small}
 use borrow.Author.Needs.{needs}
 use Rattle.nights.proofs.masks.masks_by.Statement.{statement}
 use Rattle.nights.proofs.masks.masks_by.Tie as tie
@@ -28,7 +34,7 @@ bit-requires c κs = search needs
 
 -- src/masks.rt:148:16
 sub-near : tie.Need-sub-near
-sub-near c = ?
+sub-near c = omega (arith, c .bit .ensures, pow-pos (c .before .near-days .result))
 
 -- src/masks.rt:151:19
 workable-days-requires : tie.Need-workable-days-requires
@@ -60,7 +66,11 @@ shared-slice-read-t20 c = search needs
 
 -- src/masks.rt:139:1
 returns : tie.Need-returns
-returns c = ?
+returns c = let s = c .before .before .before .before .before .before .before .before .before .before .before .before .args in
+    let near = ap (λ (x : ℕ). x - 1) (c .before .before .before .before .before .before .before .bit .ensures ∙ ap (λ (k : ℕ). 2 ^ k) (c .before .before .before .before .before .before .before .before .near-days .ensures .0)) in (
+      masks-made (s .r) (s .n) (s .b .now) _ _ _ _ _ (c .before .before .before .before .before .before .before .before .before .last-run .result) (c .before .before .before .before .before .before .before .before .before .before .bars-of .ensures) (c .before .before .before .before .before .before .workable-days .ensures) (c .before .before .before .before .one-if .ensures) (c .before .before .one-if2 .ensures) near (c .before .before .before .before .before .before .before .before .before .last-run .ensures .0),
+      masks-small (s .r) (s .n) (s .b .now) _ _ _ _ _ (c .before .before .before .before .before .before .before .before .before .last-run .result) (c .before .before .before .before .before .before .before .before .before .before .bars-of .ensures) (c .before .before .before .before .before .before .workable-days .ensures) (c .before .before .before .before .one-if .ensures) (c .before .before .one-if2 .ensures) (c .before .before .before .before .before .before .before .before .before .before .before .before .pre .1 .0) (c .before .before .before .before .before .before .before .before .before .last-run .ensures .1),
+    )
 
 pub masks-by-spec : {M : Type 1} → statement M
 masks-by-spec =

@@ -1,3 +1,11 @@
+-- `nights::masks::masks_of` meets its contract: the part that it lends is the nurse's block.
+use Prim.Native.Nat.{ℕ}
+use mathlib.Core.Path.{_≡_, refl, ap₂, _∙_}
+use mathlib.Core.List.{List}
+use Rattle.ward.specs.Fields.{days}
+use Rattle.nights.specs.declared.Rules.{Rules}
+use Rattle.nights.specs.Masks.{masksOf}
+use Rattle.nights.proofs.BlockLaws.{small-rules, block-part, part-block}
 use borrow.Author.Needs.{needs}
 use Rattle.nights.proofs.masks.masks_of.Statement.{statement}
 use Rattle.nights.proofs.masks.masks_of.Tie as tie
@@ -49,11 +57,18 @@ part-masks-by-end c = search needs
 
 -- src/masks.rt:170:5
 masks-by-requires : tie.Need-masks-by-requires
-masks-by-requires c κs = ?
+masks-by-requires c κs = let w = c .before .before .before .before .before .before .args .w .now in
+    let ok = c .before .before .before .before .before .before .pre .0 in
+    let at = c .before .before .before .before .block-at .ensures .0 in
+    (rw (c .before .before .rules-of .ensures) (small-rules w ok), (ok .days-most, part-block w (c .before .before .before .before .before .before .args .i) _ _ ok (c .before .before .before .before .before .before .pre .1) at refl))
 
 -- src/masks.rt:162:1
 returns : tie.Need-returns
-returns c = ?
+returns c = let w = c .before .before .before .before .before .before .before .args .w .now in (
+      c .masks-by .ensures .0
+          ∙ ap₂ (λ (r : Rules) (b : List ℕ). masksOf r (days w) b) (c .before .before .before .rules-of .ensures) (block-part w (c .before .before .before .before .before .before .before .args .i) _ _ (c .before .before .before .before .before .block-at .ensures .0) refl),
+      c .masks-by .ensures .1,
+    )
 
 pub masks-of-spec : {M : Type 1} → statement M
 masks-of-spec =
