@@ -5,3 +5,4 @@ pub mod BlockLaws
 pub mod HersLaws
 pub mod MaskLaws
 pub mod NearLaws
+pub mod ListLaws

@@ -1,13 +1,15 @@
 -- The walk that finds the common list: over the days from the last to the first, not started before started.
+use mathlib.Core.Path.{_≡_}
 use mathlib.Core.Bool.{Bool, true, false, cond, _||_}
 use mathlib.Core.List.{List, [], _∷_, _++_}
-use Prim.Native.Nat.{ℕ, zero, suc, _+_, _-_, _^_, _≤_}
+use Prim.Native.Nat.{ℕ, zero, suc, _+_, _-_, _^_, _≤_, _<_}
 use lib.Dec.{leb, ltb, eqb}
+use lib.ListN.{length, getD}
 use Rattle.nights.specs.declared.Rules.{Rules}
 use Rattle.nights.specs.declared.common.State.{State}
 use Rattle.nights.specs.declared.common.Next.{Next}
 use Rattle.nights.specs.declared.common.Next.the-variants.{To, Never}
-use Rattle.nights.specs.Nights.{gap}
+use Rattle.nights.specs.Nights.{gap, inCommon}
 
 -- a run has a start, and the gaps are small enough to count with
 pub record Small (r : Rules) : Type 0 where
@@ -42,3 +44,7 @@ onward Never f = []
 unfoldable pub listed : Rules → ℕ → ℕ → State → List ℕ
 listed r zero a s = cond (closed r (s .run) (s .dist)) (a ∷ []) []
 listed r (suc d) a s = listed r d a s ++ onward (startAt r (suc d) s) (λ t. listed r d (a + 2 ^ d) t)
+
+-- each of these is in the common list
+unfoldable pub Among : Rules → ℕ → List ℕ → Type 0
+Among r n xs = (k : ℕ) → k < length xs → (getD xs k 0 < 2 ^ n) × (inCommon r n (getD xs k 0) ≡ true)

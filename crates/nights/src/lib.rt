@@ -2,6 +2,7 @@
 pub mod common;
 pub mod hers;
 pub mod masks;
+pub mod some;
 
 ghost use mathlib.Core.Path.{_≡_};
 ghost use Rattle.ward.specs.Fields.{Accepted};
