@@ -2,3 +2,4 @@ pub mod Nights
 pub mod Hers
 pub mod Walk
 pub mod Masks
+pub mod Shown
