@@ -1,7 +1,7 @@
 pub mod WalkLaws
 pub mod CommonLaws
 pub mod StartLaws
-pub mod BlockLaws
+pub mod AcceptedLaws
 pub mod HersLaws
 pub mod MaskLaws
 pub mod NearLaws

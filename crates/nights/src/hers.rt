@@ -4,7 +4,7 @@ use crate::Rules;
 ghost use mathlib.Core.Path.{_≡_};
 ghost use Prim.Native.Nat.{_+_, _≤_, _<_};
 ghost use lib.ListN.{length};
-ghost use Rattle.ward.specs.Fields.{Accepted, Block, nurses, days, blockAt};
+ghost use Rattle.ward.specs.Fields.{Accepted, Block, nurses};
 ghost use Rattle.rows.specs.Rows.{marksAllow};
 ghost use Rattle.nights.specs.Nights.{allowed, runWith, follow, starts};
 ghost use Rattle.nights.specs.Walk.{Small};
@@ -138,23 +138,11 @@ fn is_hers_by(r: Rules, n: u64, b: &[u64], p: u32) -> bool
     false
 }
 
-// Where nurse i's numbers begin.
-pub(crate) fn block_at(w: &[u64], i: usize) -> usize
-    requires { ⌜ Accepted (now w) ⌝ }
-    requires { ⌜ i < nurses (now w) ⌝ }
-    ensures is { λ a. ⌜ a ≡ blockAt (now (w .entry)) i ⌝ }
-    ensures fits { λ a. ⌜ a + 11 + days (now (w .entry)) ≤ length (now (w .entry)) ⌝ }
-{
-    16 + i * (11 + w[1] as usize)
-}
-
 // Whether p is in nurse i's list.
 pub fn is_hers(w: &[u64], i: usize, p: u32) -> bool
     requires { ⌜ Accepted (now w) ⌝ }
     requires { ⌜ i < nurses (now w) ⌝ }
     ensures { λ h. ⌜ h ≡ hersOf (now (w .entry)) i p ⌝ }
 {
-    let a = block_at(w, i);
-    let e = a + 11 + w[1] as usize;
-    is_hers_by(crate::rules_of(w), w[1], &w[a..e], p)
+    is_hers_by(crate::rules_of(w), w[1], ward::fields::block(w, i), p)
 }

@@ -165,9 +165,7 @@ pub fn masks_of(w: &[u64], i: usize) -> Masks
     ensures is { λ m. ⌜ m ≡ masksOf (rulesOf (now (w .entry))) (days (now (w .entry))) (block (now (w .entry)) i) ⌝ }
     ensures small { λ m. ⌜ Masked m ⌝ }
 {
-    let a = hers::block_at(w, i);
-    let e = a + 11 + w[1] as usize;
-    masks_by(crate::rules_of(w), w[1], &w[a..e])
+    masks_by(crate::rules_of(w), w[1], ward::fields::block(w, i))
 }
 
 // The days of a row, day 0 with them: N, n and R.

@@ -7,7 +7,7 @@ use Rattle.ward.specs.Fields.{days, block}
 use Rattle.nights.specs.declared.Rules.{Rules}
 use Rattle.nights.specs.Nights.{rulesOf, follow, starts}
 use Rattle.nights.specs.Hers.{shifted}
-use Rattle.nights.proofs.BlockLaws.{small-rules}
+use Rattle.nights.proofs.AcceptedLaws.{rules-small}
 use Rattle.nights.proofs.NearLaws.{out-marks, out-few, out-many, by-run, by-distance}
 use borrow.Author.Needs.{needs}
 use Rattle.nights.proofs.masks.passes.Statement.{statement}
@@ -70,7 +70,7 @@ shared-slice-read-keeps c = search needs
 -- src/masks.rt:234:5
 keeps-requires : tie.Need-keeps-requires
 keeps-requires c κs = let w = c .before .before .before .before .before .before .before .before .before .before .before .before .args .w .now in
-    (rw (c .before .rules-of .ensures) (small-rules w (c .before .before .before .before .before .before .before .before .before .before .before .before .pre .0)), (c .before .before .before .before .before .before .before .before .before .before .before .before .pre .0 .days-most, omega arith, c .before .before .before .before .before .before .before .before .before .before .before .before .pre .1 .prev, c .before .before .before .before .before .before .before .before .before .before .before .before .pre .1 .run))
+    (rules-small w _ (c .before .before .before .before .before .before .before .before .before .before .before .before .pre .0) (c .before .rules-of .ensures), (c .before .before .before .before .before .before .before .before .before .before .before .before .pre .0 .days-most, omega arith, c .before .before .before .before .before .before .before .before .before .before .before .before .pre .1 .prev, c .before .before .before .before .before .before .before .before .before .before .before .before .pre .1 .run))
 
 -- src/masks.rt:216:1
 returns-5 : tie.Need-returns-5

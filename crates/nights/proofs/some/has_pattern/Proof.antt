@@ -7,7 +7,7 @@ use Rattle.ward.specs.Fields.{days}
 use Rattle.nights.specs.declared.Rules.{Rules}
 use Rattle.nights.specs.Nights.{rulesOf}
 use Rattle.nights.specs.Walk.{listed}
-use Rattle.nights.proofs.BlockLaws.{small-rules}
+use Rattle.nights.proofs.AcceptedLaws.{rules-small}
 use Rattle.nights.proofs.CommonLaws.{walk-from}
 use Rattle.nights.proofs.ListLaws.{some-of-list}
 use borrow.Author.Needs.{needs}
@@ -41,7 +41,7 @@ some-requires : tie.Need-some-requires
 some-requires c κs = let w = c .before .before .before .before .before .args .w .now in
     let ok = c .before .before .before .before .before .pre .0 in
     let fits = pow-mono {i = days w} {j = 31} (ok .days-most) in
-    (ok .days-most, (omega (arith, fits), (rw (c .rules-of .ensures) (small-rules w ok), (ok, c .before .before .before .masks-of .ensures .1))))
+    (ok .days-most, (omega (arith, fits), (rules-small w _ ok (c .rules-of .ensures), (ok, c .before .before .before .masks-of .ensures .1))))
 
 -- src/some.rt:48:1
 returns : tie.Need-returns
