@@ -195,6 +195,7 @@ range-each t a n e i l h =
     let q : a + k ≡ i = omega arith in
     let inside : k < n = omega arith in
     ap t (sym (range-at a n k inside ∙ q)) ∙ all-at t (upFrom a n) e k (rw (length-range a n) inside)
+
 pub all-range : (t : ℕ → Bool) (a n : ℕ) → ((i : ℕ) → i < n → t (a + i) ≡ true) → all t (upFrom a n) ≡ true
 unfolding all upFrom
 all-range t a zero h = refl

@@ -13,3 +13,4 @@ pub mod StoredLaws
 pub mod AdvanceLaws
 pub mod BestLaws
 pub mod QuestionLaws
+pub mod SeekLaws

@@ -4,3 +4,4 @@ pub mod Record
 pub mod Claim
 pub mod Stored
 pub mod Walk
+pub mod Seek

@@ -1,6 +1,8 @@
 // The search, for any phase: its record, what a step makes of it, and which exchange a step takes.
 pub mod best;
 mod removals;
+mod slots;
+pub mod tries;
 mod unused;
 
 ghost use mathlib.Core.Path.{_≡_};

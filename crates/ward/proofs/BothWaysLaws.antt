@@ -69,9 +69,10 @@ module _ (buffer : List ℕ) where
   back file (good ws) e a y l =
       let b = ward-back file ws a e in
       let room : length (bytesOf ws) ≤ length buffer = subst (λ (x : List ℕ). length x ≤ length buffer) (sym (b .0)) l in
-      let c : checkWard (counted (readingOf (good ws) .ward)) ≡ good ws = ap checkWard (counted-read ws) ∙ b .1 in
-      ( ap (writingOf (length buffer)) c ∙ simp (le-ltb _ _ room) (ap (λ (x : List ℕ). record { answer = Yes; bytes = length x }) (b .0))
-      , ap (leftOf buffer) c ∙ simp (le-ltb _ _ room) (ap (λ (x : List ℕ). x ++ drop (length x) buffer) (b .0)) )
+      let c : checkWard (counted (readingOf (good ws) .ward)) ≡ good ws = ap checkWard (counted-read ws) ∙ b .1 in (
+        ap (writingOf (length buffer)) c ∙ simp (le-ltb _ _ room) (ap (λ (x : List ℕ). record { answer = Yes; bytes = length x }) (b .0)),
+        ap (leftOf buffer) c ∙ simp (le-ltb _ _ room) (ap (λ (x : List ℕ). x ++ drop (length x) buffer) (b .0)),
+      )
   back file (bad q p) e a y l = absurd (no-yes q p y)
 
 pub both-ways : BothWays

@@ -168,10 +168,7 @@ pub fn write(ward: Ward, buf: &mut [u8]) -> Writing
                 i += 1;
             }
             let answer = Answer::Yes;
-            Writing {
-                answer,
-                bytes: at,
-            }
+            Writing { answer, bytes: at }
         }
     }
 }

@@ -36,9 +36,9 @@ masks-by-requires c κs = let w = c .before .before .before .before .args .w .no
 -- src/masks.rt:162:1
 returns : tie.Need-returns
 returns c = let w = c .before .before .before .before .before .args .w .now in (
-      c .masks-by .ensures .0 ∙ ap₂ (λ (r : Rules) (b : List ℕ). masksOf r (days w) b) (c .before .before .before .rules-of .ensures) (c .before .block .ensures),
-      c .masks-by .ensures .1,
-    )
+  c .masks-by .ensures .0 ∙ ap₂ (λ (r : Rules) (b : List ℕ). masksOf r (days w) b) (c .before .before .before .rules-of .ensures) (c .before .block .ensures),
+  c .masks-by .ensures .1,
+)
 
 pub masks-of-spec : {M : Type 1} → statement M
 masks-of-spec =

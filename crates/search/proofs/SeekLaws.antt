@@ -1,0 +1,195 @@
+-- Laws of the two searches: the sets, columns and costs that their loops make.
+use Prim.Native.Nat.{ℕ, zero, suc, _+_, _-_, _*_, _^_, _≤_, _<_}
+use mathlib.Core.Path.{_≡_, refl, sym, ap, ap₂, _∙_, subst, fun-ext}
+use mathlib.Core.Bool.{Bool, true, false, cond, not, _&&_}
+use mathlib.Core.List.{List, [], _∷_}
+use mathlib.Core.Option.{Option, none, some}
+use native.Mathlib.Omega.{arith}
+use native.Mathlib.Nat.{add-zero}
+use lib.Dec.{eqb, ltb}
+use lib.Pow.{pow-mono, pow-lt}
+use lib.ListN.{length, getD, take, drop}
+use borrow.Author.Tests.{lt-ltb, eq-eqb, ne-eqb}
+use Rattle.numbers.specs.Sum.{sumTo, countTo, oneIf, Is}
+use Rattle.numbers.specs.Digits.{has, numberOf}
+use Rattle.numbers.proofs.SumLaws.{sum-ext}
+use Rattle.numbers.proofs.DigitLaws.{number-lt, number-suc}
+use Rattle.ward.specs.Fields.{Accepted, Block, nurses, days, tabu, block, markOn}
+use Rattle.nights.specs.declared.masks.Masks.{Masks}
+use Rattle.nights.specs.Nights.{rulesOf, commonOf, inCommon}
+use Rattle.nights.specs.Hers.{hersOf}
+use Rattle.nights.specs.Masks.{masksOf, AvailableDays}
+use Rattle.nights.proofs.AcceptedLaws.{block-is}
+use Rattle.nights.proofs.ListLaws.{common-below, common-keeps}
+use Rattle.penalty.specs.declared.Penalty.{Penalty}
+use Rattle.penalty.specs.declared.columns.Columns.{Columns}
+use Rattle.penalty.specs.declared.costs.Costs.{Costs}
+use Rattle.penalty.specs.Penalty.{Slot, Parts, partsOf, total, rest, isNone, unplacedIn, unplacedCost, exchanged, startsIn, workedIn, nightParts, dayParts, nightPenalty, dayPenalty}
+use Rattle.penalty.specs.Columns.{ShownNight, ShownDay, Empty, NursePut, Frees}
+use Rattle.penalty.specs.Costs.{TrialsNight, TrialsDay, trialOf}
+use Rattle.penalty.proofs.ColumnLaws.{night-none, night-more, day-none, day-more}
+use Rattle.penalty.proofs.BoundLaws.{night-split, day-split, unplaced-after}
+use Rattle.search.specs.Phase.{Phase, Step}
+use Rattle.search.specs.Record.{mayTake, costAfter}
+use Rattle.search.specs.Stored.{slot, slotAt, view, viewOf}
+use Rattle.search.specs.Walk.{overList, costIn, considered, improves}
+use Rattle.search.specs.Seek.{costOf, restOf, patternFor, Shown, Trials, Agree, stretch, triedBy, Lists, Seeks}
+use Rattle.search.proofs.BestLaws.{turn-barred, turn-worse, turn-considered}
+use Rattle.search.specs.declared.Record.{Record as Stored}
+use Rattle.search.specs.declared.best.Best.{Best}
+
+-- ---- a set of days, one day more
+
+module _ (t : ℕ → Bool) (d : ℕ) {s : ℕ} (e : s ≡ numberOf t d) where
+  pub set-yes : {x : ℕ} → x ≡ 2 ^ d → t d ≡ true → s + x ≡ numberOf t (d + 1)
+  set-yes q b = ap₂ (λ (y z : ℕ). y + z) e q ∙ sym (number-suc t d ∙ rw b)
+
+  pub set-no : t d ≡ false → s ≡ numberOf t (d + 1)
+  set-no b = e ∙ sym (number-suc t d ∙ rw b (add-zero _))
+
+  pub set-fits : {x : ℕ} → x ≡ 2 ^ d → d < 31 → s + x < 2 ^ 32
+  set-fits {x} q l =
+      let a : numberOf t d < 2 ^ d = number-lt t d in
+      let k : d ≤ 31 = omega arith in
+      let b : 2 ^ d ≤ 2 ^ 31 = pow-mono k in
+      omega arith
+
+pub agree-at : (w : List ℕ) (r : Stored) (slots : ℕ → Slot) (i : ℕ) → Agree w r slots → i < nurses w → slots i ≡ slotAt r i
+unfolding Agree
+agree-at w r slots i a l = a i l
+
+-- ---- a slot's pattern
+
+pub block-of : (w : List ℕ) (i : ℕ) {b : List ℕ} {n : ℕ} → Accepted w → i < nurses w → b ≡ block w i → (n ≡ days w) × (n ≤ 31) → Block b n × (n ≤ 31)
+block-of w i {b} a l e q = (subst (λ (k : ℕ). Block b k) (sym (q .0)) (block-is w i b a l e), q .1)
+
+module _ (w : List ℕ) (r : Stored) (i : ℕ) where
+  pub pattern-placed : (daily : Bool) → getD (r .placed) i false ≡ true → getD (r .patterns) i 0 ≡ patternFor daily w i (slotAt r i)
+  pattern-placed true e = rw e
+  pattern-placed false e = rw e
+
+  pub pattern-days : {p n : ℕ} {b : List ℕ} (daily : Bool) → getD (r .placed) i false ≡ false → daily ≡ true → n ≡ days w → b ≡ block w i
+      → p ≡ numberOf (λ d. eqb (markOn b (suc d)) 2) n → p ≡ patternFor daily w i (slotAt r i)
+  pattern-days daily e d x y q = rw (d, e) (q ∙ rw (x, y))
+
+  pub pattern-nights : {p n : ℕ} {b : List ℕ} (daily : Bool) → getD (r .placed) i false ≡ false → daily ≡ false → n ≡ days w → b ≡ block w i
+      → p ≡ numberOf (λ d. eqb (markOn b (suc d)) 3) n → p ≡ patternFor daily w i (slotAt r i)
+  pattern-nights daily e d x y q = rw (d, e) (q ∙ rw (x, y))
+
+-- ---- columns
+
+module _ (w : List ℕ) (r : Stored) (i : ℕ) (cols : Columns) (slots : ℕ → Slot) where
+  pub row-day : (daily : Bool) {p n : ℕ} {c : Columns} → daily ≡ true → n ≡ days w → p ≡ patternFor daily w i (slotAt r i) → NursePut cols c n i 0 p
+      → slots i ≡ slotAt r i → Shown daily w slots i cols → Shown daily w slots (i + 1) c
+  row-day true {p} {n} {c} d e q x a s = day-more w slots i cols c s (q ∙ ap (workedIn w i) (sym a)) (subst (λ (k : ℕ). NursePut cols c k i 0 p) e x)
+  row-day false d e q x a s = absurd (no d)
+    where
+      no : _≡_ {A = Bool} false true → ⊥
+      no z = let y : _≡_ {A = ℕ} 0 1 = cc in omega arith
+
+  pub row-night : (daily : Bool) {p n f : ℕ} {c : Columns} {m : Masks} → daily ≡ false → n ≡ days w → days w ≤ 31 → p ≡ patternFor daily w i (slotAt r i)
+      → m ≡ masksOf (rulesOf w) (days w) (block w i)
+      → ((k : ℕ) (b : List ℕ) → k ≤ 31 → m ≡ masksOf (rulesOf w) k b → AvailableDays b k p f)
+      → NursePut cols c n i p f → slots i ≡ slotAt r i → Shown daily w slots i cols → Shown daily w slots (i + 1) c
+  row-night true d e l q em av x a s = absurd (no d)
+    where
+      no : _≡_ {A = Bool} true false → ⊥
+      no z = let y : _≡_ {A = ℕ} 0 1 = cc in omega arith
+  row-night false {p} {n} {f} {c} d e l q em av x a s =
+      night-more w slots i cols c s (q ∙ ap (startsIn w i) (sym a)) (av (days w) (block w i) l em .each) (subst (λ (k : ℕ). NursePut cols c k i p f) e x)
+
+pub columns-end : (daily : Bool) (w : List ℕ) (slots : ℕ → Slot) (c : Columns) {i m : ℕ} → Shown daily w slots i c → i ≤ m → m ≤ i → m ≡ nurses w → Shown daily w slots (nurses w) c
+columns-end daily w slots c {i} {m} s l h e = let q : i ≡ nurses w = omega arith in subst (λ (k : ℕ). Shown daily w slots k c) q s
+
+pub columns-start : (daily : Bool) (w : List ℕ) (slots : ℕ → Slot) (c : Columns) → Empty c → Shown daily w slots 0 c
+columns-start true w slots c e = day-none w slots c e
+columns-start false w slots c e = night-none w slots c e
+
+-- ---- the penalty
+
+-- the unplaced nurses of a record
+pub unplaced-is : (w : List ℕ) (r : Stored) (slots : ℕ → Slot) {m : ℕ} → m ≡ nurses w → Agree w r slots
+    → countTo m (λ i. not (getD (r .placed) i false)) ≡ unplacedIn w slots
+unfolding unplacedIn Agree
+unplaced-is w r slots e a =
+    ap (λ (k : ℕ). countTo k (λ i. not (getD (r .placed) i false))) e
+    ∙ sum-ext (nurses w) (λ i. oneIf (not (getD (r .placed) i false))) (λ i. oneIf (isNone (slots i)))
+    (λ i l. ap oneIf (sym (ap isNone (a i l) ∙ go (getD (r .placed) i false) (getD (r .patterns) i 0))))
+  where
+    go : (b : Bool) (p : ℕ) → isNone (slot b p) ≡ not b
+    go true p = refl
+    go false p = refl
+
+pub shown-day : (daily : Bool) (w : List ℕ) (slots : ℕ → Slot) (m : ℕ) (c : Columns) → daily ≡ true → Shown daily w slots m c → ShownDay w slots m c
+shown-day daily w slots m c d s = subst (λ (b : Bool). Shown b w slots m c) d s
+
+pub shown-night : (daily : Bool) (w : List ℕ) (slots : ℕ → Slot) (m : ℕ) (c : Columns) → daily ≡ false → Shown daily w slots m c → ShownNight w slots m c
+shown-night daily w slots m c d s = subst (λ (b : Bool). Shown b w slots m c) d s
+
+module _ (daily : Bool) (w : List ℕ) (r : Stored) (slots : ℕ → Slot) (cols : Columns) {m u : ℕ} (e : m ≡ nurses w)
+    (q : Is u (countTo m (λ i. not (getD (r .placed) i false))) 48) (a : Agree w r slots)
+    (s : (l : ℕ → Slot) → Agree w r l → Shown daily w l (nurses w) cols) where
+  waiting : u ≡ unplacedIn w slots
+  waiting = q .is ∙ unplaced-is w r slots e a
+
+  pub penalty-day : {x : ℕ} {y : Penalty} → daily ≡ true → x ≡ total (partsOf y)
+      → ((l : ℕ → Slot) → ShownDay w l (nurses w) cols → u ≡ unplacedIn w l → partsOf y ≡ dayParts w l) → x ≡ costOf daily w slots
+  unfolding dayPenalty
+  penalty-day d f g = rw d (f ∙ ap total (g slots (shown-day daily w slots (nurses w) cols d (s slots a)) waiting))
+
+  pub penalty-night : {x : ℕ} {y : Penalty} → daily ≡ false → x ≡ total (partsOf y)
+      → ((l : ℕ → Slot) → ShownNight w l (nurses w) cols → u ≡ unplacedIn w l → partsOf y ≡ nightParts w l) → x ≡ costOf daily w slots
+  unfolding nightPenalty
+  penalty-night d f g = rw d (f ∙ ap total (g slots (shown-night daily w slots (nurses w) cols d (s slots a)) waiting))
+
+-- ---- a nurse's trials
+
+-- each pattern of the common list is one of the month's, and keeps the rule
+pub common-at : (w list : List ℕ) (k : ℕ) → list ≡ commonOf w → k < length list
+    → (getD list k 0 < 2 ^ days w) × (inCommon (rulesOf w) (days w) (getD list k 0) ≡ true)
+common-at w list k e l =
+    let h : k < length (commonOf w) = subst (λ (xs : List ℕ). k < length xs) e l in
+    subst (λ (xs : List ℕ). (getD xs k 0 < 2 ^ days w) × (inCommon (rulesOf w) (days w) (getD xs k 0) ≡ true)) (sym e)
+    (common-below (rulesOf w) (days w) k h, common-keeps (rulesOf w) (days w) k h)
+
+-- what a trial by the table costs by night
+pub night-cost : (w : List ℕ) (slots : ℕ → Slot) (i others p : ℕ) (costs : Costs) {n x free b : ℕ} {m : Masks}
+    → TrialsNight w slots i costs → n ≡ days w → days w ≤ 31 → m ≡ masksOf (rulesOf w) (days w) (block w i)
+    → ((k : ℕ) (b : List ℕ) → k ≤ 31 → m ≡ masksOf (rulesOf w) k b → AvailableDays b k p free)
+    → Is x (trialOf costs n p free) b → x + 10000000 * others ≡ rest (nightParts w (exchanged slots i p)) + 10000000 * others
+night-cost w slots i others p costs {n} {x} {free} t e l em av q =
+    ap (λ (y : ℕ). y + 10000000 * others) (q .is ∙ ap (λ (k : ℕ). trialOf costs k p free) e ∙ t .afresh p free (av (days w) (block w i) l em .each))
+
+module _ (hers may : ℕ → Bool) (cost : ℕ → ℕ) (i : ℕ) (b₀ : Best) (ps : List ℕ) (k : ℕ) {b : Best} (l : k < length ps)
+    (e : b ≡ overList (λ p. hers p && may p) cost i b₀ (take k ps)) where
+  -- a pattern that is not hers
+  pub not-hers : {h : Bool} → h ≡ hers (getD ps k 0) → h ≡ false → b ≡ overList (λ p. hers p && may p) cost i b₀ (take (k + 1) ps)
+  not-hers q f = turn-barred (λ p. hers p && may p) cost i b₀ ps k l e (sym (rw (sym q ∙ f))) refl
+
+  -- one that is, and does not improve
+  pub no-better : {c : ℕ} {t : Bool} → c ≡ cost (getD ps k 0) → t ≡ improves b c → t ≡ false → b ≡ overList (λ p. hers p && may p) cost i b₀ (take (k + 1) ps)
+  no-better q s f = turn-worse (λ p. hers p && may p) cost i b₀ ps k l e q s f
+
+  -- one that is, considered
+  pub hers-considered : {h : Bool} {c : ℕ} {b′ : Best} → h ≡ hers (getD ps k 0) → h ≡ true → c ≡ cost (getD ps k 0)
+      → b′ ≡ considered may (λ q. c) i b (getD ps k 0) → b′ ≡ overList (λ p. hers p && may p) cost i b₀ (take (k + 1) ps)
+  hers-considered r y q s = turn-considered (λ p. hers p && may p) cost i b₀ ps k l e q (rw (sym r ∙ y) s)
+
+-- ---- the unplaced besides her
+
+pub others-placed : {b : Bool} (u a : ℕ) → b ≡ true → u ≡ a + oneIf (not b) → u ≡ a
+others-placed u a e q = (rw e at q) ∙ add-zero a
+
+pub others-unplaced : {b : Bool} (u a : ℕ) → b ≡ false → u ≡ a + oneIf (not b) → u ≡ a + 1
+others-unplaced u a e q = rw e at q
+
+-- ---- her table
+
+module _ (daily : Bool) (w : List ℕ) (cols : Columns) (i : ℕ) {c : Costs} where
+  pub trials-day : daily ≡ true → ((l : ℕ → Slot) → ShownDay w l (nurses w) cols → TrialsDay w l i c)
+      → (slots : ℕ → Slot) → Shown daily w slots (nurses w) cols → Trials daily w slots i c
+  trials-day d f slots s = subst (λ (b : Bool). Trials b w slots i c) (sym d) (f slots (shown-day daily w slots (nurses w) cols d s))
+
+  pub trials-night : daily ≡ false → ((l : ℕ → Slot) → ShownNight w l (nurses w) cols → TrialsNight w l i c)
+      → (slots : ℕ → Slot) → Shown daily w slots (nurses w) cols → Trials daily w slots i c
+  trials-night d f slots s = subst (λ (b : Bool). Trials b w slots i c) (sym d) (f slots (shown-night daily w slots (nurses w) cols d s))

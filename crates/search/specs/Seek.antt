@@ -1,0 +1,68 @@
+-- The two searches that the code makes, by night and by day: what they cost, what a nurse tries, and which phases they serve.
+use Prim.Native.Nat.{ℕ, zero, suc, _+_, _-_, _≤_, _<_}
+use mathlib.Core.Path.{_≡_}
+use mathlib.Core.Bool.{Bool, true, false}
+use mathlib.Core.List.{List}
+use lib.ListN.{length, getD, take, drop}
+use Rattle.numbers.specs.Range.{keep, Ascending}
+use Rattle.ward.specs.Fields.{nurses, tabu}
+use Rattle.nights.specs.Nights.{commonOf}
+use Rattle.nights.specs.Hers.{hersOf}
+use Rattle.penalty.specs.declared.columns.Columns.{Columns}
+use Rattle.penalty.specs.declared.costs.Costs.{Costs}
+use Rattle.penalty.specs.Penalty.{Slot, rest, startsIn, workedIn, nightParts, dayParts, nightPenalty, dayPenalty}
+use Rattle.penalty.specs.Columns.{ShownNight, ShownDay}
+use Rattle.penalty.specs.Costs.{TrialsNight, TrialsDay}
+use Rattle.search.specs.Phase.{Phase}
+use Rattle.search.specs.Stored.{slotAt}
+use Rattle.search.specs.declared.Record.{Record as Stored}
+
+-- the penalty of everyone's slots
+abbrev pub costOf : Bool → List ℕ → (ℕ → Slot) → ℕ
+costOf true w slots = dayPenalty w slots
+costOf false w slots = nightPenalty w slots
+
+-- what is short and over in it
+abbrev pub restOf : Bool → List ℕ → (ℕ → Slot) → ℕ
+restOf true w slots = rest (dayParts w slots)
+restOf false w slots = rest (nightParts w slots)
+
+-- the days that a slot counts on: her pattern, or her marks while she is unplaced
+abbrev pub patternFor : Bool → List ℕ → ℕ → Slot → ℕ
+patternFor true w i s = workedIn w i s
+patternFor false w i s = startsIn w i s
+
+abbrev pub Shown : Bool → List ℕ → (ℕ → Slot) → ℕ → Columns → Type 0
+Shown true w slots m c = ShownDay w slots m c
+Shown false w slots m c = ShownNight w slots m c
+
+abbrev pub Trials : Bool → List ℕ → (ℕ → Slot) → ℕ → Costs → Type 0
+Trials true w slots i c = TrialsDay w slots i c
+Trials false w slots i c = TrialsNight w slots i c
+
+-- these slots are those of a stored record, as far as there are nurses
+unfoldable pub Agree : List ℕ → Stored → (ℕ → Slot) → Type 0
+Agree w r slots = (i : ℕ) → i < nurses w → slots i ≡ slotAt r i
+
+-- nurse i's stretch of the lists
+abbrev pub stretch : List ℕ → List ℕ → ℕ → List ℕ
+stretch lists ends i = take (getD ends (i + 1) 0 - getD ends i 0) (drop (getD ends i 0) lists)
+
+-- what nurse i tries: by day her stretch, by night what is hers of the common list
+abbrev pub triedBy : Bool → List ℕ → List ℕ → List ℕ → ℕ → List ℕ
+triedBy true w lists ends i = stretch lists ends i
+triedBy false w lists ends i = keep (hersOf w i) lists
+
+-- the lists as the loops over them need them
+pub record Lists (byDay : Bool) (w lists ends : List ℕ) : Type 0 where
+  pub common-list : byDay ≡ false → lists ≡ commonOf w
+  pub begins : byDay ≡ true → (i : ℕ) → i < nurses w → getD ends i 0 ≤ getD ends (i + 1) 0
+  pub finishes : byDay ≡ true → (i : ℕ) → i < nurses w → getD ends (i + 1) 0 ≤ length lists
+
+-- a phase that the search over these lists serves
+pub record Seeks (byDay : Bool) (w lists ends : List ℕ) (P : Phase) : Type 0 where
+  pub nurses-are : P .nurses ≡ nurses w
+  pub tabu-is : P .tabu ≡ tabu w
+  pub cost-is : (slots : ℕ → Slot) → P .cost slots ≡ costOf byDay w slots
+  pub patterns-are : (i : ℕ) → i < nurses w → P .patterns i ≡ triedBy byDay w lists ends i
+  pub ascending : (i : ℕ) → i < P .nurses → Ascending (P .patterns i)

@@ -1,0 +1,110 @@
+// What a record's slots count on: everyone's columns and the penalty.
+use crate::Record;
+use penalty::columns::Columns;
+ghost use mathlib.Core.Path.{_≡_};
+ghost use mathlib.Core.Bool.{Bool, false, not};
+ghost use Prim.Native.Nat.{ℕ, suc, _+_, _≤_, _<_};
+ghost use lib.Dec.{eqb};
+ghost use lib.ListN.{getD};
+ghost use Rattle.numbers.specs.Sum.{countTo, oneIf, Is};
+ghost use Rattle.numbers.specs.Digits.{numberOf};
+ghost use Rattle.ward.specs.Fields.{Accepted, Block, nurses, markOn};
+ghost use Rattle.penalty.specs.Penalty.{Slot};
+ghost use Rattle.search.specs.Stored.{slotAt};
+ghost use Rattle.search.specs.Seek.{costOf, patternFor, Shown, Agree};
+
+// The days with this mark, as a set.
+fn marked_days(b: &[u64], n: usize, mark: u64) -> u32
+    requires { ⌜ Block (now b) n × (n ≤ 31) ⌝ }
+    ensures { λ r. ⌜ r ≡ numberOf (λ d. eqb (markOn (now (b .entry)) (suc d)) mark) n ⌝ }
+{
+    let mut set: u32 = 0;
+    let mut d: usize = 0;
+    while d < n {
+        if b[11 + d] == mark {
+            set = set + numbers::bit(d as u64);
+        }
+        d += 1;
+    }
+    set
+}
+
+// Nurse i's pattern, or while she is unplaced her marks 3 by night and her marks 2 by day.
+fn pattern_in(w: &[u64], rec: Record, i: usize, daily: bool) -> u32
+    requires { ⌜ Accepted (now w) × (i < nurses (now w)) ⌝ }
+    ensures { λ r. ⌜ r ≡ patternFor daily (now (w .entry)) i (slotAt rec i) ⌝ }
+{
+    if rec.placed[i] {
+        return rec.patterns[i];
+    }
+    let n = ward::fields::days(w);
+    let b = ward::fields::block(w, i);
+    if daily {
+        return marked_days(b, n, 2);
+    }
+    marked_days(b, n, 3)
+}
+
+// The columns of the nurses before i, with nurse i.
+fn with_row(cols: Columns, w: &[u64], rec: Record, i: usize, daily: bool) -> Columns
+    requires { ⌜ Accepted (now w) × (i < nurses (now w)) ⌝ }
+    ensures { λ r. ⌜ ((slots : ℕ → Slot) → slots i ≡ slotAt rec i → Shown daily (now (w .entry)) slots i cols → Shown daily (now (w .entry)) slots (i + 1) r) ⌝ }
+{
+    let n = ward::fields::days(w);
+    let p = pattern_in(w, rec, i, daily);
+    if daily {
+        return cols.with_nurse(n, i, 0, p);
+    }
+    let m = nights::masks::masks_of(w, i);
+    let free = nights::masks::available_days(m, p);
+    cols.with_nurse(n, i, p, free)
+}
+
+// Everyone's columns.
+pub(crate) fn columns(w: &[u64], rec: Record, daily: bool) -> Columns
+    requires { ⌜ Accepted (now w) ⌝ }
+    ensures { λ r. ⌜ ((slots : ℕ → Slot) → Agree (now (w .entry)) rec slots → Shown daily (now (w .entry)) slots (nurses (now (w .entry))) r) ⌝ }
+{
+    let m = ward::fields::nurses(w);
+    let mut cols = Columns::empty();
+    let mut i: usize = 0;
+    while i < m {
+        cols = with_row(cols, w, rec, i, daily);
+        i += 1;
+    }
+    cols
+}
+
+fn one_if(b: bool) -> u64
+    ensures { λ r. ⌜ (r ≡ oneIf b) × (r ≤ 1) ⌝ }
+{
+    if b { 1 } else { 0 }
+}
+
+// How many of the first m nurses are unplaced.
+pub(crate) fn unplaced(rec: Record, m: usize) -> u64
+    requires { ⌜ m ≤ 48 ⌝ }
+    ensures { λ r. ⌜ Is r (countTo m (λ i. not (getD (rec .placed) i false))) 48 ⌝ }
+{
+    let mut count: u64 = 0;
+    for i in 0..m {
+        count = count + one_if(!rec.placed[i]);
+    }
+    count
+}
+
+// The penalty of a record.
+pub(crate) fn penalty_of(w: &[u64], rec: Record, daily: bool) -> u64
+    requires { ⌜ Accepted (now w) ⌝ }
+    ensures { λ r. ⌜ ((slots : ℕ → Slot) → Agree (now (w .entry)) rec slots → r ≡ costOf daily (now (w .entry)) slots) ⌝ }
+{
+    let m = ward::fields::nurses(w);
+    let cols = columns(w, rec, daily);
+    let waiting = unplaced(rec, m);
+    if daily {
+        let parts = penalty::day_parts(w, cols, waiting);
+        return parts.total();
+    }
+    let parts = penalty::night_parts(w, cols, waiting);
+    parts.total()
+}
