@@ -1,11 +1,11 @@
 -- The penalty: what is short of the needs and lows, what is above the highs, and the nurses not yet placed.
 -- Nurses, groups and days count from 0 here; k is 0 for night and 1 for day.
-use mathlib.Core.Bool.{Bool, true, false, cond, not, _&&_}
-use mathlib.Core.List.{List, [], _∷_}
+use mathlib.Core.Bool.{Bool, true, false, cond, _&&_}
+use mathlib.Core.List.{List}
 use mathlib.Core.Option.{Option, none, some}
-use Prim.Native.Nat.{ℕ, zero, suc, _+_, _-_, _*_}
+use Prim.Native.Nat.{ℕ, suc, _+_, _-_, _*_}
 use lib.Dec.{eqb}
-use lib.ListN.{length, getD}
+use lib.ListN.{getD}
 use Rattle.numbers.specs.Sum.{sumTo, countTo}
 use Rattle.numbers.specs.Digits.{has, numberOf}
 use Rattle.ward.specs.Fields.{nurses, days, groups, weight, block, masks, needs, need, low, high}

@@ -2,11 +2,11 @@
 use mathlib.Core.Path.{_≡_}
 use mathlib.Core.Bool.{Bool, true, false, _&&_}
 use mathlib.Core.List.{List}
-use Prim.Native.Nat.{ℕ, zero, suc, _+_, _-_, _*_, _≤_, _<_}
+use Prim.Native.Nat.{ℕ, _+_, _-_, _*_, _≤_, _<_}
 use lib.ListN.{length, getD}
 use Rattle.numbers.specs.Sum.{sumTo, countTo, Is}
 use Rattle.numbers.specs.Digits.{has, put}
-use Rattle.ward.specs.Fields.{days, weight, masks, needs, need, low, high}
+use Rattle.ward.specs.Fields.{weight, masks, needs, need, low, high}
 use Rattle.penalty.specs.declared.Penalty.{Penalty}
 use Rattle.penalty.specs.declared.duty.Weights.{Weights}
 use Rattle.penalty.specs.declared.duty.Duty.{Duty}

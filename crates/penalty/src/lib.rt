@@ -1,4 +1,5 @@
 // The penalty of a choice of patterns: what is short, what is over, and who is unplaced.
+pub mod chunks;
 pub mod columns;
 pub mod costs;
 pub mod duty;
