@@ -13,9 +13,9 @@ use Rattle.ward.specs.Fields.{Accepted, nurses, days, groups, weight, masks, ne
 use Rattle.penalty.specs.declared.columns.Columns.{Columns}
 use Rattle.penalty.specs.declared.duty.Weights.{Weights}
 use Rattle.penalty.specs.declared.duty.Duty.{Duty}
-use Rattle.penalty.specs.Penalty.{Slot, partsOf, onDuty, members, shortOn, overOn, unplacedIn, atNight, free, atDay, nightParts, dayParts}
+use Rattle.penalty.specs.Penalty.{Slot, Bounded, partsOf, onDuty, members, shortOn, overOn, unplacedIn, atNight, free, atDay, nightParts, dayParts}
 use Rattle.penalty.specs.Columns.{Same, ShowsNight, ShowsDay}
-use Rattle.penalty.specs.Walk.{weightsOf, noHigh, Counts, Bounded, membersIn, needTerm, lowTerm, highTerm, groupTerm, dutyShort, dutyOver, dutyCost, shortIn, overIn, NightParts, DayParts, nightShortAt, nightOverAt, dayShortAt, dayOverAt}
+use Rattle.penalty.specs.Walk.{weightsOf, noHigh, Counts, membersIn, needTerm, lowTerm, highTerm, groupTerm, dutyShort, dutyOver, dutyCost, shortIn, overIn, NightParts, DayParts, nightShortAt, nightOverAt, dayShortAt, dayOverAt}
 use Rattle.penalty.proofs.FieldLaws.{length-masks}
 use Rattle.penalty.proofs.ColumnLaws.{count-same, all-same}
 
