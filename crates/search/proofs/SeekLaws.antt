@@ -26,17 +26,18 @@ use Rattle.penalty.specs.declared.columns.Columns.{Columns}
 use Rattle.penalty.specs.declared.costs.Costs.{Costs}
 use Rattle.penalty.specs.Penalty.{Slot, Parts, partsOf, total, rest, isNone, unplacedIn, unplacedCost, exchanged, startsIn, workedIn, nightParts, dayParts, nightPenalty, dayPenalty}
 use Rattle.penalty.specs.Columns.{ShownNight, ShownDay, Empty, NursePut, Frees}
-use Rattle.penalty.specs.Costs.{TrialsNight, TrialsDay, trialOf}
+use Rattle.penalty.specs.Costs.{TrialsNight, TrialsDay, Small, Chunks, trialOf}
 use Rattle.penalty.proofs.ColumnLaws.{night-none, night-more, day-none, day-more}
 use Rattle.penalty.proofs.BoundLaws.{night-split, day-split, unplaced-after}
 use Rattle.search.specs.Phase.{Phase, Step}
-use Rattle.search.specs.Record.{mayTake, costAfter}
+use Rattle.search.specs.Record.{Record, mayTake, costAfter}
 use Rattle.search.specs.Stored.{slot, slotAt, view, viewOf}
-use Rattle.search.specs.Walk.{overList, costIn, considered, improves}
-use Rattle.search.specs.Seek.{costOf, restOf, patternFor, Shown, Trials, Agree, stretch, triedBy, Lists, Seeks}
-use Rattle.search.proofs.BestLaws.{turn-barred, turn-worse, turn-considered}
+use Rattle.search.specs.Walk.{overList, costIn, bestOver, considered, improves}
+use Rattle.search.specs.Seek.{costOf, restOf, patternFor, Shown, tableTrial, DayTrials, NightTrials, Tables, Agree, stretch, triedBy, Lists, Seeks}
+use Rattle.search.proofs.BestLaws.{turn-barred, turn-worse, turn-considered, over-keep, nurses-none, nurses-turn}
 use Rattle.search.specs.declared.Record.{Record as Stored}
 use Rattle.search.specs.declared.best.Best.{Best}
+use Rattle.search.specs.declared.best.Best.the-variants.{Nothing}
 
 -- ---- a set of days, one day more
 
@@ -107,6 +108,10 @@ columns-start false w slots c e = night-none w slots c e
 
 -- ---- the penalty
 
+none-flag : (b : Bool) (p : ℕ) → isNone (slot b p) ≡ not b
+none-flag true p = refl
+none-flag false p = refl
+
 -- the unplaced nurses of a record
 pub unplaced-is : (w : List ℕ) (r : Stored) (slots : ℕ → Slot) {m : ℕ} → m ≡ nurses w → Agree w r slots
     → countTo m (λ i. not (getD (r .placed) i false)) ≡ unplacedIn w slots
@@ -114,11 +119,7 @@ unfolding unplacedIn Agree
 unplaced-is w r slots e a =
     ap (λ (k : ℕ). countTo k (λ i. not (getD (r .placed) i false))) e
     ∙ sum-ext (nurses w) (λ i. oneIf (not (getD (r .placed) i false))) (λ i. oneIf (isNone (slots i)))
-    (λ i l. ap oneIf (sym (ap isNone (a i l) ∙ go (getD (r .placed) i false) (getD (r .patterns) i 0))))
-  where
-    go : (b : Bool) (p : ℕ) → isNone (slot b p) ≡ not b
-    go true p = refl
-    go false p = refl
+    (λ i l. ap oneIf (sym (ap isNone (a i l) ∙ none-flag (getD (r .placed) i false) (getD (r .patterns) i 0))))
 
 pub shown-day : (daily : Bool) (w : List ℕ) (slots : ℕ → Slot) (m : ℕ) (c : Columns) → daily ≡ true → Shown daily w slots m c → ShownDay w slots m c
 shown-day daily w slots m c d s = subst (λ (b : Bool). Shown b w slots m c) d s
@@ -152,13 +153,16 @@ common-at w list k e l =
     subst (λ (xs : List ℕ). (getD xs k 0 < 2 ^ days w) × (inCommon (rulesOf w) (days w) (getD xs k 0) ≡ true)) (sym e)
     (common-below (rulesOf w) (days w) k h, common-keeps (rulesOf w) (days w) k h)
 
--- what a trial by the table costs by night
-pub night-cost : (w : List ℕ) (slots : ℕ → Slot) (i others p : ℕ) (costs : Costs) {n x free b : ℕ} {m : Masks}
-    → TrialsNight w slots i costs → n ≡ days w → days w ≤ 31 → m ≡ masksOf (rulesOf w) (days w) (block w i)
+-- what a trial by her table costs, with the unplaced nurses besides her
+pub trial-costs : {t : List ℕ} (nights free : ℕ) {x r : ℕ} (others : ℕ) → tableTrial t nights free x
+    → ((c : Costs) (n : ℕ) → Small c n → Chunks c t → r ≡ trialOf c n nights free) → r + 10000000 * others ≡ x + 10000000 * others
+trial-costs nights free others y f = ap (λ (z : ℕ). z + 10000000 * others) (f (y .0) (y .1) (y .2) (y .3) ∙ y .4)
+
+pub night-costs : (w : List ℕ) (i p : ℕ) (t : List ℕ) (cost : ℕ → ℕ) {free r : ℕ} {m : Masks} (others : ℕ) → NightTrials w i t cost → days w ≤ 31
+    → m ≡ masksOf (rulesOf w) (days w) (block w i)
     → ((k : ℕ) (b : List ℕ) → k ≤ 31 → m ≡ masksOf (rulesOf w) k b → AvailableDays b k p free)
-    → Is x (trialOf costs n p free) b → x + 10000000 * others ≡ rest (nightParts w (exchanged slots i p)) + 10000000 * others
-night-cost w slots i others p costs {n} {x} {free} t e l em av q =
-    ap (λ (y : ℕ). y + 10000000 * others) (q .is ∙ ap (λ (k : ℕ). trialOf costs k p free) e ∙ t .afresh p free (av (days w) (block w i) l em .each))
+    → ((c : Costs) (n : ℕ) → Small c n → Chunks c t → r ≡ trialOf c n p free) → r + 10000000 * others ≡ cost p + 10000000 * others
+night-costs w i p t cost {free} others y l em av f = trial-costs p free others (y .started p free (av (days w) (block w i) l em .each)) f
 
 module _ (hers may : ℕ → Bool) (cost : ℕ → ℕ) (i : ℕ) (b₀ : Best) (ps : List ℕ) (k : ℕ) {b : Best} (l : k < length ps)
     (e : b ≡ overList (λ p. hers p && may p) cost i b₀ (take k ps)) where
@@ -185,11 +189,94 @@ others-unplaced u a e q = rw e at q
 
 -- ---- her table
 
-module _ (daily : Bool) (w : List ℕ) (cols : Columns) (i : ℕ) {c : Costs} where
-  pub trials-day : daily ≡ true → ((l : ℕ → Slot) → ShownDay w l (nurses w) cols → TrialsDay w l i c)
-      → (slots : ℕ → Slot) → Shown daily w slots (nurses w) cols → Trials daily w slots i c
-  trials-day d f slots s = subst (λ (b : Bool). Trials b w slots i c) (sym d) (f slots (shown-day daily w slots (nurses w) cols d s))
+module _ (daily : Bool) (w : List ℕ) (cols : Columns) (i : ℕ) {c : Costs} {t : List ℕ} (small : Small c (days w)) (sums : Chunks c t) where
+  pub tables-day : daily ≡ true → ((l : ℕ → Slot) → ShownDay w l (nurses w) cols → TrialsDay w l i c) → Tables daily w cols i t
+  tables-day d f =
+      subst (λ (b : Bool). Tables b w cols i t) (sym d)
+      (λ slots s. record { worked = λ q. (c, days w, small, sums, f slots s .afresh q) })
 
-  pub trials-night : daily ≡ false → ((l : ℕ → Slot) → ShownNight w l (nurses w) cols → TrialsNight w l i c)
-      → (slots : ℕ → Slot) → Shown daily w slots (nurses w) cols → Trials daily w slots i c
-  trials-night d f slots s = subst (λ (b : Bool). Trials b w slots i c) (sym d) (f slots (shown-night daily w slots (nurses w) cols d s))
+  pub tables-night : daily ≡ false → ((l : ℕ → Slot) → ShownNight w l (nurses w) cols → TrialsNight w l i c) → Tables daily w cols i t
+  tables-night d f =
+      subst (λ (b : Bool). Tables b w cols i t) (sym d)
+      (λ slots s. record { started = λ p free y. (c, days w, small, sums, f slots s .afresh p free y) })
+
+-- ---- what nurse i tries
+
+module _ (w : List ℕ) (r : Stored) (i : ℕ) (l : i < nurses w) (P : Phase) where
+  abbrev slotsIn : ℕ → Slot
+  slotsIn = (viewOf P r) .slots
+
+  pub view-agrees : P .nurses ≡ nurses w → Agree w r ((viewOf P r) .slots)
+  unfolding Agree view
+  view-agrees e j h = rw (lt-ltb j (P .nurses) (omega arith))
+
+  others-are : P .nurses ≡ nurses w → {u others : ℕ} → u ≡ countTo (nurses w) (λ j. not (getD (r .placed) j false))
+      → ((a : ℕ) → u ≡ a + oneIf (not (getD (r .placed) i false)) → others ≡ a) → (p : ℕ) → others ≡ unplacedIn w (exchanged slotsIn i p)
+  others-are e {u} q f p =
+      f (unplacedIn w (exchanged slotsIn i p))
+      (q ∙ unplaced-is w r slotsIn refl (view-agrees e) ∙ unplaced-after w slotsIn i p l
+      ∙ ap (λ (b : Bool). unplacedIn w (exchanged slotsIn i p) + oneIf b) (ap isNone (agree-at w r slotsIn i (view-agrees e) l) ∙ none-flag (getD (r .placed) i false) (getD (r .patterns) i 0)))
+
+  -- her cost is the phase's
+  pub cost-there : (daily : Bool) {lists ends : List ℕ} {u others : ℕ} → Accepted w → Seeks daily w lists ends P
+      → u ≡ countTo (nurses w) (λ j. not (getD (r .placed) j false))
+      → ((a : ℕ) → u ≡ a + oneIf (not (getD (r .placed) i false)) → others ≡ a)
+      → (λ p. restOf daily w (exchanged slotsIn i p) + 10000000 * others) ≡ costIn P (viewOf P r) i
+  cost-there daily {others = others} a s q f =
+      fun-ext (λ p. ap (λ (x : ℕ). restOf daily w (exchanged slotsIn i p) + 10000000 * x) (others-are (s .nurses-are) q f p)
+      ∙ sym (s .cost-is (exchanged slotsIn i p) ∙ splits daily p))
+    where
+      splits : (d : Bool) (p : ℕ) → costOf d w (exchanged slotsIn i p) ≡ restOf d w (exchanged slotsIn i p) + 10000000 * unplacedIn w (exchanged slotsIn i p)
+      splits true p = day-split w (exchanged slotsIn i p) a .0 ∙ omega arith
+      splits false p = night-split w (exchanged slotsIn i p) a .0 ∙ omega arith
+
+true-false : _≡_ {A = Bool} true false → ⊥
+true-false z = let y : _≡_ {A = ℕ} 0 1 = cc in omega arith
+
+false-true : _≡_ {A = Bool} false true → ⊥
+false-true z = let y : _≡_ {A = ℕ} 0 1 = cc in omega arith
+
+same-view : (daily : Bool) (w : List ℕ) (r : Stored) (P : Phase) {lists ends : List ℕ} {tl : ℕ} → tl ≡ tabu w → Seeks daily w lists ends P → view (P .nurses) tl r ≡ viewOf P r
+same-view daily w r P e s = ap (λ (k : ℕ). view (P .nurses) k r) (e ∙ sym (s .tabu-is))
+
+-- what the loop over her list found, as the phase has it
+module _ (w : List ℕ) (r : Stored) (i : ℕ) (l : i < nurses w) (P : Phase) (lists ends t : List ℕ) (cols : Columns) {u : ℕ} (others tl : ℕ) (held : Best) {res : Best}
+    (a : Accepted w) (q : u ≡ countTo (nurses w) (λ j. not (getD (r .placed) j false)))
+    (f : (x : ℕ) → u ≡ x + oneIf (not (getD (r .placed) i false)) → others ≡ x) (e : tl ≡ tabu w) where
+  pub nurse-days : (daily : Bool) (part : List ℕ) → daily ≡ true → Seeks daily w lists ends P
+      → ((slots : ℕ → Slot) → Agree w r slots → Shown daily w slots (nurses w) cols) → Tables daily w cols i t → part ≡ stretch lists ends i
+      → ((m : ℕ) (cost : ℕ → ℕ) → i < m → DayTrials t cost → res ≡ overList (mayTake (view m tl r) i) (λ p. cost p + 10000000 * others) i held part)
+      → res ≡ overList (mayTake (viewOf P r) i) (costIn P (viewOf P r) i) i held (P .patterns i)
+  nurse-days false part d s shown tb p g = absurd (false-true d)
+  nurse-days true part d s shown tb p g =
+      let slots = (viewOf P r) .slots in
+      let inside : i < P .nurses = omega (arith, s .nurses-are) in
+      g (P .nurses) (λ x. rest (dayParts w (exchanged slots i x))) inside (tb slots (shown slots (view-agrees w r i l P (s .nurses-are))))
+      ∙ ap (λ (v : Record). overList (mayTake v i) (λ x. rest (dayParts w (exchanged slots i x)) + 10000000 * others) i held part) (same-view true w r P e s)
+      ∙ ap (λ (c : ℕ → ℕ). overList (mayTake (viewOf P r) i) c i held part) (cost-there w r i l P true a s q f)
+      ∙ ap (overList (mayTake (viewOf P r) i) (costIn P (viewOf P r) i) i held) (p ∙ sym (s .patterns-are i l))
+
+  pub nurse-nights : (daily : Bool) → daily ≡ false → Seeks daily w lists ends P
+      → ((slots : ℕ → Slot) → Agree w r slots → Shown daily w slots (nurses w) cols) → Tables daily w cols i t
+      → ((m : ℕ) (cost : ℕ → ℕ) → i < m → NightTrials w i t cost → res ≡ overList (λ p. hersOf w i p && mayTake (view m tl r) i p) (λ p. cost p + 10000000 * others) i held lists)
+      → res ≡ overList (mayTake (viewOf P r) i) (costIn P (viewOf P r) i) i held (P .patterns i)
+  nurse-nights true d s shown tb g = absurd (true-false d)
+  nurse-nights false d s shown tb g =
+      let slots = (viewOf P r) .slots in
+      let inside : i < P .nurses = omega (arith, s .nurses-are) in
+      g (P .nurses) (λ x. rest (nightParts w (exchanged slots i x))) inside (tb slots (shown slots (view-agrees w r i l P (s .nurses-are))))
+      ∙ ap (λ (v : Record). overList (λ p. hersOf w i p && mayTake v i p) (λ x. rest (nightParts w (exchanged slots i x)) + 10000000 * others) i held lists) (same-view false w r P e s)
+      ∙ ap (λ (c : ℕ → ℕ). overList (λ p. hersOf w i p && mayTake (viewOf P r) i p) c i held lists) (cost-there w r i l P false a s q f)
+      ∙ sym (over-keep (hersOf w i) (mayTake (viewOf P r) i) (costIn P (viewOf P r) i) i held lists)
+      ∙ ap (overList (mayTake (viewOf P r) i) (costIn P (viewOf P r) i) i held) (sym (s .patterns-are i l))
+
+-- the loop over the nurses
+module _ (daily : Bool) (w : List ℕ) (r : Stored) {lists ends : List ℕ} (P : Phase) (s : Seeks daily w lists ends P) where
+  pub best-start : Nothing ≡ bestOver P (viewOf P r) 0
+  best-start = nurses-none (mayTake (viewOf P r)) (costIn P (viewOf P r)) (P .patterns)
+
+  pub best-turn : (i : ℕ) {b b′ : Best} → b ≡ bestOver P (viewOf P r) i → b′ ≡ overList (mayTake (viewOf P r) i) (costIn P (viewOf P r) i) i b (P .patterns i) → b′ ≡ bestOver P (viewOf P r) (i + 1)
+  best-turn i e f = nurses-turn (mayTake (viewOf P r)) (costIn P (viewOf P r)) (P .patterns) i e f
+
+  pub best-end : {b : Best} {i m : ℕ} → b ≡ bestOver P (viewOf P r) i → i ≤ m → m ≤ i → m ≡ nurses w → b ≡ bestOver P (viewOf P r) (P .nurses)
+  best-end {b} {i} {m} e l h q = let z : i ≡ P .nurses = omega (arith, s .nurses-are) in e ∙ ap (bestOver P (viewOf P r)) z

@@ -6,7 +6,6 @@ use crate::slots;
 use nights::masks::Masks;
 use penalty::Penalty;
 use penalty::columns::Columns;
-use penalty::costs::Costs;
 ghost use mathlib.Core.Path.{_≡_};
 ghost use mathlib.Core.Bool.{Bool, false, not, _&&_};
 ghost use Prim.Native.Nat.{ℕ, _+_, _*_, _≤_, _<_};
@@ -16,13 +15,13 @@ ghost use Rattle.ward.specs.Fields.{Accepted, nurses, days, tabu, block};
 ghost use Rattle.nights.specs.Nights.{rulesOf, commonOf};
 ghost use Rattle.nights.specs.Hers.{hersOf};
 ghost use Rattle.nights.specs.Masks.{masksOf, Masked};
-ghost use Rattle.penalty.specs.Penalty.{Slot, rest, exchanged, nightParts};
-ghost use Rattle.penalty.specs.Costs.{Small, TrialsNight, trialOf};
+ghost use Rattle.penalty.specs.Penalty.{Slot};
+ghost use Rattle.penalty.specs.Costs.{ChunksSmall};
 ghost use Rattle.search.specs.Phase.{Phase};
 ghost use Rattle.search.specs.Record.{mayTake};
 ghost use Rattle.search.specs.Stored.{view, viewOf};
 ghost use Rattle.search.specs.Walk.{overList, costIn, bestOver};
-ghost use Rattle.search.specs.Seek.{Shown, Trials, Agree, Lists, Seeks};
+ghost use Rattle.search.specs.Seek.{Shown, Tables, DayTrials, NightTrials, Agree, Lists, Seeks};
 
 // Which search it is, and by day where each nurse's stretch of the lists ends.
 pub struct Plan {
@@ -30,36 +29,30 @@ pub struct Plan {
     pub ends: [usize; 49],
 }
 
-// Nurse i's table.
-fn table(w: &[u64], cols: Columns, i: usize, daily: bool) -> Costs
+// Nurse i's table, and its sums over three days each.
+fn table(w: &[u64], cols: Columns, i: usize, daily: bool) -> [u64; 704]
     requires { ⌜ Accepted (now w) × (i < nurses (now w)) ⌝ }
-    ensures small { λ r. ⌜ Small r (days (now (w .entry))) ⌝ }
-    ensures trials { λ r. ⌜ ((slots : ℕ → Slot) → Shown daily (now (w .entry)) slots (nurses (now (w .entry))) cols → Trials daily (now (w .entry)) slots i r) ⌝ }
+    ensures small { λ r. ⌜ ChunksSmall r ⌝ }
+    ensures trials { λ r. ⌜ Tables daily (now (w .entry)) cols i r ⌝ }
 {
+    let n = ward::fields::days(w);
     if daily {
-        return penalty::costs::nurse_costs_day(w, cols, i);
+        let costs = penalty::costs::nurse_costs_day(w, cols, i);
+        return penalty::chunks::chunks(costs, n);
     }
-    penalty::costs::nurse_costs_night(w, cols, i)
+    let costs = penalty::costs::nurse_costs_night(w, cols, i);
+    penalty::chunks::chunks(costs, n)
 }
 
 // The best of what is held and of nurse i's day list; others are unplaced besides her.
-fn over_days(
-    part: &[u32],
-    costs: Costs,
-    n: usize,
-    others: u64,
-    rec: Record,
-    tl: usize,
-    i: usize,
-    held: Best,
-) -> Best
-    requires { ⌜ Small costs n × (others ≤ 48) × (tl ≤ 64) × (i < 48) ⌝ }
-    ensures { λ r. ⌜ ((m : ℕ) → i < m → r ≡ overList (mayTake (view m tl rec) i) (λ q. trialOf costs n 0 q + 10000000 * others) i held (now (part .entry))) ⌝ }
+fn over_days(part: &[u32], t: &[u64; 704], others: u64, rec: Record, tl: usize, i: usize, held: Best) -> Best
+    requires { ⌜ ChunksSmall (now t) × (others ≤ 48) × (tl ≤ 64) × (i < 48) ⌝ }
+    ensures { λ r. ⌜ ((m : ℕ) (cost : ℕ → ℕ) → i < m → DayTrials (now (t .entry)) cost → r ≡ overList (mayTake (view m tl rec) i) (λ q. cost q + 10000000 * others) i held (now (part .entry))) ⌝ }
 {
     let mut best = held;
     for k in 0..part.len() {
         let q = part[k];
-        let c = penalty::costs::trial(costs, n, 0, q) + Penalty::UNPLACED * others;
+        let c = penalty::chunks::chunk_trial(t, 0, q) + Penalty::UNPLACED * others;
         if best::improves(best, c) {
             best = best::consider(best, rec, tl, i, q, c);
         }
@@ -72,8 +65,7 @@ fn over_nights(
     w: &[u64],
     list: &[u32],
     masks: Masks,
-    costs: Costs,
-    n: usize,
+    t: &[u64; 704],
     others: u64,
     rec: Record,
     tl: usize,
@@ -82,15 +74,15 @@ fn over_nights(
 ) -> Best
     requires { ⌜ Accepted (now w) × (i < nurses (now w)) × (now list ≡ commonOf (now w)) ⌝ }
     requires { ⌜ Masked masks × (masks ≡ masksOf (rulesOf (now w)) (days (now w)) (block (now w) i)) ⌝ }
-    requires { ⌜ Small costs n × (n ≡ days (now w)) × (others ≤ 48) × (tl ≤ 64) ⌝ }
-    ensures { λ r. ⌜ ((m : ℕ) (slots : ℕ → Slot) → i < m → TrialsNight (now (w .entry)) slots i costs → r ≡ overList (λ p. hersOf (now (w .entry)) i p && mayTake (view m tl rec) i p) (λ p. rest (nightParts (now (w .entry)) (exchanged slots i p)) + 10000000 * others) i held (now (list .entry))) ⌝ }
+    requires { ⌜ ChunksSmall (now t) × (others ≤ 48) × (tl ≤ 64) ⌝ }
+    ensures { λ r. ⌜ ((m : ℕ) (cost : ℕ → ℕ) → i < m → NightTrials (now (w .entry)) i (now (t .entry)) cost → r ≡ overList (λ p. hersOf (now (w .entry)) i p && mayTake (view m tl rec) i p) (λ p. cost p + 10000000 * others) i held (now (list .entry))) ⌝ }
 {
     let mut best = held;
     for k in 0..list.len() {
         let p = list[k];
         if nights::masks::passes(w, masks, p) {
             let free = nights::masks::available_days(masks, p);
-            let c = penalty::costs::trial(costs, n, p, free) + Penalty::UNPLACED * others;
+            let c = penalty::chunks::chunk_trial(t, p, free) + Penalty::UNPLACED * others;
             if best::improves(best, c) {
                 best = best::consider(best, rec, tl, i, p, c);
             }
@@ -102,7 +94,8 @@ fn over_nights(
 // The unplaced nurses besides nurse i.
 fn others_than(rec: Record, waiting: u64, i: usize) -> u64
     requires { ⌜ i < 48 ⌝ }
-    ensures { λ r. ⌜ ((a : ℕ) → waiting ≡ a + oneIf (not (getD (rec .placed) i false)) → r ≡ a) ⌝ }
+    ensures is { λ r. ⌜ ((a : ℕ) → waiting ≡ a + oneIf (not (getD (rec .placed) i false)) → r ≡ a) ⌝ }
+    ensures most { λ r. ⌜ r ≤ waiting ⌝ }
 {
     if rec.placed[i] {
         return waiting;
@@ -111,4 +104,50 @@ fn others_than(rec: Record, waiting: u64, i: usize) -> u64
         return waiting - 1;
     }
     0
+}
+
+// The best of what is held and of what nurse i tries.
+fn over_nurse(
+    w: &[u64],
+    lists: &[u32],
+    plan: Plan,
+    cols: Columns,
+    waiting: u64,
+    rec: Record,
+    i: usize,
+    held: Best,
+) -> Best
+    requires { ⌜ Accepted (now w) × (i < nurses (now w)) × Lists (plan .daily) (now w) (now lists) (plan .ends) ⌝ }
+    requires { ⌜ Is waiting (countTo (nurses (now w)) (λ j. not (getD (rec .placed) j false))) 48 ⌝ }
+    requires { ⌜ ((slots : ℕ → Slot) → Agree (now w) rec slots → Shown (plan .daily) (now w) slots (nurses (now w)) cols) ⌝ }
+    ensures { λ r. ⌜ ((P : Phase) → Seeks (plan .daily) (now (w .entry)) (now (lists .entry)) (plan .ends) P → r ≡ overList (mayTake (viewOf P rec) i) (costIn P (viewOf P rec) i) i held (P .patterns i)) ⌝ }
+{
+    let daily = plan.daily;
+    let tl = ward::fields::tabu(w);
+    let t = table(w, cols, i, daily);
+    let others = others_than(rec, waiting, i);
+    if daily {
+        let a = plan.ends[i];
+        let e = plan.ends[i + 1];
+        return over_days(&lists[a..e], &t, others, rec, tl, i, held);
+    }
+    let masks = nights::masks::masks_of(w, i);
+    over_nights(w, lists, masks, &t, others, rec, tl, i, held)
+}
+
+// The exchange that a step takes.
+pub(crate) fn best_of(w: &[u64], lists: &[u32], plan: Plan, rec: Record) -> Best
+    requires { ⌜ Accepted (now w) × Lists (plan .daily) (now w) (now lists) (plan .ends) ⌝ }
+    ensures { λ r. ⌜ ((P : Phase) → Seeks (plan .daily) (now (w .entry)) (now (lists .entry)) (plan .ends) P → r ≡ bestOver P (viewOf P rec) (P .nurses)) ⌝ }
+{
+    let m = ward::fields::nurses(w);
+    let cols = slots::columns(w, rec, plan.daily);
+    let waiting = slots::unplaced(rec, m);
+    let mut best = Best::Nothing;
+    let mut i: usize = 0;
+    while i < m {
+        best = over_nurse(w, lists, plan, cols, waiting, rec, i, best);
+        i += 1;
+    }
+    best
 }

@@ -1,5 +1,3 @@
-use Rattle.nights.specs.Nights.{rulesOf}
-use Rattle.search.proofs.SeekLaws.{common-at, night-cost, not-hers, no-better, hers-considered}
 use borrow.Author.Needs.{needs}
 -- `search::tries::over_nights` meets its contract: the best of what is hers among the first k of the common list.
 use Prim.Native.Nat.{ℕ, _+_, _*_, _-_, _≤_, _<_}
@@ -8,78 +6,79 @@ use mathlib.Core.Bool.{_&&_}
 use mathlib.Core.Logic.{⊎-elim}
 use native.Mathlib.Omega.{arith}
 use lib.ListN.{length, take, getD}
+use Rattle.nights.specs.Nights.{rulesOf}
 use Rattle.nights.specs.Hers.{hersOf}
-use Rattle.penalty.specs.Penalty.{Slot, rest, exchanged, nightParts}
-use Rattle.penalty.specs.Costs.{TrialsNight}
 use Rattle.search.specs.Record.{mayTake}
 use Rattle.search.specs.Stored.{view}
 use Rattle.search.specs.Walk.{overList}
+use Rattle.search.specs.Seek.{NightTrials}
 use Rattle.search.proofs.BestLaws.{over-nil, over-done}
+use Rattle.search.proofs.SeekLaws.{common-at, night-costs, not-hers, no-better, hers-considered}
 use Rattle.search.proofs.tries.over_nights.Statement.{statement}
 use Rattle.search.proofs.tries.over_nights.Tie as tie
 use Rattle.search.proofs.tries.over_nights.Reads as reads
 use Rattle.search.proofs.tries.over_nights.Lts as lts
 use Rattle.nights.proofs.masks.available_days.Reads as available-days-reads
 use Rattle.nights.proofs.masks.passes.Reads as passes-reads
-use Rattle.penalty.proofs.costs.trial.Reads as trial-reads
+use Rattle.penalty.proofs.chunks.chunk_trial.Reads as chunk-trial-reads
 use Rattle.search.proofs.best.consider.Reads as consider-reads
 use Rattle.search.proofs.best.improves.Reads as improves-reads
 
 abbrev Inv-loop : tie.InvT-loop
-Inv-loop w list masks costs n others rec tl i best₀ k₀ k-end best k = (k ≤ length list) × ((m : ℕ) (slots : ℕ → Slot) → i < m → TrialsNight w slots i costs → best ≡ overList (λ p. hersOf w i p && mayTake (view m tl rec) i p) (λ p. rest (nightParts w (exchanged slots i p)) + 10000000 * others) i best₀ (take k list))
+Inv-loop w list masks t others rec tl i best₀ k₀ k-end best k = (k ≤ length list) × ((m : ℕ) (cost : ℕ → ℕ) → i < m → NightTrials w i t cost → best ≡ overList (λ p. hersOf w i p && mayTake (view m tl rec) i p) (λ p. cost p + 10000000 * others) i best₀ (take k list))
 
 abbrev μ-loop : tie.MeasureT-loop
-μ-loop w list masks costs n others rec tl i best₀ k₀ k-end best k = length list - k
+μ-loop w list masks t others rec tl i best₀ k₀ k-end best k = length list - k
 
--- src/tries.rt:69:5
+-- src/tries.rt:81:5
 loop-holds : tie.Need-loop-holds Inv-loop μ-loop
-loop-holds c = (search needs, λ m slots l t. sym (over-nil _ _ _ _))
+loop-holds c = (search needs, λ m cost l t. sym (over-nil _ _ _ _))
 
--- src/tries.rt:70:17
+-- src/tries.rt:82:17
 mul-p : tie.Need-mul-p Inv-loop μ-loop
 mul-p c = search needs
 
--- src/tries.rt:70:17
+-- src/tries.rt:82:17
 shared-slice-read-p : tie.Need-shared-slice-read-p Inv-loop μ-loop
 shared-slice-read-p c = search needs
 
--- src/tries.rt:71:12
+-- src/tries.rt:83:12
 passes-requires : tie.Need-passes-requires Inv-loop μ-loop
 passes-requires c κs = search needs
 
--- src/tries.rt:72:17
+-- src/tries.rt:84:17
 available-days-requires : tie.Need-available-days-requires Inv-loop μ-loop
 available-days-requires c κs = search needs
 
--- src/tries.rt:73:21
-trial-requires : tie.Need-trial-requires Inv-loop μ-loop
-trial-requires c κs = search needs
+-- src/tries.rt:85:21
+chunk-trial-requires : tie.Need-chunk-trial-requires Inv-loop μ-loop
+chunk-trial-requires c κs = search needs
 
--- src/tries.rt:73:64
+-- src/tries.rt:85:64
 mul-c : tie.Need-mul-c Inv-loop μ-loop
 mul-c c = search needs
 
--- src/tries.rt:73:21
+-- src/tries.rt:85:21
 add-c : tie.Need-add-c Inv-loop μ-loop
 add-c c = search needs
 
--- src/tries.rt:74:16
+-- src/tries.rt:86:16
 improves-requires : tie.Need-improves-requires Inv-loop μ-loop
 improves-requires c κs = search needs
 
--- src/tries.rt:75:17
+-- src/tries.rt:87:17
 consider-requires : tie.Need-consider-requires Inv-loop μ-loop
 consider-requires c κs = search needs
 
--- src/tries.rt:69:9
+-- src/tries.rt:81:9
 add-k : tie.Need-add-k Inv-loop μ-loop
 add-k c = search needs
 
--- src/tries.rt:69:5
+-- src/tries.rt:81:5
 loop-less : tie.Need-loop-less Inv-loop μ-loop
 loop-less c = search needs
 
--- src/tries.rt:69:5
+-- src/tries.rt:81:5
 loop-again : tie.Need-loop-again Inv-loop μ-loop
 loop-again c = let a = c .before .before .before .before .before .before .before .args in
     let w = a .w .now in
@@ -87,27 +86,25 @@ loop-again c = let a = c .before .before .before .before .before .before .before
     let k = c .before .before .before .before .loop .k in
     let inside = c .before .before .before .loop-test .taken in
     let at = common-at w ps k (c .before .before .before .before .before .before .before .pre .0 .2) inside in
-    let passed = c .before .passes .ensures (a .i) (c .before .before .before .before .before .before .before .pre .1 .0 .1) (at .0) (at .1) in (
-      omega arith,
-      λ m slots l t.
-          let may = mayTake (view m (a .tl) (a .rec)) (a .i) in
-          let hers = hersOf w (a .i) in
-          ⊎-elim
-          (λ x. hers-considered hers may (λ p. rest (nightParts w (exchanged slots (a .i) p)) + 10000000 * a .others) (a .i) (a .held) ps k inside (c .before .before .before .before .loop .inv .1 m slots l t) passed (x .0 .taken)
-          (night-cost w slots (a .i) (a .others) (getD ps k 0) (a .costs) t (c .before .before .before .before .before .before .before .pre .1 .1 .1) (c .before .before .before .before .before .before .before .pre .0 .0 .days-most) (c .before .before .before .before .before .before .before .pre .1 .0 .1) (λ j b h e. x .1 .ensures (rulesOf w) j b h e) (x .2 .ensures))
-          (x .6 ∙ x .5 .ensures m l))
-          (λ y. ⊎-elim
-          (λ x. x .5 ∙ no-better hers may (λ p. rest (nightParts w (exchanged slots (a .i) p)) + 10000000 * a .others) (a .i) (a .held) ps k inside (c .before .before .before .before .loop .inv .1 m slots l t)
-          (night-cost w slots (a .i) (a .others) (getD ps k 0) (a .costs) t (c .before .before .before .before .before .before .before .pre .1 .1 .1) (c .before .before .before .before .before .before .before .pre .0 .0 .days-most) (c .before .before .before .before .before .before .before .pre .1 .0 .1) (λ j b h e. x .1 .ensures (rulesOf w) j b h e) (x .2 .ensures))
-          (x .3 .ensures) (x .4 .left))
-          (λ x. x .1 ∙ not-hers hers may (λ p. rest (nightParts w (exchanged slots (a .i) p)) + 10000000 * a .others) (a .i) (a .held) ps k inside (c .before .before .before .before .loop .inv .1 m slots l t) passed (x .0 .left))
-          y)
-          (c .if1 .came),
-    )
+    let passed = c .before .passes .ensures (a .i) (c .before .before .before .before .before .before .before .pre .1 .0 .1) (at .0) (at .1) in
+    (omega arith, λ m cost l t.
+    let may = mayTake (view m (a .tl) (a .rec)) (a .i) in
+    let hers = hersOf w (a .i) in
+    ⊎-elim
+    (λ x. hers-considered hers may (λ p. cost p + 10000000 * a .others) (a .i) (a .held) ps k inside (c .before .before .before .before .loop .inv .1 m cost l t) passed (x .0 .taken)
+    (night-costs w (a .i) (getD ps k 0) _ cost (a .others) t (c .before .before .before .before .before .before .before .pre .0 .0 .days-most) (c .before .before .before .before .before .before .before .pre .1 .0 .1) (λ j b h e. x .1 .ensures (rulesOf w) j b h e) (x .2 .ensures .0))
+    (x .6 ∙ x .5 .ensures m l))
+    (λ y. ⊎-elim
+    (λ x. x .5 ∙ no-better hers may (λ p. cost p + 10000000 * a .others) (a .i) (a .held) ps k inside (c .before .before .before .before .loop .inv .1 m cost l t)
+    (night-costs w (a .i) (getD ps k 0) _ cost (a .others) t (c .before .before .before .before .before .before .before .pre .0 .0 .days-most) (c .before .before .before .before .before .before .before .pre .1 .0 .1) (λ j b h e. x .1 .ensures (rulesOf w) j b h e) (x .2 .ensures .0))
+    (x .3 .ensures) (x .4 .left))
+    (λ x. x .1 ∙ not-hers hers may (λ p. cost p + 10000000 * a .others) (a .i) (a .held) ps k inside (c .before .before .before .before .loop .inv .1 m cost l t) passed (x .0 .left))
+    y)
+    (c .if1 .came))
 
--- src/tries.rt:62:1
+-- src/tries.rt:64:1
 returns : tie.Need-returns Inv-loop μ-loop
-returns c = λ m slots l t. c .before .loop .inv .1 m slots l t ∙ over-done _ _ _ _ _ _ (c .loop-test .left)
+returns c = λ m cost l t. c .before .loop .inv .1 m cost l t ∙ over-done _ _ _ _ _ _ (c .loop-test .left)
 
 pub over-nights-spec : {M : Type 1} → statement M
 over-nights-spec =
@@ -120,7 +117,7 @@ over-nights-spec =
     shared-slice-read-p
     passes-requires
     available-days-requires
-    trial-requires
+    chunk-trial-requires
     mul-c
     add-c
     improves-requires

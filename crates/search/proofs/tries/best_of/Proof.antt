@@ -1,0 +1,75 @@
+-- `search::tries::best_of` meets its contract: the best of the nurses before i.
+use Prim.Native.Nat.{ℕ, _+_, _-_, _≤_}
+use mathlib.Core.Path.{_≡_, sym, _∙_, ap, subst}
+use native.Mathlib.Omega.{arith}
+use Rattle.search.specs.Phase.{Phase}
+use Rattle.search.specs.Stored.{viewOf}
+use Rattle.search.specs.Walk.{bestOver}
+use Rattle.search.specs.Seek.{Seeks}
+use Rattle.search.proofs.SeekLaws.{best-start, best-turn, best-end}
+use Rattle.search.proofs.tries.best_of.Statement.{statement}
+use Rattle.search.proofs.tries.best_of.Tie as tie
+use Rattle.search.proofs.tries.best_of.Reads as reads
+use Rattle.search.proofs.tries.best_of.Lts as lts
+use Rattle.search.proofs.slots.columns.Reads as columns-reads
+use Rattle.search.proofs.slots.unplaced.Reads as unplaced-reads
+use Rattle.search.proofs.tries.over_nurse.Reads as over-nurse-reads
+use Rattle.ward.proofs.fields.nurses.Reads as nurses-reads
+
+abbrev Inv-loop : tie.InvT-loop
+Inv-loop w lists plan rec m cols waiting best₀ i₀ best i = (i ≤ m) × ((P : Phase) → Seeks (plan .daily) w lists (plan .ends) P → best ≡ bestOver P (viewOf P rec) i)
+
+abbrev μ-loop : tie.MeasureT-loop
+μ-loop w lists plan rec m cols waiting best₀ i₀ best i = m - i
+
+-- src/tries.rt:143:9
+nurses-requires : tie.Need-nurses-requires Inv-loop μ-loop
+nurses-requires c κs = ?
+
+-- src/tries.rt:144:9
+columns-requires : tie.Need-columns-requires Inv-loop μ-loop
+columns-requires c κs = ?
+
+-- src/tries.rt:145:9
+unplaced-requires : tie.Need-unplaced-requires Inv-loop μ-loop
+unplaced-requires c κs = ?
+
+-- src/tries.rt:148:5
+loop-holds : tie.Need-loop-holds Inv-loop μ-loop
+loop-holds c = ?
+
+-- src/tries.rt:149:9
+over-nurse-requires : tie.Need-over-nurse-requires Inv-loop μ-loop
+over-nurse-requires c κs = ?
+
+-- src/tries.rt:150:9
+add-i : tie.Need-add-i Inv-loop μ-loop
+add-i c = ?
+
+-- src/tries.rt:148:5
+loop-less : tie.Need-loop-less Inv-loop μ-loop
+loop-less c = ?
+
+-- src/tries.rt:148:5
+loop-again : tie.Need-loop-again Inv-loop μ-loop
+loop-again c = ?
+
+-- src/tries.rt:139:1
+returns : tie.Need-returns Inv-loop μ-loop
+returns c = ?
+
+pub best-of-spec : {M : Type 1} → statement M
+best-of-spec =
+    tie.close
+    (tie.spec
+    Inv-loop
+    μ-loop
+    nurses-requires
+    columns-requires
+    unplaced-requires
+    loop-holds
+    over-nurse-requires
+    add-i
+    loop-less
+    loop-again
+    returns)
