@@ -1,6 +1,6 @@
 // A nurse's own night patterns: those of the common list that her last days, her marks and her bounds allow.
-use crate::common;
 use crate::Rules;
+use crate::common;
 ghost use mathlib.Core.Path.{_≡_};
 ghost use Prim.Native.Nat.{_+_, _≤_, _<_};
 ghost use lib.ListN.{length};

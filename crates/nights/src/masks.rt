@@ -1,9 +1,9 @@
 // A fast test of a pattern of the common list for one nurse: her marks, bounds and last days as sets of days.
 // In these sets day d of the month is bit d, and day 0 is bit 0.
+use crate::Rules;
 use crate::common;
 use crate::hers;
 use crate::hers::Run;
-use crate::Rules;
 ghost use mathlib.Core.Path.{_≡_};
 ghost use mathlib.Core.Bool.{true, cond};
 ghost use mathlib.Core.List.{List};
@@ -197,7 +197,11 @@ fn marks_pass(m: Masks, p: u32) -> bool
 {
     let row = row_of(m, p);
     let free = !(row.night | row.second | row.rest);
-    (free & m.bars.free) | (row.night & m.bars.night) | (row.second & m.bars.second) | (row.rest & m.bars.rest) == 0
+    (free & m.bars.free)
+        | (row.night & m.bars.night)
+        | (row.second & m.bars.second)
+        | (row.rest & m.bars.rest)
+        == 0
 }
 
 // The days on which she is available under p, as a pattern.

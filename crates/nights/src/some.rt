@@ -1,10 +1,10 @@
 // Whether a nurse has any pattern at all: the walk of the common list, up to the first pattern of hers.
+use crate::Rules;
 use crate::common;
 use crate::common::Next;
 use crate::common::State;
 use crate::masks;
 use crate::masks::Masks;
-use crate::Rules;
 ghost use mathlib.Core.Path.{_≡_};
 ghost use Prim.Native.Nat.{ℕ, _+_, _^_, _≤_, _<_};
 ghost use lib.Dec.{ltb};

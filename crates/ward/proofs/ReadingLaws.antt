@@ -1,11 +1,10 @@
 -- The numbers that the reader gives with a yes are an accepted ward.
 use Prim.Native.Nat.{ℕ, _≤_, _<_}
 use mathlib.Core.Path.{_≡_, refl, sym, ap, _∙_, subst}
-use mathlib.Core.List.{List, _++_}
+use mathlib.Core.List.{List}
 use native.Mathlib.Omega.{arith}
 use lib.ListN.{length, getD, take, length-append}
 use lib.Seq.{take-at}
-use Rattle.ward.specs.declared.Answer.{Answer}
 use Rattle.ward.specs.declared.Answer.the-variants.{Yes, No}
 use Rattle.ward.specs.declared.Reading.{Reading}
 use Rattle.ward.specs.Grammar.{Read, good, bad}

@@ -1,14 +1,8 @@
+-- `nights_run::show_list` is safe and ends.
 use borrow.Author.Needs.{needs}
 use Prim.Native.Nat.{_≤_, _-_}
 use Rattle.nights_run.proofs.show_list.Statement.{statement}
 use Rattle.nights_run.proofs.show_list.Tie as tie
-use Rattle.nights_run.proofs.show_list.Reads as reads
-use Rattle.nights_run.proofs.show_list.Lts as lts
-use Rattle.io.proofs.write_all.Reads as write-all-reads
-use Rattle.nights_run.proofs.list.Reads as list-reads
-use Rattle.nights_run.proofs.number.Reads as number-reads
-use Rattle.nights_run.proofs.wide.Reads as wide-reads
-use Rattle.std.proofs.num.wrapping_add_u64.Reads as wrapping-add-u64-reads
 
 abbrev Inv-loop : tie.InvT-loop
 Inv-loop n buf found first₀ last₀ kept₀ k₀ t10 k-end first last kept k = k ≤ k-end
@@ -16,71 +10,54 @@ Inv-loop n buf found first₀ last₀ kept₀ k₀ t10 k-end first last kept k =
 abbrev μ-loop : tie.MeasureT-loop
 μ-loop n buf found first₀ last₀ kept₀ k₀ t10 k-end first last kept k = k-end - k
 
--- src/main.rt:38:9
 list-requires : tie.Need-list-requires Inv-loop μ-loop
 list-requires c κs = search needs
 
--- src/main.rt:42:5
 loop-holds : tie.Need-loop-holds Inv-loop μ-loop
 loop-holds c = search needs
 
--- src/main.rt:43:22
 mul-wide : tie.Need-mul-wide Inv-loop μ-loop
 mul-wide c = search needs
 
--- src/main.rt:43:22
 slice-read-wide : tie.Need-slice-read-wide Inv-loop μ-loop
 slice-read-wide c = search needs
 
--- src/main.rt:43:13
 wide-requires : tie.Need-wide-requires Inv-loop μ-loop
 wide-requires c κs = search needs
 
--- src/main.rt:48:13
 wrapping-add-u64-requires : tie.Need-wrapping-add-u64-requires Inv-loop μ-loop
 wrapping-add-u64-requires c κs = search needs
 
--- src/main.rt:42:9
 add-k : tie.Need-add-k Inv-loop μ-loop
 add-k c = search needs
 
--- src/main.rt:42:5
 loop-less : tie.Need-loop-less Inv-loop μ-loop
 loop-less c = search needs
 
--- src/main.rt:42:5
 loop-again : tie.Need-loop-again Inv-loop μ-loop
 loop-again c = search needs
 
--- src/main.rt:53:5
 number-requires : tie.Need-number-requires Inv-loop μ-loop
 number-requires c κs = search needs
 
--- src/main.rt:54:5
 number-requires-2 : tie.Need-number-requires-2 Inv-loop μ-loop
 number-requires-2 c κs = search needs
 
--- src/main.rt:55:5
 number-requires-3 : tie.Need-number-requires-3 Inv-loop μ-loop
 number-requires-3 c κs = search needs
 
--- src/main.rt:56:5
 number-requires-4 : tie.Need-number-requires-4 Inv-loop μ-loop
 number-requires-4 c κs = search needs
 
--- src/main.rt:57:22
 slice-aggregate-write-all : tie.Need-slice-aggregate-write-all Inv-loop μ-loop
 slice-aggregate-write-all c = search needs
 
--- src/main.rt:57:5
 write-all-requires : tie.Need-write-all-requires Inv-loop μ-loop
 write-all-requires c κs = search needs
 
--- src/main.rt:34:1
 same-length : tie.Need-same-length Inv-loop μ-loop
 same-length c = search needs
 
--- src/main.rt:34:1
 returns : tie.Need-returns Inv-loop μ-loop
 returns c = search needs
 
