@@ -1,10 +1,10 @@
 -- The walk lists the common list: `listed` from no start, over the days of the month, is `common`.
-use mathlib.Core.Path.{_≡_, refl, sym, ap, ap₂, _∙_, subst}
-use mathlib.Core.Bool.{Bool, true, false, cond, _&&_, _||_, and-false, and-true}
-use mathlib.Core.List.{List, [], _∷_, _++_, append-nil}
+use mathlib.Core.Path.{_≡_, refl, sym, ap, ap₂, _∙_}
+use mathlib.Core.Bool.{Bool, true, false, cond, _&&_, and-false, and-true}
+use mathlib.Core.List.{List, [], _∷_, _++_}
 use mathlib.Core.Logic.{_⊎_, inl, inr}
 use Prim.Native.Nat.{ℕ, zero, suc, _+_, _-_, _*_, _/_, _%_, _^_, _≤_, _<_}
-use native.Mathlib.Nat.{pow-suc, mul-comm, mul-assoc, add-mul, one-mul, mul-one, div-one, add-zero, zero-add, suc-add, zero-mul}
+use native.Mathlib.Nat.{pow-suc, mul-comm, mul-assoc, add-mul, one-mul, mul-one, div-one, add-zero, zero-add, zero-mul}
 use native.Mathlib.Numerals.{add-one}
 use native.Mathlib.Omega.{arith}
 use lib.Dec.{leb, ltb, eqb, eqb·suc-zero}
@@ -18,7 +18,7 @@ use Rattle.nights.specs.declared.common.Next.the-variants.{To, Never}
 use Rattle.numbers.specs.Range.{upFrom, keep}
 use Rattle.numbers.proofs.RangeLaws.{range-add, keep-append}
 use Rattle.rows.specs.Rows.{started}
-use Rattle.nights.specs.Nights.{gap, starts, follow, allowed, runWith, inCommon, common}
+use Rattle.nights.specs.Nights.{gap, starts, follow, inCommon, common}
 use Rattle.nights.specs.Walk.{closed, startAt, noneYet, onward, listed}
 
 -- ---- tests

@@ -1,11 +1,10 @@
 -- One turn of each loop over the days: the day that it looks at, and the days that are left; and the parts of `hers`.
-use mathlib.Core.Path.{_≡_, refl, sym, ap, _∙_}
-use mathlib.Core.Bool.{Bool, true, false, cond, _&&_, and-false}
+use mathlib.Core.Path.{_≡_, refl}
+use mathlib.Core.Bool.{true, false, _&&_}
 use mathlib.Core.List.{List, [], _∷_}
-use Prim.Native.Nat.{ℕ, zero, suc, _+_, _-_, _^_, _≤_, _<_}
+use Prim.Native.Nat.{ℕ, suc, _+_, _-_, _^_, _≤_, _<_}
 use native.Mathlib.Nat.{sub-zero, add-zero}
 use native.Mathlib.Numerals.{add-one}
-use native.Mathlib.Omega.{arith}
 use lib.Dec.{leb, ltb, eqb}
 use lib.ListN.{length, getD}
 use borrow.Author.Tests.{ne-eqb}
@@ -13,7 +12,6 @@ use Rattle.numbers.specs.Range.{upFrom, keep}
 use Rattle.numbers.specs.Digits.{has}
 use Rattle.numbers.proofs.RangeLaws.{range-turn, range-done}
 use Rattle.rows.specs.Rows.{started, marksAllow}
-use Rattle.ward.specs.Fields.{leastNightsOf, mostNightsOf}
 use Rattle.nights.specs.declared.Rules.{Rules}
 use Rattle.nights.specs.Nights.{starts, follow, allowed, runWith, inCommon}
 use Rattle.nights.specs.Hers.{shifted, through, lastDuty, lastRun, hers}

@@ -1,25 +1,25 @@
 -- The masks' meaning: which days bar a row, which are available under it, and when last month's run does not matter.
 use mathlib.Core.Path.{_≡_, refl, sym, ap, ap₂, _∙_, subst}
-use mathlib.Core.Bool.{Bool, true, false, cond, not, _&&_, _||_, and-false, and-true, and-comm}
-use mathlib.Core.List.{List, [], _∷_}
-use Prim.Native.Nat.{ℕ, zero, suc, _+_, _-_, _*_, _/_, _%_, _^_, _≤_, _<_, suc-le-suc}
+use mathlib.Core.Bool.{Bool, true, false, cond, not, _&&_, _||_, and-false, and-comm}
+use mathlib.Core.List.{List}
+use Prim.Native.Nat.{ℕ, zero, suc, _+_, _-_, _*_, _/_, _^_, _≤_, _<_, suc-le-suc}
 use native.Mathlib.Nat.{add-zero, lt-of-le-of-lt}
 use native.Mathlib.Numerals.{add-one, one-add}
 use native.Mathlib.Omega.{arith}
 use native.Mathlib.Decide.{decLt}
 use lib.Bits.{bitAnd, bitOr, and-le-l, and-le-r, or-lt}
 use lib.Dec.{eqb}
-use lib.ListN.{length, getD}
+use lib.ListN.{getD}
 use lib.Pow.{pow-mono, shr-lt}
 use borrow.Author.Tests.{eqb-true, eqb-false, not-false}
-use Rattle.numbers.specs.Range.{upFrom, keep, all}
+use Rattle.numbers.specs.Range.{upFrom}
 use Rattle.numbers.specs.Sum.{oneIf}
 use Rattle.numbers.specs.Digits.{has, numberOf}
 use Rattle.numbers.proofs.RangeLaws.{all-at, all-range, length-range, range-at}
 use Rattle.numbers.proofs.DigitLaws.{number-lt, number-has, number-suc, number-zero}
 use Rattle.numbers.proofs.SetLaws.{has-and, has-or, has-not, has-first, has-moved, has-back, has-above, none-zero}
 use Rattle.ward.specs.Fields.{duty, markOn}
-use Rattle.rows.specs.Rows.{stateAfter, dayZero, rowState, allows, marksAllow, available, availableOn}
+use Rattle.rows.specs.Rows.{stateAfter, dayZero, rowState, allows, marksAllow, availableOn}
 use Rattle.nights.specs.declared.Rules.{Rules}
 use Rattle.nights.specs.declared.hers.Run.{Run}
 use Rattle.nights.specs.declared.masks.Bars.{Bars}

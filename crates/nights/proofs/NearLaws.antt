@@ -1,19 +1,19 @@
 -- Where last month's run does not matter: a pattern with no start on the days near to it keeps the rule after it as it does alone.
-use mathlib.Core.Path.{_≡_, refl, sym, ap, ap₂, _∙_, subst}
+use mathlib.Core.Path.{_≡_, refl, sym, ap, ap₂, _∙_}
 use mathlib.Core.Bool.{Bool, true, false, cond, not, _&&_, and-true, and-false}
 use mathlib.Core.List.{List, [], _∷_}
 use Prim.Native.Nat.{ℕ, zero, suc, _+_, _-_, _^_, _≤_, _<_}
 use native.Mathlib.Omega.{arith}
 use native.Mathlib.Decide.{decLt}
 use lib.Bits.{bitAnd}
-use lib.Dec.{leb, ltb, eqb}
+use lib.Dec.{leb, eqb}
 use lib.ListN.{length, getD}
 use lib.Pow.{pow-pos}
-use borrow.Author.Tests.{eqb-true, eqb-false, eq-eqb, ne-eqb, le-leb, lt-leb, lt-ltb}
+use borrow.Author.Tests.{eqb-true, eqb-false, ne-eqb, le-leb, lt-leb, lt-ltb}
 use Rattle.numbers.specs.Range.{upFrom, keep}
 use Rattle.numbers.specs.Sum.{countTo}
 use Rattle.numbers.specs.Digits.{has}
-use Rattle.numbers.proofs.RangeLaws.{keep-passes, kept-below, and-parts}
+use Rattle.numbers.proofs.RangeLaws.{keep-passes, and-parts}
 use Rattle.numbers.proofs.SetLaws.{has-and, has-not, has-above}
 use Rattle.rows.specs.Rows.{started, marksAllow}
 use Rattle.ward.specs.Fields.{leastNightsOf, mostNightsOf}

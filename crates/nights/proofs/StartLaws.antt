@@ -1,7 +1,7 @@
 -- The number of starts of a pattern is the count of its ones.
-use mathlib.Core.Path.{_≡_, refl, sym, ap, ap₂, _∙_}
+use mathlib.Core.Path.{_≡_, sym, ap, ap₂, _∙_}
 use mathlib.Core.Bool.{Bool, true, false, cond}
-use mathlib.Core.List.{List, [], _∷_}
+use mathlib.Core.List.{List, _∷_}
 use Prim.Native.Nat.{ℕ, zero, suc, _+_, _<_, suc-le-suc}
 use native.Mathlib.Nat.{add-zero}
 use native.Mathlib.Omega.{arith}

@@ -1,17 +1,16 @@
 -- Laws of the walk over the days: one step of it, and what it writes.
-use mathlib.Core.Path.{_≡_, refl, sym, ap, _∙_, subst}
-use mathlib.Core.Bool.{Bool, true, false, cond, _&&_, _||_}
+use mathlib.Core.Path.{_≡_, refl, ap, _∙_, subst}
+use mathlib.Core.Bool.{Bool, true, false, cond}
 use mathlib.Core.List.{List, [], _∷_, _++_, append-nil, append-assoc}
-use Prim.Native.Nat.{ℕ, zero, suc, _+_, _-_, _*_, _/_, _%_, _^_, _≤_}
-use lib.Dec.{leb, ltb, eqb}
+use Prim.Native.Nat.{ℕ, zero, suc, _+_, _-_, _^_, _≤_}
+use lib.Dec.{leb, eqb}
 use lib.ListN.{length, set, take, drop, length-append, length-drop, drop-of-length-le}
 use lib.Seq.{take-all, take-append-seam, drop-append-seam, drop-drop}
 use native.Mathlib.Nat.{pow-suc, not-suc-le-zero}
-use native.Mathlib.Numerals.{add-one, sub-one}
+use native.Mathlib.Numerals.{sub-one}
 use native.Mathlib.Omega.{arith}
 use Rattle.nights.specs.declared.Rules.{Rules}
 use Rattle.nights.specs.declared.common.State.{State}
-use Rattle.nights.specs.declared.common.Next.{Next}
 use Rattle.nights.specs.declared.common.Next.the-variants.{To, Never}
 use Rattle.nights.specs.Nights.{gap}
 use Rattle.nights.specs.Walk.{Small, closed, startAt, onward, listed}

@@ -1,5 +1,5 @@
 -- A nurse's own night patterns. `b` is her block of the ward's numbers.
-use mathlib.Core.Bool.{Bool, true, false, cond, _&&_}
+use mathlib.Core.Bool.{Bool, _&&_}
 use mathlib.Core.List.{List, [], _∷_}
 use Prim.Native.Nat.{ℕ, zero, suc, _+_, _^_}
 use lib.Dec.{leb, ltb, eqb}
@@ -8,7 +8,7 @@ use Rattle.numbers.specs.Range.{upFrom, keep}
 use Rattle.ward.specs.Fields.{days, block, duty, leastNightsOf, mostNightsOf}
 use Rattle.rows.specs.Rows.{marksAllow}
 use Rattle.nights.specs.declared.Rules.{Rules}
-use Rattle.nights.specs.Nights.{rulesOf, starts, follow, runWith, inCommon, common}
+use Rattle.nights.specs.Nights.{rulesOf, starts, follow, runWith, inCommon}
 
 -- Her last seven days are numbered 1 to 7 here, and the month's days from 8 on.
 unfoldable pub shifted : ℕ → List ℕ → List ℕ

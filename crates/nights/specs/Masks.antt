@@ -1,6 +1,6 @@
 -- A nurse's marks, bounds and last days as sets of days: day d of the month is member d, and day 0 is member 0.
 use mathlib.Core.Path.{_≡_}
-use mathlib.Core.Bool.{Bool, true, false, cond, not}
+use mathlib.Core.Bool.{Bool, false, cond, not}
 use mathlib.Core.List.{List}
 use Prim.Native.Nat.{ℕ, zero, suc, _+_, _-_, _^_, _≤_, _<_}
 use lib.Bits.{bitOr}
@@ -11,7 +11,6 @@ use Rattle.numbers.specs.Digits.{has, numberOf}
 use Rattle.ward.specs.Fields.{duty, leastNightsOf, mostNightsOf}
 use Rattle.rows.specs.Rows.{allows, available, availableOn, rowState}
 use Rattle.nights.specs.declared.Rules.{Rules}
-use Rattle.nights.specs.declared.hers.Run.{Run}
 use Rattle.nights.specs.declared.masks.Bars.{Bars}
 use Rattle.nights.specs.declared.masks.Masks.{Masks}
 use Rattle.nights.specs.declared.masks.Row.{Row}

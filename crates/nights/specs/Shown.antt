@@ -1,8 +1,8 @@
 -- What the definitions come to on document 01's own cases.
 use mathlib.Core.Path.{_≡_, refl}
 use mathlib.Core.Bool.{true, false}
-use mathlib.Core.List.{List, [], _∷_}
-use Prim.Native.Nat.{ℕ, _+_, _^_}
+use mathlib.Core.List.{[], _∷_}
+use Prim.Native.Nat.{_+_, _^_}
 use lib.ListN.{length}
 use Rattle.numbers.specs.Range.{upFrom, keep, all}
 use Rattle.ward.specs.Examples.{worked}

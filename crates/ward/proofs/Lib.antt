@@ -15,3 +15,4 @@ pub mod AccessLaws
 pub mod AcceptedLaws
 pub mod FieldLaws
 pub mod BothWaysLaws
+pub mod ReadingLaws

@@ -1,12 +1,10 @@
 -- The proof of the cycle of calls {count}. The measure is the number of undecided days.
 use borrow.Author.Needs.{needs}
 use native.Mathlib.Omega.{arith}
-use mathlib.Core.Path.{_≡_, sym, ap, _∙_}
-use Prim.Native.Nat.{_+_, _-_, _^_}
+use mathlib.Core.Path.{sym, ap, _∙_}
+use Prim.Native.Nat.{_+_, _-_, _^_, ℕ, _<_}
 use lib.ListN.{length, length-append}
-use Rattle.nights.specs.Walk.{listed}
 use Rattle.nights.proofs.WalkLaws.{leaf-yes, leaf-no, node-to, node-never}
-use Prim.Native.Nat.{ℕ, _<_}
 use borrow.Fn.Kinds.{In}
 use borrow.Fn.PlainCycle.{Measures, is, falls, and}
 use Rattle.nights.proofs.common.count.Reads as count

@@ -1,13 +1,12 @@
 -- The proof of the cycle of calls {fill}. The measure is the number of undecided days.
 use borrow.Author.Needs.{needs}
 use native.Mathlib.Omega.{arith}
-use mathlib.Core.Path.{_≡_, sym, ap, _∙_}
-use Prim.Native.Nat.{_+_, _-_, _^_}
+use mathlib.Core.Path.{sym, ap, _∙_}
+use Prim.Native.Nat.{_+_, _-_, ℕ, _<_}
 use mathlib.Core.List.{_++_}
-use lib.ListN.{length, length-append, length-set, length-take, length-drop}
+use lib.ListN.{length, length-append, length-set, length-drop}
 use Rattle.nights.specs.Walk.{listed}
 use Rattle.nights.proofs.WalkLaws.{leaf-yes, leaf-no, node-with, node-never, one-written, none-written, as-long, both-written, part-is, pow-half, half-fits}
-use Prim.Native.Nat.{ℕ, _<_}
 use borrow.Fn.Kinds.{In}
 use borrow.Fn.PlainCycle.{Measures, is, falls, and}
 use Rattle.nights.proofs.common.fill.Reads as fill

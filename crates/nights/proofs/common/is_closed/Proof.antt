@@ -1,7 +1,7 @@
+-- `nights::common::is_closed` meets its contract.
 use borrow.Author.Needs.{needs}
-use borrow.Author.Tests.{le-leb, lt-leb, eq-eqb, ne-eqb}
+use borrow.Author.Tests.{eq-eqb, ne-eqb}
 use native.Mathlib.Omega.{arith}
-use Rattle.nights.specs.Walk.{Small}
 use Rattle.nights.proofs.WalkLaws.{gap-small}
 use Rattle.nights.proofs.common.is_closed.Statement.{statement}
 use Rattle.nights.proofs.common.is_closed.Tie as tie

@@ -1,3 +1,4 @@
+-- `nights::hers::is_allowed` meets its contract.
 use borrow.Author.Tests.{eq-eqb, ne-eqb}
 use native.Mathlib.Omega.{arith}
 use Rattle.nights.proofs.WalkLaws.{gap-small}

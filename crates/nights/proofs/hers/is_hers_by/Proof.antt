@@ -1,12 +1,12 @@
 -- `nights::hers::is_hers` meets its contract: each way out decides one part of `hers`, or all.
 use native.Mathlib.Omega.{arith}
-use mathlib.Core.Path.{_≡_, sym, ap, ap₂, _∙_}
-use mathlib.Core.Bool.{Bool, true, false, and-false, and-true}
+use mathlib.Core.Path.{sym, ap, ap₂, _∙_}
+use mathlib.Core.Bool.{and-false, and-true}
 use Prim.Native.Nat.{ℕ, _^_, _<_, _≤_}
 use lib.ListN.{length, getD}
 use borrow.Author.Tests.{le-leb, lt-leb, lt-ltb, le-ltb}
 use Rattle.nights.specs.Nights.{starts, follow}
-use Rattle.nights.specs.Hers.{shifted, lastRun, hers}
+use Rattle.nights.specs.Hers.{shifted, hers}
 use Rattle.nights.proofs.HersLaws.{hers-is, shifted-zero}
 use Rattle.nights.proofs.StartLaws.{count-starts}
 use borrow.Author.Needs.{needs}

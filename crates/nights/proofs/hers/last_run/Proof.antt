@@ -3,7 +3,7 @@ use borrow.Author.Needs.{needs}
 use native.Mathlib.Omega.{arith}
 use mathlib.Core.Path.{_≡_, refl, sym, ap, _∙_}
 use mathlib.Core.Logic.{⊎-elim}
-use Prim.Native.Nat.{ℕ, _≤_, _-_, _+_}
+use Prim.Native.Nat.{ℕ, _≤_, _-_}
 use Rattle.nights.specs.Hers.{through, lastRun}
 use Rattle.nights.proofs.HersLaws.{lately, lately-all, through-yes, through-no, through-done}
 use Rattle.nights.proofs.hers.last_run.Statement.{statement}

@@ -1,8 +1,8 @@
 -- `nights::hers::marks_allow` meets its contract. The loop's invariant: the marks to come decide, and `state` is the row's on the day before them.
 use borrow.Author.Needs.{needs}
 use native.Mathlib.Omega.{arith}
-use mathlib.Core.Path.{_≡_, refl, sym, ap, ap₂, _∙_}
-use Prim.Native.Nat.{ℕ, _≤_, _-_, _+_}
+use mathlib.Core.Path.{_≡_, refl, sym, ap₂, _∙_}
+use Prim.Native.Nat.{_≤_, _-_, _+_}
 use Rattle.rows.specs.Rows.{marksAllow, rowState, stateAfter}
 use Rattle.rows.proofs.RowLaws.{allowedFrom, marks-all, marks-turn, marks-done, row-turn, row-zero}
 use Rattle.nights.proofs.hers.marks_allow.Statement.{statement}

@@ -1,0 +1,41 @@
+-- The numbers that the reader gives with a yes are an accepted ward.
+use Prim.Native.Nat.{ℕ, _≤_, _<_}
+use mathlib.Core.Path.{_≡_, refl, sym, ap, _∙_, subst}
+use mathlib.Core.List.{List}
+use native.Mathlib.Omega.{arith}
+use lib.ListN.{length, getD, take, length-append}
+use lib.Seq.{take-at}
+use Rattle.ward.specs.declared.Answer.the-variants.{Yes, No}
+use Rattle.ward.specs.declared.Reading.{Reading}
+use Rattle.ward.specs.Grammar.{Read, good, bad}
+use Rattle.ward.specs.Answers.{refusedOf, readingOf, readWard}
+use Rattle.ward.specs.Fields.{Accepted}
+use Rattle.ward.proofs.RoundTrip.{ward-back}
+use Rattle.ward.proofs.BothWaysLaws.{all-bytes}
+use Rattle.ward.proofs.AcceptedLaws.{accepted-ward}
+
+pub reading-accepted : (file : List ℕ) (r : Reading) → ((i : ℕ) → getD file i 0 < 256) → r ≡ readingOf (readWard file) → r .answer ≡ Yes
+    → Accepted (take (r .ward .count) (r .ward .numbers))
+unfolding readingOf refusedOf
+reading-accepted file r bytes e told = go (readWard file) refl
+  where
+    go : (x : Read) → readWard file ≡ x → Accepted (take (r .ward .count) (r .ward .numbers))
+    go (good ws) q =
+        let same : r ≡ readingOf (good ws) = e ∙ ap readingOf q in
+        let ok = accepted-ward ws ws (ward-back file ws (all-bytes file bytes) q .1) in
+        let is : take (r .ward .count) (r .ward .numbers) ≡ ws = ap (λ (y : Reading). take (y .ward .count) (y .ward .numbers)) same ∙ take-at ws _ (length ws) refl in
+        subst Accepted (sym is) ok
+    go (bad k p) q =
+        let same : r ≡ readingOf (bad k p) = e ∙ ap readingOf q in
+        let refused : r .answer ≡ No k p = ap (λ (y : Reading). y .answer) same in
+        let z : _≡_ {A = ℕ} 0 1 = cc in
+        absurd (omega arith)
+
+-- and the count is one of the array's
+pub reading-fits : (file : List ℕ) (r : Reading) → r ≡ readingOf (readWard file) → r .ward .count ≤ length (r .ward .numbers)
+unfolding readingOf refusedOf
+reading-fits file r e = subst (λ (y : Reading). y .ward .count ≤ length (y .ward .numbers)) (sym e) (go (readWard file))
+  where
+    go : (x : Read) → readingOf x .ward .count ≤ length (readingOf x .ward .numbers)
+    go (good ws) = simp length-append (omega arith)
+    go (bad k p) = omega arith
