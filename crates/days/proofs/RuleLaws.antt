@@ -1,6 +1,6 @@
 -- Laws of the day rule over a row: what each loop over places or days has left.
 use mathlib.Core.Path.{_≡_, refl, sym, ap, _∙_, subst}
-use mathlib.Core.Bool.{Bool, true, false, cond, not, _&&_, _||_, and-false}
+use mathlib.Core.Bool.{Bool, true, false, cond, not, _&&_, _||_, and-true}
 use mathlib.Core.List.{List, [], _∷_, map}
 use Prim.Native.Nat.{ℕ, zero, suc, _+_, _-_, _≤_, _<_, _^_}
 use native.Mathlib.Nat.{sub-zero, add-zero}
@@ -224,3 +224,37 @@ module _ (row : List ℕ) (q d : ℕ) where
   pub rest-is-not : {x : ℕ} {v : Bool} → x ≡ dutyAt row q (d + 7) → v ≡ isRest x → v ≡ false → 0 ≡ restOn row q d
   unfolding restOn
   rest-is-not e g y = rw (← e, ← g, y)
+
+-- ---- all windows that end at one place
+
+module _ (f : ℕ → ℕ) (longest t : ℕ) where
+  pub hold-run : {v : Bool} → v ≡ all inRun (window f (suc longest) t) → v ≡ true → false ≡ windowsHold f longest t
+  unfolding windowsHold
+  hold-run e y = rw (← e, y)
+
+  pub hold-unrested : {v x : Bool} → v ≡ all inRun (window f (suc longest) t) → v ≡ false → x ≡ anyOf isRest (window f 7 t) → x ≡ false → false ≡ windowsHold f longest t
+  unfolding windowsHold
+  hold-unrested e y g z = rw (← e, y, ← g, z)
+
+  pub hold-rested : {v x s : Bool} → v ≡ all inRun (window f (suc longest) t) → v ≡ false → x ≡ anyOf isRest (window f 7 t) → x ≡ true
+      → s ≡ same (0 ∷ 1 ∷ 0 ∷ 1 ∷ 0 ∷ []) (window f 5 t) → not s ≡ windowsHold f longest t
+  unfolding windowsHold freeOf
+  hold-rested {s = s} e y g z k = rw (← e, y, ← g, z, ← k) (sym (and-true (not s)))
+
+-- ---- the rule
+
+module _ (m : Month) (row : List ℕ) (q : ℕ) where
+  pub rule-unchosen : {v : Bool} → v ≡ choiceOf m q → v ≡ false → false ≡ ruleOf m row q
+  unfolding ruleOf
+  rule-unchosen e y = rw (← e, y)
+
+  pub rule-window : {v x : Bool} → v ≡ choiceOf m q → v ≡ true
+      → x ≡ all (windowsHold (dutyAt row q) (m .longest)) (upFrom 7 (m .days)) → x ≡ false → false ≡ ruleOf m row q
+  unfolding ruleOf
+  rule-window e y g z = rw (← e, y, ← g, z)
+
+  pub rule-rests : {v x r : Bool} {k : ℕ} → v ≡ choiceOf m q → v ≡ true
+      → x ≡ all (windowsHold (dutyAt row q) (m .longest)) (upFrom 7 (m .days)) → x ≡ true
+      → k ≡ rests (dutyAt row q) (m .days) → r ≡ inBounds (m .least) (m .most) k → r ≡ ruleOf m row q
+  unfolding ruleOf
+  rule-rests e y g z h i = rw (← e, y, ← g, z, ← h) i
