@@ -78,9 +78,9 @@ reach m row (suc d) s =
     (branch m row (λ x. reach m row d x) d (s * 2 ^ suc d))
     (branch m row (λ x. reach m row d x) d (s * 2 ^ suc d + 2 ^ d))
 
--- a table of them
-pub record Filled (m : Month) (row table : List ℕ) : Type 0 where
-  pub entry : (d s : ℕ) → d ≤ m .days → s < 64 → getD table (64 * d + s) 0 ≡ reach m row d s
+-- the first k places of a table hold them, 64 for each day
+pub record Filled (m : Month) (row table : List ℕ) (k : ℕ) : Type 0 where
+  pub entry : (j : ℕ) → j < k → getD table j 0 ≡ reach m row (j / 64) (j % 64)
 
 -- ---- the walk
 
