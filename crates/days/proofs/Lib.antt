@@ -1,3 +1,6 @@
 pub mod RuleLaws
 pub mod MonthLaws
 pub mod WalkLaws
+pub mod LocalLaws
+pub mod ReachLaws
+pub mod ListLaws

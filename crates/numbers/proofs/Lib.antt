@@ -2,3 +2,4 @@ pub mod RangeLaws
 pub mod SumLaws
 pub mod DigitLaws
 pub mod BufferLaws
+pub mod AgreeLaws
