@@ -4,3 +4,4 @@ pub mod WalkLaws
 pub mod LocalLaws
 pub mod ReachLaws
 pub mod ListLaws
+pub mod SheetLaws

@@ -1,5 +1,4 @@
 -- `days::month::in_bounds` meets its contract.
-use Rattle.days.proofs.ListLaws as temporary
 use borrow.Author.Tests.{le-leb, lt-leb}
 use borrow.Author.Needs.{needs}
 use Rattle.days.proofs.month.in_bounds.Statement.{statement}
