@@ -1,14 +1,12 @@
 -- Lists one after the other in a buffer: one turn of the loops that count and write them, and each list's stretch.
 use mathlib.Core.Path.{_≡_, refl, sym, ap, _∙_, subst}
-use mathlib.Core.Bool.{Bool, true, false, cond}
-use mathlib.Core.List.{List, [], _∷_, _++_, append-nil, append-assoc}
+use mathlib.Core.List.{List, [], _++_, append-nil, append-assoc}
 use Prim.Native.Nat.{ℕ, zero, suc, _+_, _-_, _≤_, _<_, min}
 use native.Mathlib.Nat.{add-zero, sub-zero}
 use native.Mathlib.Numerals.{add-one}
 use native.Mathlib.Omega.{arith}
 use native.Mathlib.Decide.{decLt}
 use borrow.Author.Tests.{le-leb, lt-leb}
-use lib.Dec.{leb}
 use lib.ListN.{length, getD, set, take, drop, length-append, length-set}
 use lib.Seq.{getD-set-same, getD-set-other, drop-append-seam, take-append-seam}
 use Rattle.days.specs.Lists.{upTo, firstOver, Counted}
