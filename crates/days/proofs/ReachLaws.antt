@@ -43,7 +43,7 @@ meets m row q e =
     let c = and-parts _ _ (a .1) in
     record {
       below = ltb-true q (2 ^ m .days) (b .0);
-      chosen = λ d h. all-in _ 1 (m .days) (suc d) (b .1) (omega arith) (omega arith);
+      chosen = λ d h. all-in (λ e. cond (started q e) (started (m .free) e) (not (started (m .fixed) e))) 1 (m .days) (suc d) (b .1) (s≤s d) (more d (m .days) h);
       windows = λ t l h. all-in (windowsHold (dutyAt row q) (m .longest)) 7 (m .days) t (c .0) l h;
       bounds = c .1;
     }

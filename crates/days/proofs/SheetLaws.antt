@@ -7,6 +7,7 @@ use native.Mathlib.Omega.{arith}
 use native.Mathlib.Decide.{decLt}
 use borrow.Author.Tests.{lt-ltb, le-ltb, ltb-true, eqb-true}
 use lib.Dec.{ltb, eqb}
+use lib.Pow.{pow-mono}
 use lib.ListN.{length, take, drop}
 use Rattle.numbers.specs.Range.{upFrom, keep, all, Ascending}
 use Rattle.numbers.specs.Digits.{has, numberOf}
@@ -16,8 +17,9 @@ use Rattle.numbers.proofs.AgreeLaws.{all-agree, keep-agree, all-in}
 use Rattle.ward.specs.Fields.{Accepted, days, longestDays, nurses, block, blockAt, duty, leastRestsOf, mostRestsOf, markOn}
 use Rattle.rows.specs.Rows.{started, rowState, available, availableOn, fixedDay, dutyOf, dutyOn}
 use Rattle.days.specs.Days.{choice, rowDuty, isRest, windowsHold, rests, dayRule, dayRuleOf, dayList}
-use Rattle.days.specs.Walk.{IsSheet, Small, inBounds, dutyAt, choiceOf, ruleOf, listed}
+use Rattle.days.specs.Walk.{IsSheet, Small, inBounds, dutyAt, choiceOf, ruleOf, listed, listedAt, Inside}
 use Rattle.days.specs.declared.month.Month.{Month}
+use Rattle.days.specs.declared.walk.Point.{Point}
 use Rattle.days.proofs.LocalLaws.{windows-same}
 use Rattle.days.proofs.ReachLaws.{Bounded}
 use Rattle.days.proofs.ListLaws.{walk-lists}
@@ -129,7 +131,7 @@ bounded b n longest p m row s few short = record {
       ∙ ap₂ (λ (x y : ℕ). inBounds x y k) (sym (s .least-is)) (sym (s .most-is));
 }
 
-pub lists-day-list : (w : List ℕ) (i p : ℕ) (m : Month) (row : List ℕ) → Accepted w → IsSheet (block w i) (days w) (longestDays w) p m row
+lists-day-list : (w : List ℕ) (i p : ℕ) (m : Month) (row : List ℕ) → Accepted w → IsSheet (block w i) (days w) (longestDays w) p m row
     → listed m row (days w) 0 0 ≡ dayList w i p
 unfolding dayList
 lists-day-list w i p m row a s =
@@ -170,3 +172,16 @@ unfolding block blockAt
 block-part w i =
     let e : 16 + i * (11 + days w) + (11 + days w) - (16 + i * (11 + days w)) ≡ 11 + days w = omega arith in
     ap (λ (k : ℕ). take k (drop (16 + i * (11 + days w)) w)) e
+
+-- ---- the walk's beginning
+
+pub start-inside : (m : Month) → Small m → {s : Point} → s ≡ record { left = m .days; from = 0; rests = 0 } → Inside m s
+start-inside m small e = subst (Inside m) (sym e) (record {
+  days-left = omega arith;
+  fits = omega (arith, pow-mono {i = m .days} {j = 31} (small .few-days));
+})
+
+pub start-lists : (w : List ℕ) (i p : ℕ) (m : Month) (row : List ℕ) {s : Point} → Accepted w → IsSheet (block w i) (days w) (longestDays w) p m row
+    → s ≡ record { left = m .days; from = 0; rests = 0 } → listedAt m row s ≡ dayList w i p
+start-lists w i p m row a h e =
+    ap (listedAt m row) e ∙ ap (λ (k : ℕ). listed m row k 0 0) (h .days-is) ∙ lists-day-list w i p m row a h

@@ -1,5 +1,5 @@
 -- Laws of the table and of the walk: what each function of the code has in hand is what the model says.
-use mathlib.Core.Path.{_≡_, refl, ap, ap₂, _∙_}
+use mathlib.Core.Path.{_≡_, refl, sym, ap, ap₂, _∙_}
 use mathlib.Core.Bool.{Bool, true, false, cond, not}
 use mathlib.Core.List.{List, [], _∷_, _++_}
 use Prim.Native.Nat.{ℕ, zero, suc, _+_, _-_, _*_, _/_, _%_, _^_, _≤_, _<_, min}
@@ -12,9 +12,14 @@ use lib.ListN.{length, getD, set, length-append}
 use Rattle.numbers.specs.Range.{upFrom, all}
 use Rattle.numbers.specs.Digits.{has}
 use Rattle.days.specs.Days.{windowsHold}
-use Rattle.days.specs.Walk.{Filled, dutyAt, ruleOf, stepHolds, restOn, branch, reach, goesOn, listed}
+use Rattle.days.specs.Walk.{Filled, dutyAt, ruleOf, stepHolds, restOn, branch, reach, goesOn, listed, listedAt, Next, Inside}
 use Rattle.days.specs.declared.month.Month.{Month}
+use Rattle.days.specs.declared.walk.Point.{Point}
 use Rattle.days.proofs.MonthLaws.{place-turn}
+
+pub pow-half : (n : ℕ) → (n ≡ 0 → ⊥) → 2 ^ n ≡ 2 ^ (n - 1) + 2 ^ (n - 1)
+pow-half zero f = absurd (f refl)
+pow-half (suc d) f = rw (sub-one (suc d), pow-suc 2 d) (omega arith)
 
 module _ (m : Month) (row : List ℕ) where
   -- ---- one day
@@ -92,12 +97,12 @@ module _ (m : Month) (row : List ℕ) where
 
   -- ---- the walk
 
-  module _ (left a r : ℕ) where
-    pub leaf-yes : {v : Bool} → left ≡ 0 → v ≡ ruleOf m row a → v ≡ true → listed m row left a r ≡ a ∷ []
+  module _ (s : Point) where
+    pub leaf-yes : {v : Bool} → s .left ≡ 0 → v ≡ ruleOf m row (s .from) → v ≡ true → listedAt m row s ≡ s .from ∷ []
     unfolding listed
     leaf-yes z e y = rw (z, ← e, y)
 
-    pub leaf-no : {v : Bool} → left ≡ 0 → v ≡ ruleOf m row a → v ≡ false → listed m row left a r ≡ []
+    pub leaf-no : {v : Bool} → s .left ≡ 0 → v ≡ ruleOf m row (s .from) → v ≡ false → listedAt m row s ≡ []
     unfolding listed
     leaf-no z e y = rw (z, ← e, y)
 
@@ -107,20 +112,36 @@ module _ (m : Month) (row : List ℕ) where
   node-is zero a r f = absurd (f refl)
   node-is (suc d) a r f = rw (sub-one (suc d))
 
-  module _ (left a r : ℕ) (f : left ≡ 0 → ⊥) where
-    pub node-no : {v : Bool} → v ≡ goesOn m row left a r → v ≡ false → listed m row left a r ≡ []
-    node-no e y = node-is left a r f ∙ rw (← e, y)
+  -- a point and what its next day leaves
+  next-lists : (s t : Point) (a : ℕ) → Next row s a t → listedAt m row t ≡ listed m row (s .left - 1) a (s .rests + restOn row a (s .left - 1))
+  next-lists s t a n = rw (n .left-is, n .from-is, n .rests-is)
 
-    pub node-yes : {v : Bool} {b x y : ℕ} → v ≡ goesOn m row left a r → v ≡ true → b ≡ 2 ^ (left - 1)
-        → x ≡ restOn row a (left - 1) → y ≡ restOn row (a + b) (left - 1)
-        → listed m row left a r ≡ listed m row (left - 1) a (r + x) ++ listed m row (left - 1) (a + b) (r + y)
-    node-yes e t g h k = node-is left a r f ∙ rw (← e, t, h, k, g)
+  module _ (s : Point) (f : s .left ≡ 0 → ⊥) where
+    pub node-no : {v : Bool} → v ≡ goesOn m row (s .left) (s .from) (s .rests) → v ≡ false → listedAt m row s ≡ []
+    node-no e y = node-is (s .left) (s .from) (s .rests) f ∙ rw (← e, y)
 
-    pub half-fits : {v : Bool} {x : ℕ} → v ≡ goesOn m row left a r → v ≡ true → x ≡ restOn row a (left - 1)
-        → length (listed m row (left - 1) a (r + x)) ≤ length (listed m row left a r)
-    half-fits {x = x} e t h =
-        omega (arith, simp length-append at (ap length (node-yes {x = x} {y = restOn row (a + 2 ^ (left - 1)) (left - 1)} e t refl h refl)))
+    pub node-yes : {v : Bool} {b : ℕ} (t u : Point) → v ≡ goesOn m row (s .left) (s .from) (s .rests) → v ≡ true → b ≡ 2 ^ (s .left - 1)
+        → Next row s (s .from) t → Next row s (s .from + b) u → listedAt m row s ≡ listedAt m row t ++ listedAt m row u
+    node-yes {b = b} t u e y g h k =
+        node-is (s .left) (s .from) (s .rests) f
+        ∙ rw (← e, y, ← g) (sym (ap₂ _++_ (next-lists s t (s .from) h) (next-lists s u (s .from + b) k)))
 
-pub pow-half : (n : ℕ) → (n ≡ 0 → ⊥) → 2 ^ n ≡ 2 ^ (n - 1) + 2 ^ (n - 1)
-pow-half zero f = absurd (f refl)
-pow-half (suc d) f = rw (sub-one (suc d), pow-suc 2 d) (omega arith)
+    pub half-fits : {v : Bool} (t : Point) → v ≡ goesOn m row (s .left) (s .from) (s .rests) → v ≡ true → Next row s (s .from) t
+        → length (listedAt m row t) ≤ length (listedAt m row s)
+    half-fits t e y h =
+        let B = listed m row (s .left - 1) (s .from + 2 ^ (s .left - 1)) (s .rests + restOn row (s .from + 2 ^ (s .left - 1)) (s .left - 1)) in
+        let whole : listedAt m row s ≡ listedAt m row t ++ B =
+        node-is (s .left) (s .from) (s .rests) f ∙ rw (← e, y) (ap (λ (l : List ℕ). l ++ B) (sym (next-lists s t (s .from) h))) in
+        omega (arith, simp length-append at (ap length whole))
+
+    next-inside : (t : Point) (a : ℕ) → s .rests + s .left ≤ m .days → a + 2 ^ (s .left - 1) ≤ 2 ^ 32 → Next row s a t → Inside m t
+    next-inside t a l h n = record {
+      days-left = omega (arith, n .left-is, n .rests-most, f);
+      fits = rw (n .left-is, n .from-is) h;
+    }
+
+    pub low-inside : (t : Point) → Inside m s → Next row s (s .from) t → Inside m t
+    low-inside t i n = next-inside t (s .from) (i .days-left) (omega (arith, i .fits, pow-half (s .left) f)) n
+
+    pub high-inside : {b : ℕ} (t : Point) → Inside m s → b ≡ 2 ^ (s .left - 1) → Next row s (s .from + b) t → Inside m t
+    high-inside {b} t i e n = next-inside t (s .from + b) (i .days-left) (omega (arith, e, i .fits, pow-half (s .left) f)) n

@@ -15,6 +15,7 @@ use Rattle.ward.specs.Fields.{leastRestsOf, mostRestsOf}
 use Rattle.rows.specs.Rows.{started, availableOn, fixedDay}
 use Rattle.days.specs.Days.{rowDuty, isRest, windowsHold, rests}
 use Rattle.days.specs.declared.month.Month.{Month}
+use Rattle.days.specs.declared.walk.Point.{Point}
 
 -- a count of rests within bounds
 abbrev pub inBounds : ℕ → ℕ → ℕ → Bool
@@ -93,3 +94,18 @@ listed m row zero a r = cond (ruleOf m row a) (a ∷ []) []
 listed m row (suc d) a r =
     cond (goesOn m row (suc d) a r)
     (listed m row d a (r + restOn row a d) ++ listed m row d (a + 2 ^ d) (r + restOn row (a + 2 ^ d) d)) []
+
+abbrev pub listedAt : Month → List ℕ → Point → List ℕ
+listedAt m row s = listed m row (s .left) (s .from) (s .rests)
+
+-- the point after s where the next day is decided, so that the number is a
+pub record Next (row : List ℕ) (s : Point) (a : ℕ) (t : Point) : Type 0 where
+  pub left-is : t .left ≡ s .left - 1
+  pub from-is : t .from ≡ a
+  pub rests-is : t .rests ≡ s .rests + restOn row a (s .left - 1)
+  pub rests-most : t .rests ≤ s .rests + 1
+
+-- a point of a walk over the month
+pub record Inside (m : Month) (s : Point) : Type 0 where
+  pub days-left : s .rests + s .left ≤ m .days
+  pub fits : s .from + 2 ^ s .left ≤ 2 ^ 32

@@ -1,9 +1,9 @@
 // Day patterns over one choice of nights: whether one is hers, a nurse's list, and all nurses' lists in one buffer.
-mod month;
-mod rule;
-mod reach;
-mod walk;
 pub mod lists;
+mod month;
+mod reach;
+mod rule;
+mod walk;
 
 use month::Sheet;
 ghost use mathlib.Core.Path.{_≡_};
@@ -49,7 +49,7 @@ pub fn day_count(w: &[u64], i: usize, p: u32, cap: usize) -> usize
     let month = s.month;
     let row = s.row;
     let table = reach::table_of(month, &row);
-    walk::count(month, &row, &table, month.days, 0, 0, cap)
+    walk::count(month, &row, &table, walk::start(month.days), cap)
 }
 
 // Writes nurse i's day list from the buffer's start, which has the room.
@@ -64,5 +64,5 @@ pub fn day_fill(w: &[u64], i: usize, p: u32, buf: &mut [u32]) -> usize
     let month = s.month;
     let row = s.row;
     let table = reach::table_of(month, &row);
-    walk::fill(month, &row, &table, month.days, 0, 0, buf)
+    walk::fill(month, &row, &table, walk::start(month.days), buf)
 }

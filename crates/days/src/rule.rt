@@ -1,5 +1,6 @@
 // The day rule over a nurse's month: her choice of days, the windows, and the month's rests.
-use crate::month::{Month, in_bounds};
+use crate::month::Month;
+use crate::month::in_bounds;
 ghost use mathlib.Core.Path.{_≡_};
 ghost use mathlib.Core.Bool.{cond, not};
 ghost use mathlib.Core.List.{List, [], _∷_};

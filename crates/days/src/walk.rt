@@ -1,76 +1,110 @@
 // The walk over the days from the last to the first, not worked before worked.
 use crate::month::Month;
-use crate::rule;
 use crate::reach;
+use crate::rule;
 ghost use mathlib.Core.Path.{_≡_};
 ghost use mathlib.Core.List.{_++_};
-ghost use Prim.Native.Nat.{ℕ, _+_, _*_, _^_, _≤_, _<_, min};
+ghost use Prim.Native.Nat.{_+_, _*_, _≤_, _<_, min};
 ghost use lib.ListN.{length, drop};
-ghost use Rattle.days.specs.Walk.{Small, Filled, goesOn, listed};
+ghost use Rattle.days.specs.Walk.{Small, Filled, goesOn, listedAt, Next, Inside};
 
-// Whether a pattern may remain where the days before d are undecided.
-fn goes_on(m: Month, row: &[u64; 38], table: &[u64; 2048], d: usize, from: u64, rests: u64) -> bool
+// Where the walk stands: the days before `left` are undecided, the others make the number `from`, with so many rests.
+pub(crate) struct Point {
+    left: usize,
+    from: u64,
+    rests: u64,
+}
+
+// The walk's beginning in a month of n days.
+pub(crate) fn start(n: usize) -> Point
+    ensures { λ r. ⌜ r ≡ record { left = n; from = 0; rests = 0 } ⌝ }
+{
+    Point {
+        left: n,
+        from: 0,
+        rests: 0,
+    }
+}
+
+// One more day decided, so that the number is `from`.
+fn decided(row: &[u64; 38], s: Point, from: u64) -> Point
+    requires { ⌜ 0 < s .left ⌝ }
+    requires { ⌜ s .left ≤ 31 ⌝ }
+    requires { ⌜ s .rests ≤ 31 ⌝ }
+    ensures { λ r. ⌜ Next (now (row .entry)) s from r ⌝ }
+{
+    let day = s.left - 1;
+    Point {
+        left: day,
+        from: from,
+        rests: s.rests + rule::rest_on(row, from, day),
+    }
+}
+
+// Whether a pattern may remain.
+fn goes_on(m: Month, row: &[u64; 38], table: &[u64; 2048], s: Point) -> bool
     requires { ⌜ Small m ⌝ }
     requires { ⌜ Filled m (now row) (now table) (64 * m .days + 64) ⌝ }
-    requires { ⌜ d ≤ m .days ⌝ }
-    requires { ⌜ rests ≤ 31 ⌝ }
-    ensures { λ r. ⌜ r ≡ goesOn m (now (row .entry)) d from rests ⌝ }
+    requires { ⌜ Inside m s ⌝ }
+    ensures { λ r. ⌜ r ≡ goesOn m (now (row .entry)) (s .left) (s .from) (s .rests) ⌝ }
 {
-    if reach::step_holds(m, row, d, from) {
-        let at = reach::place(from, d);
-        return rule::has(table[at], rests as usize);
+    if reach::step_holds(m, row, s.left, s.from) {
+        let at = reach::place(s.from, s.left);
+        return rule::has(table[at], s.rests as usize);
     }
     false
 }
 
 // How many patterns there are below, but no more than cap.
-pub(crate) fn count(m: Month, row: &[u64; 38], table: &[u64; 2048], left: usize, from: u64, rests: u64, cap: usize) -> usize
+pub(crate) fn count(m: Month, row: &[u64; 38], table: &[u64; 2048], s: Point, cap: usize) -> usize
     requires { ⌜ Small m ⌝ }
     requires { ⌜ Filled m (now row) (now table) (64 * m .days + 64) ⌝ }
-    requires { ⌜ rests + left ≤ m .days ⌝ }
-    requires { ⌜ from + 2 ^ left ≤ 2 ^ 32 ⌝ }
-    ensures { λ k. ⌜ k ≡ min cap (length (listed m (now (row .entry)) left from rests)) ⌝ }
+    requires { ⌜ Inside m s ⌝ }
+    ensures { λ k. ⌜ k ≡ min cap (length (listedAt m (now (row .entry)) s)) ⌝ }
 {
     if cap == 0 {
         return 0;
     }
-    if left == 0 {
-        if rule::rule_holds(m, row, from) {
+    if s.left == 0 {
+        if rule::rule_holds(m, row, s.from) {
             return 1;
         }
         return 0;
     }
-    if goes_on(m, row, table, left, from, rests) {
-        let day = left - 1;
-        let with = from + (numbers::bit(day as u64) as u64);
-        let low = count(m, row, table, day, from, rests + rule::rest_on(row, from, day), cap);
-        return low + count(m, row, table, day, with, rests + rule::rest_on(row, with, day), cap - low);
+    if goes_on(m, row, table, s) {
+        let with = s.from + (numbers::bit((s.left - 1) as u64) as u64);
+        let low = count(m, row, table, decided(row, s, s.from), cap);
+        return low + count(m, row, table, decided(row, s, with), cap - low);
     }
     0
 }
 
-// Writes the patterns below from the buffer's start.
-pub(crate) fn fill(m: Month, row: &[u64; 38], table: &[u64; 2048], left: usize, from: u64, rests: u64, buf: &mut [u32]) -> usize
+// Writes the patterns below from the buffer's start: those without the next day, and in the rest of the buffer those with it.
+pub(crate) fn fill(
+    m: Month,
+    row: &[u64; 38],
+    table: &[u64; 2048],
+    s: Point,
+    buf: &mut [u32],
+) -> usize
     requires { ⌜ Small m ⌝ }
     requires { ⌜ Filled m (now row) (now table) (64 * m .days + 64) ⌝ }
-    requires { ⌜ rests + left ≤ m .days ⌝ }
-    requires { ⌜ from + 2 ^ left ≤ 2 ^ 32 ⌝ }
-    requires { ⌜ length (listed m (now row) left from rests) ≤ length (now buf) ⌝ }
-    ensures { λ k. ⌜ k ≡ length (listed m (now (row .entry)) left from rests) ⌝ }
-    ensures { λ k. ⌜ now (buf .exit) ≡ listed m (now (row .entry)) left from rests ++ drop (length (listed m (now (row .entry)) left from rests)) (now (buf .entry)) ⌝ }
+    requires { ⌜ Inside m s ⌝ }
+    requires { ⌜ length (listedAt m (now row) s) ≤ length (now buf) ⌝ }
+    ensures { λ k. ⌜ k ≡ length (listedAt m (now (row .entry)) s) ⌝ }
+    ensures { λ k. ⌜ now (buf .exit) ≡ listedAt m (now (row .entry)) s ++ drop (length (listedAt m (now (row .entry)) s)) (now (buf .entry)) ⌝ }
 {
-    if left == 0 {
-        if rule::rule_holds(m, row, from) {
-            buf[0] = from as u32;
+    if s.left == 0 {
+        if rule::rule_holds(m, row, s.from) {
+            buf[0] = s.from as u32;
             return 1;
         }
         return 0;
     }
-    if goes_on(m, row, table, left, from, rests) {
-        let day = left - 1;
-        let with = from + (numbers::bit(day as u64) as u64);
-        let low = fill(m, row, table, day, from, rests + rule::rest_on(row, from, day), buf);
-        return low + fill(m, row, table, day, with, rests + rule::rest_on(row, with, day), &mut buf[low..]);
+    if goes_on(m, row, table, s) {
+        let with = s.from + (numbers::bit((s.left - 1) as u64) as u64);
+        let low = fill(m, row, table, decided(row, s, s.from), buf);
+        return low + fill(m, row, table, decided(row, s, with), &mut buf[low..]);
     }
     0
 }

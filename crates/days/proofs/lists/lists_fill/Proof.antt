@@ -57,10 +57,14 @@ day-fill-requires c κs = let s = c .before .before .before .before .before .bef
     let l = c .before .before .before .loop in
     let f = dayLists (s .w .now) (s .nights .now) in
     let low = up-mono f (l .i) (nurses (s .w .now)) (l .inv .0) in
-    let next = up-mono f (l .i + 1) (nurses (s .w .now)) (omega (arith, c .before .before .loop-test .taken)) in
-    (c .before .before .before .before .before .before .before .pre .0, (c .before .before .loop-test .taken,
-    rw (part-is (upTo f (l .i)) (s .buf .now) (l .buf) (l .at) (l .inv .1) (l .inv .2) (omega (arith, low, c .before .before .before .before .before .before .before .pre .1)), length-drop)
-    (omega (arith, next, up-length f (l .i), c .before .before .before .before .before .before .before .pre .1))))
+    let next = up-mono f (l .i + 1) (nurses (s .w .now)) (omega (arith, c .before .before .loop-test .taken)) in (
+      c .before .before .before .before .before .before .before .pre .0,
+      (
+        c .before .before .loop-test .taken,
+        rw (part-is (upTo f (l .i)) (s .buf .now) (l .buf) (l .at) (l .inv .1) (l .inv .2) (omega (arith, low, c .before .before .before .before .before .before .before .pre .1)), length-drop)
+            (omega (arith, next, up-length f (l .i), c .before .before .before .before .before .before .before .pre .1)),
+      ),
+    )
 
 add-at : tie.Need-add-at Inv-loop μ-loop
 add-at c = let s = c .before .before .before .before .before .before .before .before .before .before .args in

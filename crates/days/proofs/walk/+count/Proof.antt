@@ -1,24 +1,24 @@
 -- The proof of the cycle of calls {count}. The measure is the number of undecided days.
 use native.Mathlib.Omega.{arith}
 use mathlib.Core.Path.{ap}
-use Prim.Native.Nat.{_+_, ℕ, _<_}
 use lib.ListN.{length, length-append}
-use Rattle.days.proofs.WalkLaws.{leaf-yes, leaf-no, node-yes, node-no, pow-half}
+use Rattle.days.proofs.WalkLaws.{leaf-yes, leaf-no, node-yes, node-no, low-inside, high-inside, pow-half}
 use borrow.Author.Needs.{needs}
+use Prim.Native.Nat.{ℕ, _<_}
 use borrow.Fn.Kinds.{In}
 use borrow.Fn.PlainCycle.{Measures, is, falls, and}
 use Rattle.days.proofs.walk.count.Reads as count
 use Rattle.days.proofs.walk.count.Kinds as count-kinds
 use Rattle.days.proofs.walk.+count.Lts-count as count-lts
-use Rattle.days.proofs.rule.rest_on.Reads as rest-on-reads
 use Rattle.days.proofs.rule.rule_holds.Reads as rule-holds-reads
+use Rattle.days.proofs.walk.decided.Reads as decided-reads
 use Rattle.days.proofs.walk.goes_on.Reads as goes-on-reads
 use Rattle.numbers.proofs.bit.Reads as bit-reads
 use Rattle.days.proofs.walk.+count.{statement}
 use Rattle.days.proofs.walk.+count.Tie.{close}
 
 abbrev μ-count : Measures 2 count-kinds.ps ℕ
-μ-count κs a = a .1 .1 .1 .0
+μ-count κs a = a .1 .1 .1 .0 .left
 
 abbrev count-at : ℕ → In 2 count-kinds.ps
 count-at t = and 2 count-kinds.ps (is 2 count-kinds.ps μ-count t) count.Pre
@@ -33,8 +33,8 @@ count-returns : (t : ℕ) → count-lts.Need-returns (
   goes-on-reads.Learnt,
   bit-reads.Asked,
   bit-reads.Learnt,
-  rest-on-reads.Asked,
-  rest-on-reads.Learnt,
+  decided-reads.Asked,
+  decided-reads.Learnt,
   count-below t,
   count.Post,
 ) (count-at t) count.Post
@@ -47,8 +47,8 @@ count-rule-holds-requires : (t : ℕ) → count-lts.Need-rule-holds-requires (
   goes-on-reads.Learnt,
   bit-reads.Asked,
   bit-reads.Learnt,
-  rest-on-reads.Asked,
-  rest-on-reads.Learnt,
+  decided-reads.Asked,
+  decided-reads.Learnt,
   count-below t,
   count.Post,
 ) (count-at t) count.Post
@@ -61,13 +61,13 @@ count-returns-2 : (t : ℕ) → count-lts.Need-returns-2 (
   goes-on-reads.Learnt,
   bit-reads.Asked,
   bit-reads.Learnt,
-  rest-on-reads.Asked,
-  rest-on-reads.Learnt,
+  decided-reads.Asked,
+  decided-reads.Learnt,
   count-below t,
   count.Post,
 ) (count-at t) count.Post
-count-returns-2 t c = let s = c .before .before .before .before .args in
-    omega (arith, ap length (leaf-yes (s .m) (s .row .now) (s .left) (s .from) (s .rests) (c .before .before .if2 .taken) (c .before .rule-holds .ensures) (c .if3 .taken)))
+count-returns-2 t c = let s = c .before .before .before .before .before .args in
+    omega (arith, ap length (leaf-yes (s .m) (s .row .now) (s .s) (c .before .before .if2 .taken) (c .before .rule-holds .ensures) (c .if3 .taken)))
 
 count-returns-3 : (t : ℕ) → count-lts.Need-returns-3 (
   rule-holds-reads.Asked,
@@ -76,13 +76,13 @@ count-returns-3 : (t : ℕ) → count-lts.Need-returns-3 (
   goes-on-reads.Learnt,
   bit-reads.Asked,
   bit-reads.Learnt,
-  rest-on-reads.Asked,
-  rest-on-reads.Learnt,
+  decided-reads.Asked,
+  decided-reads.Learnt,
   count-below t,
   count.Post,
 ) (count-at t) count.Post
-count-returns-3 t c = let s = c .before .before .before .before .args in
-    omega (arith, ap length (leaf-no (s .m) (s .row .now) (s .left) (s .from) (s .rests) (c .before .before .if2 .taken) (c .before .rule-holds .ensures) (c .if3 .left)))
+count-returns-3 t c = let s = c .before .before .before .before .before .args in
+    omega (arith, ap length (leaf-no (s .m) (s .row .now) (s .s) (c .before .before .if2 .taken) (c .before .rule-holds .ensures) (c .if3 .left)))
 
 count-goes-on-requires : (t : ℕ) → count-lts.Need-goes-on-requires (
   rule-holds-reads.Asked,
@@ -91,27 +91,26 @@ count-goes-on-requires : (t : ℕ) → count-lts.Need-goes-on-requires (
   goes-on-reads.Learnt,
   bit-reads.Asked,
   bit-reads.Learnt,
-  rest-on-reads.Asked,
-  rest-on-reads.Learnt,
+  decided-reads.Asked,
+  decided-reads.Learnt,
   count-below t,
   count.Post,
 ) (count-at t) count.Post
-count-goes-on-requires t c κs = let pre = c .before .before .pre in
-    (pre .1 .0, (pre .1 .1 .0, (omega (arith, pre .1 .1 .1 .0), omega (arith, pre .1 .1 .1 .0, pre .1 .0 .few-days))))
+count-goes-on-requires t c κs = search needs
 
-count-sub-day : (t : ℕ) → count-lts.Need-sub-day (
+count-sub-bit : (t : ℕ) → count-lts.Need-sub-bit (
   rule-holds-reads.Asked,
   rule-holds-reads.Learnt,
   goes-on-reads.Asked,
   goes-on-reads.Learnt,
   bit-reads.Asked,
   bit-reads.Learnt,
-  rest-on-reads.Asked,
-  rest-on-reads.Learnt,
+  decided-reads.Asked,
+  decided-reads.Learnt,
   count-below t,
   count.Post,
 ) (count-at t) count.Post
-count-sub-day t c = search needs
+count-sub-bit t c = search needs
 
 count-bit-requires : (t : ℕ) → count-lts.Need-bit-requires (
   rule-holds-reads.Asked,
@@ -120,12 +119,12 @@ count-bit-requires : (t : ℕ) → count-lts.Need-bit-requires (
   goes-on-reads.Learnt,
   bit-reads.Asked,
   bit-reads.Learnt,
-  rest-on-reads.Asked,
-  rest-on-reads.Learnt,
+  decided-reads.Asked,
+  decided-reads.Learnt,
   count-below t,
   count.Post,
 ) (count-at t) count.Post
-count-bit-requires t c κs = search needs
+count-bit-requires t c κs = omega (arith, c .before .before .before .before .before .before .pre .1 .0 .few-days, c .before .before .before .before .before .before .pre .1 .1 .1 .days-left)
 
 count-cast-with : (t : ℕ) → count-lts.Need-cast-with (
   rule-holds-reads.Asked,
@@ -134,8 +133,8 @@ count-cast-with : (t : ℕ) → count-lts.Need-cast-with (
   goes-on-reads.Learnt,
   bit-reads.Asked,
   bit-reads.Learnt,
-  rest-on-reads.Asked,
-  rest-on-reads.Learnt,
+  decided-reads.Asked,
+  decided-reads.Learnt,
   count-below t,
   count.Post,
 ) (count-at t) count.Post
@@ -148,41 +147,26 @@ count-add-with : (t : ℕ) → count-lts.Need-add-with (
   goes-on-reads.Learnt,
   bit-reads.Asked,
   bit-reads.Learnt,
-  rest-on-reads.Asked,
-  rest-on-reads.Learnt,
+  decided-reads.Asked,
+  decided-reads.Learnt,
   count-below t,
   count.Post,
 ) (count-at t) count.Post
-count-add-with t c = let s = c .before .before .before .before .before .args in
-    omega (arith, c .bit .ensures, pow-half (s .left) (c .before .before .before .if2 .left), c .before .before .before .before .before .pre .1 .1 .1 .1)
+count-add-with t c = omega (arith, c .before .bit .ensures, pow-half (c .before .before .before .before .before .before .before .before .args .s .left) (c .before .before .before .before .before .if2 .left), c .before .before .before .before .before .before .before .before .pre .1 .1 .1 .fits)
 
-count-rest-on-requires : (t : ℕ) → count-lts.Need-rest-on-requires (
+count-decided-requires : (t : ℕ) → count-lts.Need-decided-requires (
   rule-holds-reads.Asked,
   rule-holds-reads.Learnt,
   goes-on-reads.Asked,
   goes-on-reads.Learnt,
   bit-reads.Asked,
   bit-reads.Learnt,
-  rest-on-reads.Asked,
-  rest-on-reads.Learnt,
+  decided-reads.Asked,
+  decided-reads.Learnt,
   count-below t,
   count.Post,
 ) (count-at t) count.Post
-count-rest-on-requires t c κs = search needs
-
-count-add-count : (t : ℕ) → count-lts.Need-add-count (
-  rule-holds-reads.Asked,
-  rule-holds-reads.Learnt,
-  goes-on-reads.Asked,
-  goes-on-reads.Learnt,
-  bit-reads.Asked,
-  bit-reads.Learnt,
-  rest-on-reads.Asked,
-  rest-on-reads.Learnt,
-  count-below t,
-  count.Post,
-) (count-at t) count.Post
-count-add-count t c = search needs
+count-decided-requires t c κs = (omega (arith, c .before .before .before .before .before .if2 .left), (omega (arith, c .before .before .before .before .before .before .before .before .pre .1 .0 .few-days, c .before .before .before .before .before .before .before .before .pre .1 .1 .1 .days-left), omega (arith, c .before .before .before .before .before .before .before .before .pre .1 .0 .few-days, c .before .before .before .before .before .before .before .before .pre .1 .1 .1 .days-left)))
 
 count-count-requires : (t : ℕ) → count-lts.Need-count-requires (
   rule-holds-reads.Asked,
@@ -191,43 +175,27 @@ count-count-requires : (t : ℕ) → count-lts.Need-count-requires (
   goes-on-reads.Learnt,
   bit-reads.Asked,
   bit-reads.Learnt,
-  rest-on-reads.Asked,
-  rest-on-reads.Learnt,
+  decided-reads.Asked,
+  decided-reads.Learnt,
   count-below t,
   count.Post,
 ) (count-at t) count.Post
-count-count-requires t c κs = let s = c .before .before .before .before .before .before .args in
-    let pre = c .before .before .before .before .before .before .pre in
-    let half = pow-half (s .left) (c .before .before .before .before .if2 .left) in
-    (omega (arith, pre .0, c .before .before .before .before .if2 .left), (pre .1 .0, (pre .1 .1 .0, (omega (arith, pre .1 .1 .1 .0, c .rest-on .ensures .1, c .before .before .before .before .if2 .left), omega (arith, half, pre .1 .1 .1 .1)))))
+count-count-requires t c κs = let s = c .before .before .before .before .before .before .before .before .before .args in
+    (omega (arith, c .before .before .before .before .before .before .before .before .before .pre .0, c .decided .ensures .left-is, c .before .before .before .before .before .before .if2 .left), (c .before .before .before .before .before .before .before .before .before .pre .1 .0, (c .before .before .before .before .before .before .before .before .before .pre .1 .1 .0, low-inside (s .m) (s .row .now) (s .s) (c .before .before .before .before .before .before .if2 .left) (c .decided .result) (c .before .before .before .before .before .before .before .before .before .pre .1 .1 .1) (c .decided .ensures))))
 
-count-rest-on-requires-2 : (t : ℕ) → count-lts.Need-rest-on-requires-2 (
+count-decided-requires-2 : (t : ℕ) → count-lts.Need-decided-requires-2 (
   rule-holds-reads.Asked,
   rule-holds-reads.Learnt,
   goes-on-reads.Asked,
   goes-on-reads.Learnt,
   bit-reads.Asked,
   bit-reads.Learnt,
-  rest-on-reads.Asked,
-  rest-on-reads.Learnt,
+  decided-reads.Asked,
+  decided-reads.Learnt,
   count-below t,
   count.Post,
 ) (count-at t) count.Post
-count-rest-on-requires-2 t c κs = search needs
-
-count-add-count-2 : (t : ℕ) → count-lts.Need-add-count-2 (
-  rule-holds-reads.Asked,
-  rule-holds-reads.Learnt,
-  goes-on-reads.Asked,
-  goes-on-reads.Learnt,
-  bit-reads.Asked,
-  bit-reads.Learnt,
-  rest-on-reads.Asked,
-  rest-on-reads.Learnt,
-  count-below t,
-  count.Post,
-) (count-at t) count.Post
-count-add-count-2 t c = search needs
+count-decided-requires-2 t c κs = (omega (arith, c .before .before .before .before .before .before .before .if2 .left), (omega (arith, c .before .before .before .before .before .before .before .before .before .before .pre .1 .0 .few-days, c .before .before .before .before .before .before .before .before .before .before .pre .1 .1 .1 .days-left), omega (arith, c .before .before .before .before .before .before .before .before .before .before .pre .1 .0 .few-days, c .before .before .before .before .before .before .before .before .before .before .pre .1 .1 .1 .days-left)))
 
 count-sub-count : (t : ℕ) → count-lts.Need-sub-count (
   rule-holds-reads.Asked,
@@ -236,8 +204,8 @@ count-sub-count : (t : ℕ) → count-lts.Need-sub-count (
   goes-on-reads.Learnt,
   bit-reads.Asked,
   bit-reads.Learnt,
-  rest-on-reads.Asked,
-  rest-on-reads.Learnt,
+  decided-reads.Asked,
+  decided-reads.Learnt,
   count-below t,
   count.Post,
 ) (count-at t) count.Post
@@ -250,15 +218,13 @@ count-count-requires-2 : (t : ℕ) → count-lts.Need-count-requires-2 (
   goes-on-reads.Learnt,
   bit-reads.Asked,
   bit-reads.Learnt,
-  rest-on-reads.Asked,
-  rest-on-reads.Learnt,
+  decided-reads.Asked,
+  decided-reads.Learnt,
   count-below t,
   count.Post,
 ) (count-at t) count.Post
-count-count-requires-2 t c κs = let s = c .before .before .before .before .before .before .before .before .args in
-    let pre = c .before .before .before .before .before .before .before .before .pre in
-    let half = pow-half (s .left) (c .before .before .before .before .before .before .if2 .left) in
-    (omega (arith, pre .0, c .before .before .before .before .before .before .if2 .left), (pre .1 .0, (pre .1 .1 .0, (omega (arith, pre .1 .1 .1 .0, c .rest-on2 .ensures .1, c .before .before .before .before .before .before .if2 .left), omega (arith, half, pre .1 .1 .1 .1, c .before .before .before .bit .ensures)))))
+count-count-requires-2 t c κs = let s = c .before .before .before .before .before .before .before .before .before .before .before .args in
+    (omega (arith, c .before .before .before .before .before .before .before .before .before .before .before .pre .0, c .decided2 .ensures .left-is, c .before .before .before .before .before .before .before .before .if2 .left), (c .before .before .before .before .before .before .before .before .before .before .before .pre .1 .0, (c .before .before .before .before .before .before .before .before .before .before .before .pre .1 .1 .0, high-inside (s .m) (s .row .now) (s .s) (c .before .before .before .before .before .before .before .before .if2 .left) (c .decided2 .result) (c .before .before .before .before .before .before .before .before .before .before .before .pre .1 .1 .1) (c .before .before .before .before .bit .ensures) (c .decided2 .ensures))))
 
 count-add-result : (t : ℕ) → count-lts.Need-add-result (
   rule-holds-reads.Asked,
@@ -267,12 +233,12 @@ count-add-result : (t : ℕ) → count-lts.Need-add-result (
   goes-on-reads.Learnt,
   bit-reads.Asked,
   bit-reads.Learnt,
-  rest-on-reads.Asked,
-  rest-on-reads.Learnt,
+  decided-reads.Asked,
+  decided-reads.Learnt,
   count-below t,
   count.Post,
 ) (count-at t) count.Post
-count-add-result t c = omega (arith, c .before .before .count .ensures, c .count2 .ensures)
+count-add-result t c = omega (arith, c .before .before .count .ensures, c .count2 .ensures, c .before .before .before .before .before .before .before .before .before .before .before .before .fits .cap .fits)
 
 count-returns-4 : (t : ℕ) → count-lts.Need-returns-4 (
   rule-holds-reads.Asked,
@@ -281,13 +247,13 @@ count-returns-4 : (t : ℕ) → count-lts.Need-returns-4 (
   goes-on-reads.Learnt,
   bit-reads.Asked,
   bit-reads.Learnt,
-  rest-on-reads.Asked,
-  rest-on-reads.Learnt,
+  decided-reads.Asked,
+  decided-reads.Learnt,
   count-below t,
   count.Post,
 ) (count-at t) count.Post
-count-returns-4 t c = let s = c .before .before .before .before .before .before .before .before .before .args in
-    let node = node-yes (s .m) (s .row .now) (s .left) (s .from) (s .rests) (c .before .before .before .before .before .before .before .if2 .left) (c .before .before .before .before .before .before .goes-on .ensures) (c .before .before .before .before .before .if4 .taken) (c .before .before .before .before .bit .ensures) (c .before .before .before .rest-on .ensures .0) (c .before .rest-on2 .ensures .0) in
+count-returns-4 t c = let s = c .before .before .before .before .before .before .before .before .before .before .before .before .args in
+    let node = node-yes (s .m) (s .row .now) (s .s) (c .before .before .before .before .before .before .before .before .before .if2 .left) (c .before .before .before .decided .result) (c .before .decided2 .result) (c .before .before .before .before .before .before .before .before .goes-on .ensures) (c .before .before .before .before .before .before .before .if4 .taken) (c .before .before .before .before .before .bit .ensures) (c .before .before .before .decided .ensures) (c .before .decided2 .ensures) in
     omega (arith, c .before .before .count .ensures, c .count2 .ensures, simp length-append at (ap length node))
 
 count-returns-5 : (t : ℕ) → count-lts.Need-returns-5 (
@@ -297,13 +263,13 @@ count-returns-5 : (t : ℕ) → count-lts.Need-returns-5 (
   goes-on-reads.Learnt,
   bit-reads.Asked,
   bit-reads.Learnt,
-  rest-on-reads.Asked,
-  rest-on-reads.Learnt,
+  decided-reads.Asked,
+  decided-reads.Learnt,
   count-below t,
   count.Post,
 ) (count-at t) count.Post
-count-returns-5 t c = let s = c .before .before .before .before .args in
-    omega (arith, ap length (node-no (s .m) (s .row .now) (s .left) (s .from) (s .rests) (c .before .before .if2 .left) (c .before .goes-on .ensures) (c .if4 .left)))
+count-returns-5 t c = let s = c .before .before .before .before .before .args in
+    omega (arith, ap length (node-no (s .m) (s .row .now) (s .s) (c .before .before .if2 .left) (c .before .goes-on .ensures) (c .if4 .left)))
 
 pub +count-spec : {M : Type 1} → statement M
 +count-spec = close μ-count λ t. count-lts.spec (
@@ -313,8 +279,8 @@ pub +count-spec : {M : Type 1} → statement M
   goes-on-reads.Learnt,
   bit-reads.Asked,
   bit-reads.Learnt,
-  rest-on-reads.Asked,
-  rest-on-reads.Learnt,
+  decided-reads.Asked,
+  decided-reads.Learnt,
   count-below t,
   count.Post,
 )
@@ -325,15 +291,13 @@ pub +count-spec : {M : Type 1} → statement M
     (count-returns-2 t)
     (count-returns-3 t)
     (count-goes-on-requires t)
-    (count-sub-day t)
+    (count-sub-bit t)
     (count-bit-requires t)
     (count-cast-with t)
     (count-add-with t)
-    (count-rest-on-requires t)
-    (count-add-count t)
+    (count-decided-requires t)
     (count-count-requires t)
-    (count-rest-on-requires-2 t)
-    (count-add-count-2 t)
+    (count-decided-requires-2 t)
     (count-sub-count t)
     (count-count-requires-2 t)
     (count-add-result t)
