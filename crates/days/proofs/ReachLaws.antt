@@ -16,6 +16,7 @@ use Rattle.numbers.specs.Digits.{has, bit}
 use Rattle.numbers.proofs.RangeLaws.{and-parts, length-range}
 use Rattle.numbers.proofs.DigitLaws.{bit-above, bit-lt}
 use Rattle.numbers.proofs.AgreeLaws.{all-in, all-made, keep-le, low-agree, field-agree, has-moved-down, or-left, or-right}
+use Rattle.rows.specs.Rows.{started}
 use Rattle.days.specs.Days.{isRest, windowsHold, rests}
 use Rattle.days.specs.Walk.{Small, inBounds, dutyAt, choiceOf, ruleOf, stepHolds, restOn, branch, reach, goesOn}
 use Rattle.days.specs.declared.month.Month.{Month}
@@ -35,6 +36,11 @@ record Meets (m : Month) (row : List ℕ) (q : ℕ) : Type 0 where
   pub windows : (t : ℕ) → 7 ≤ t → t < 7 + m .days → windowsHold (dutyAt row q) (m .longest) t ≡ true
   pub bounds : inBounds (m .least) (m .most) (rests (dutyAt row q) (m .days)) ≡ true
 
+chosen-in : (m : Month) (q : ℕ) → all (λ e. cond (started q e) (started (m .free) e) (not (started (m .fixed) e))) (upFrom 1 (m .days)) ≡ true
+    → (d : ℕ) → d < m .days → cond (has q d) (has (m .free) d) (not (has (m .fixed) d)) ≡ true
+chosen-in m q e d h =
+    all-in (λ e. cond (started q e) (started (m .free) e) (not (started (m .fixed) e))) 1 (m .days) (suc d) e (omega arith) (omega arith)
+
 meets : (m : Month) (row : List ℕ) (q : ℕ) → ruleOf m row q ≡ true → Meets m row q
 unfolding ruleOf choiceOf
 meets m row q e =
@@ -43,7 +49,7 @@ meets m row q e =
     let c = and-parts _ _ (a .1) in
     record {
       below = ltb-true q (2 ^ m .days) (b .0);
-      chosen = λ d h. all-in (λ e. cond (started q e) (started (m .free) e) (not (started (m .fixed) e))) 1 (m .days) (suc d) (b .1) (s≤s d) (more d (m .days) h);
+      chosen = chosen-in m q (b .1);
       windows = λ t l h. all-in (windowsHold (dutyAt row q) (m .longest)) 7 (m .days) t (c .0) l h;
       bounds = c .1;
     }

@@ -43,11 +43,11 @@ pub fn lists_fill(w: &[u64], nights: &[u32; 48], buf: &mut [u32]) -> usize
     ensures { λ k. ⌜ now (buf .exit) ≡ upTo (dayLists (now (w .entry)) (now (nights .entry))) (nurses (now (w .entry))) ++ drop (length (upTo (dayLists (now (w .entry)) (now (nights .entry))) (nurses (now (w .entry))))) (now (buf .entry)) ⌝ }
 {
     let m = w[0] as usize;
-    let mut at: usize = 0;
+    let mut used: usize = 0;
     let mut i: usize = 0;
     while i < m {
-        at = at + crate::day_fill(w, i, nights[i], &mut buf[at..]);
+        used = used + crate::day_fill(w, i, nights[i], &mut buf[used..]);
         i = i + 1;
     }
-    at
+    used
 }

@@ -13,7 +13,7 @@ use Rattle.days.proofs.lists.lists_fill.Statement.{statement}
 use Rattle.days.proofs.lists.lists_fill.Tie as tie
 
 abbrev Inv-loop : tie.InvT-loop
-Inv-loop w nights buf₀ m at₀ i₀ buf at i = (i ≤ nurses w) × (at ≡ length (upTo (dayLists w nights) i)) × (buf ≡ upTo (dayLists w nights) i ++ drop (length (upTo (dayLists w nights) i)) buf₀)
+Inv-loop w nights buf₀ m at₀ i₀ buf at i = (i ≤ nurses w) × (used ≡ length (upTo (dayLists w nights) i)) × (buf ≡ upTo (dayLists w nights) i ++ drop (length (upTo (dayLists w nights) i)) buf₀)
 
 abbrev μ-loop : tie.MeasureT-loop
 μ-loop w nights buf₀ m at₀ i₀ buf at i = nurses w - i
@@ -61,13 +61,13 @@ day-fill-requires c κs = let s = c .before .before .before .before .before .bef
       c .before .before .before .before .before .before .before .pre .0,
       (
         c .before .before .loop-test .taken,
-        rw (part-is (upTo f (l .i)) (s .buf .now) (l .buf) (l .at) (l .inv .1) (l .inv .2) (omega (arith, low, c .before .before .before .before .before .before .before .pre .1)), length-drop)
+        rw (part-is (upTo f (l .i)) (s .buf .now) (l .buf) (l .used) (l .inv .1) (l .inv .2) (omega (arith, low, c .before .before .before .before .before .before .before .pre .1)), length-drop)
             (omega (arith, next, up-length f (l .i), c .before .before .before .before .before .before .before .pre .1)),
       ),
     )
 
-add-at : tie.Need-add-at Inv-loop μ-loop
-add-at c = let s = c .before .before .before .before .before .before .before .before .before .before .args in
+add-used : tie.Need-add-used Inv-loop μ-loop
+add-used c = let s = c .before .before .before .before .before .before .before .before .before .before .args in
     let l = c .before .before .before .before .before .before .loop in
     let f = dayLists (s .w .now) (s .nights .now) in
     let next = up-mono f (l .i + 1) (nurses (s .w .now)) (omega (arith, c .before .before .before .before .before .loop-test .taken)) in
@@ -86,7 +86,7 @@ loop-again c = let s = c .before .before .before .before .before .before .before
     let low = up-mono f (l .i) (nurses (s .w .now)) (l .inv .0) in (
       omega (arith, c .before .before .before .before .before .loop-test .taken),
       omega (arith, up-length f (l .i), l .inv .1, c .before .before .day-fill .ensures .0),
-      rw (up-one f (l .i)) (both-written (upTo f (l .i)) (s .buf .now) (l .buf) (l .at) (l .inv .1) (l .inv .2) (omega (arith, low, c .before .before .before .before .before .before .before .before .before .before .pre .1)) (f (l .i)) (c .before .before .day-fill .last .1 .1 .1 .0) (c .before .before .day-fill .ensures .1)),
+      rw (up-one f (l .i)) (both-written (upTo f (l .i)) (s .buf .now) (l .buf) (l .used) (l .inv .1) (l .inv .2) (omega (arith, low, c .before .before .before .before .before .before .before .before .before .before .pre .1)) (f (l .i)) (c .before .before .day-fill .last .1 .1 .1 .0) (c .before .before .day-fill .ensures .1)),
     )
 
 same-length : tie.Need-same-length Inv-loop μ-loop
@@ -116,7 +116,7 @@ lists-fill-spec =
     part-day-fill-start
     part-day-fill-end
     day-fill-requires
-    add-at
+    add-used
     add-i
     loop-less
     loop-again
