@@ -13,10 +13,10 @@ use Rattle.days.proofs.lists.lists_fill.Statement.{statement}
 use Rattle.days.proofs.lists.lists_fill.Tie as tie
 
 abbrev Inv-loop : tie.InvT-loop
-Inv-loop w nights buf₀ m at₀ i₀ buf at i = (i ≤ nurses w) × (used ≡ length (upTo (dayLists w nights) i)) × (buf ≡ upTo (dayLists w nights) i ++ drop (length (upTo (dayLists w nights) i)) buf₀)
+Inv-loop w nights buf₀ m used₀ i₀ buf used i = (i ≤ nurses w) × (used ≡ length (upTo (dayLists w nights) i)) × (buf ≡ upTo (dayLists w nights) i ++ drop (length (upTo (dayLists w nights) i)) buf₀)
 
 abbrev μ-loop : tie.MeasureT-loop
-μ-loop w nights buf₀ m at₀ i₀ buf at i = nurses w - i
+μ-loop w nights buf₀ m used₀ i₀ buf used i = nurses w - i
 
 shared-slice-read-m : tie.Need-shared-slice-read-m Inv-loop μ-loop
 shared-slice-read-m c = search needs
