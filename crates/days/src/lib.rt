@@ -8,7 +8,7 @@ mod walk;
 use month::Sheet;
 ghost use mathlib.Core.Path.{_≡_};
 ghost use mathlib.Core.List.{_++_};
-ghost use Prim.Native.Nat.{ℕ, _≤_, _<_, min};
+ghost use Prim.Native.Nat.{_≤_, _<_, min};
 ghost use lib.ListN.{length, drop};
 ghost use Rattle.ward.specs.Fields.{Accepted, nurses, days, longestDays, block};
 ghost use Rattle.days.specs.Days.{dayRuleOf, dayList};

@@ -1,7 +1,7 @@
 // All nurses' day lists in one buffer, each in the part that begins where the last one ends.
 ghost use mathlib.Core.Path.{_≡_};
 ghost use mathlib.Core.List.{_++_};
-ghost use Prim.Native.Nat.{ℕ, _≤_, _<_};
+ghost use Prim.Native.Nat.{_≤_, _<_};
 ghost use lib.ListN.{length, drop};
 ghost use Rattle.ward.specs.Fields.{Accepted, nurses};
 ghost use Rattle.days.specs.Lists.{upTo, dayLists, Counted};

@@ -3,7 +3,7 @@
 use crate::month::Month;
 use crate::rule;
 ghost use mathlib.Core.Path.{_≡_};
-ghost use Prim.Native.Nat.{ℕ, _+_, _*_, _/_, _%_, _^_, _≤_, _<_, min};
+ghost use Prim.Native.Nat.{_+_, _*_, _/_, _%_, _^_, _≤_, _<_, min};
 ghost use Rattle.days.specs.Walk.{Small, stepHolds, branch, reach, Filled};
 
 // Day d is as the choice of q asks, and the windows hold that end six days after it, if that is in the month.
