@@ -3,3 +3,5 @@ pub mod SumLaws
 pub mod DigitLaws
 pub mod AllLaws
 pub mod SetLaws
+pub mod BufferLaws
+pub mod AgreeLaws
