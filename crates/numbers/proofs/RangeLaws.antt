@@ -158,3 +158,40 @@ unfolding all
 all-at t [] e i h = absurd (not-suc-le-zero h)
 all-at t (x ∷ xs) e zero h = and-parts (t x) (all t xs) e .0
 all-at t (x ∷ xs) e (suc i) h = all-at t xs (and-parts (t x) (all t xs) e .1) i (le-of-suc-le-suc h)
+
+-- ---- a loop that tests each number from i on: W is what the whole test comes to
+
+all-turn : (t : ℕ → Bool) (n i : ℕ) → i < n → all t (upFrom i (n - i)) ≡ (t i && all t (upFrom (i + 1) (n - (i + 1))))
+unfolding all upFrom
+all-turn t n i h =
+    let e : n - i ≡ suc (n - (i + 1)) = omega arith in
+    rw (e, add-one i)
+
+pub all-more : (t : ℕ → Bool) (n i : ℕ) {W : Bool} → W ≡ all t (upFrom i (n - i)) → i < n → t i ≡ true → W ≡ all t (upFrom (i + 1) (n - (i + 1)))
+all-more t n i w h e = w ∙ all-turn t n i h ∙ rw e
+
+pub all-stop : (t : ℕ → Bool) (n i : ℕ) {W : Bool} → W ≡ all t (upFrom i (n - i)) → i < n → t i ≡ false → false ≡ W
+all-stop t n i w h e = sym (w ∙ all-turn t n i h ∙ rw e)
+
+pub all-end : (t : ℕ → Bool) (n i : ℕ) {W : Bool} → W ≡ all t (upFrom i (n - i)) → n ≤ i → true ≡ W
+unfolding all upFrom
+all-end t n i w h =
+    let e : n - i ≡ 0 = omega arith in
+    sym (w ∙ rw e)
+
+-- all of a list pass where each does
+pub all-of : (t : ℕ → Bool) (xs : List ℕ) → ((i : ℕ) → i < length xs → t (getD xs i 0) ≡ true) → all t xs ≡ true
+unfolding all
+all-of t [] h = refl
+all-of t (x ∷ xs) h = rw (h 0 (omega arith)) (all-of t xs (λ i l. h (suc i) (suc-le-suc l)))
+
+-- all of a range pass exactly where each does
+pub range-all : (t : ℕ → Bool) (a n : ℕ) → ((i : ℕ) → a ≤ i → i < a + n → t i ≡ true) → all t (upFrom a n) ≡ true
+range-all t a n h = all-of t (upFrom a n) (λ i l. h (getD (upFrom a n) i 0) (range-below a n i l .0) (range-below a n i l .1))
+
+pub range-each : (t : ℕ → Bool) (a n : ℕ) → all t (upFrom a n) ≡ true → (i : ℕ) → a ≤ i → i < a + n → t i ≡ true
+range-each t a n e i l h =
+    let k = i - a in
+    let q : a + k ≡ i = omega arith in
+    let inside : k < n = omega arith in
+    ap t (sym (range-at a n k inside ∙ q)) ∙ all-at t (upFrom a n) e k (rw (length-range a n) inside)

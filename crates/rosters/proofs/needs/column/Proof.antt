@@ -1,0 +1,63 @@
+use Rattle.rosters.proofs.needs.column.Statement.{statement}
+use Rattle.rosters.proofs.needs.column.Tie as tie
+use Rattle.rosters.proofs.needs.column.Reads as reads
+use Rattle.rosters.proofs.needs.column.Lts as lts
+use Rattle.numbers.proofs.put_bit.Reads as put-bit-reads
+
+abbrev Inv-loop : tie.InvT-loop
+Inv-loop roster m n d c col₀ i₀ col i = ?
+
+abbrev μ-loop : tie.MeasureT-loop
+μ-loop roster m n d c col₀ i₀ col i = ?
+
+-- src/needs.rt:17:5
+loop-holds : tie.Need-loop-holds Inv-loop μ-loop
+loop-holds c = ?
+
+-- src/needs.rt:18:47
+mul-put-bit : tie.Need-mul-put-bit Inv-loop μ-loop
+mul-put-bit c = ?
+
+-- src/needs.rt:18:47
+add-put-bit : tie.Need-add-put-bit Inv-loop μ-loop
+add-put-bit c = ?
+
+-- src/needs.rt:18:40
+shared-slice-read-put-bit : tie.Need-shared-slice-read-put-bit Inv-loop μ-loop
+shared-slice-read-put-bit c = ?
+
+-- src/needs.rt:18:9
+put-bit-requires : tie.Need-put-bit-requires Inv-loop μ-loop
+put-bit-requires c κs = ?
+
+-- src/needs.rt:19:9
+add-i : tie.Need-add-i Inv-loop μ-loop
+add-i c = ?
+
+-- src/needs.rt:17:5
+loop-less : tie.Need-loop-less Inv-loop μ-loop
+loop-less c = ?
+
+-- src/needs.rt:17:5
+loop-again : tie.Need-loop-again Inv-loop μ-loop
+loop-again c = ?
+
+-- src/needs.rt:11:1
+returns : tie.Need-returns Inv-loop μ-loop
+returns c = ?
+
+pub column-spec : {M : Type 1} → statement M
+column-spec =
+    tie.close
+    (tie.spec
+    Inv-loop
+    μ-loop
+    loop-holds
+    mul-put-bit
+    add-put-bit
+    shared-slice-read-put-bit
+    put-bit-requires
+    add-i
+    loop-less
+    loop-again
+    returns)
