@@ -1,2 +1,5 @@
 pub mod Nights
 pub mod Hers
+pub mod Walk
+pub mod Masks
+pub mod Shown

@@ -1,3 +1,4 @@
 pub mod RangeLaws
 pub mod SumLaws
 pub mod DigitLaws
+pub mod SetLaws

@@ -195,3 +195,12 @@ range-each t a n e i l h =
     let q : a + k ≡ i = omega arith in
     let inside : k < n = omega arith in
     ap t (sym (range-at a n k inside ∙ q)) ∙ all-at t (upFrom a n) e k (rw (length-range a n) inside)
+pub all-range : (t : ℕ → Bool) (a n : ℕ) → ((i : ℕ) → i < n → t (a + i) ≡ true) → all t (upFrom a n) ≡ true
+unfolding all upFrom
+all-range t a zero h = refl
+all-range t a (suc n) h =
+    let first : t a ≡ true = ap t (sym (add-zero a)) ∙ h 0 (omega arith) in
+    rw first (all-range t (suc a) n (λ i l. ap t (one-on i) ∙ h (suc i) (suc-le-suc l)))
+  where
+    one-on : (i : ℕ) → suc a + i ≡ a + suc i
+    one-on i = omega arith

@@ -1,0 +1,8 @@
+pub mod WalkLaws
+pub mod CommonLaws
+pub mod StartLaws
+pub mod AcceptedLaws
+pub mod HersLaws
+pub mod MaskLaws
+pub mod NearLaws
+pub mod ListLaws

@@ -1,0 +1,28 @@
+use mathlib.Core.Path.{ap, _∙_}
+use mathlib.Core.List.{List}
+use Prim.Native.Nat.{ℕ, min}
+use lib.ListN.{length}
+use Rattle.nights.proofs.CommonLaws.{walk-from}
+use borrow.Author.Needs.{needs}
+use Rattle.nights.proofs.common.common_count.Statement.{statement}
+use Rattle.nights.proofs.common.common_count.Tie as tie
+use Rattle.nights.proofs.common.common_count.Reads as reads
+use Rattle.nights.proofs.common.common_count.Lts as lts
+use Rattle.nights.proofs.common.count.Reads as count-reads
+use Rattle.nights.proofs.common.fresh.Reads as fresh-reads
+
+-- src/common.rt:157:17
+fresh-requires : tie.Need-fresh-requires
+fresh-requires c κs = search needs
+
+-- src/common.rt:157:5
+count-requires : tie.Need-count-requires
+count-requires c κs = search needs
+
+-- src/common.rt:152:1
+returns : tie.Need-returns
+returns c = let s = c .before .before .args in
+    c .count .ensures 0 ∙ ap (λ (l : List ℕ). min (s .cap) (length l)) (walk-from (s .r) (s .n) (c .before .before .pre .0 .longest) _ (c .before .fresh .ensures))
+
+pub common-count-spec : {M : Type 1} → statement M
+common-count-spec = tie.close (tie.spec fresh-requires count-requires returns)

@@ -1,0 +1,21 @@
+-- `nights::masks::marks_pass` meets its contract.
+use Rattle.nights.proofs.MaskLaws.{masks-row, masks-allow}
+use borrow.Author.Needs.{needs}
+use Rattle.nights.proofs.masks.marks_pass.Statement.{statement}
+use Rattle.nights.proofs.masks.marks_pass.Tie as tie
+use Rattle.nights.proofs.masks.marks_pass.Reads as reads
+use Rattle.nights.proofs.masks.marks_pass.Lts as lts
+use Rattle.nights.proofs.masks.row_of.Reads as row-of-reads
+
+-- src/masks.rt:200:9
+row-of-requires : tie.Need-row-of-requires
+row-of-requires c κs = search needs
+
+-- src/masks.rt:196:1
+returns : tie.Need-returns
+returns c = let s = c .before .before .before .before .before .before .before .before .before .before .args in
+    let x = c .before .before .before .before .before .before .before .before .before .row-of .result in
+    λ r n b small is. masks-allow r n (s .p) b (s .m) is small x (masks-row r n (s .p) b (s .m) is x (c .before .before .before .before .before .before .before .before .before .row-of .ensures b))
+
+pub marks-pass-spec : {M : Type 1} → statement M
+marks-pass-spec = tie.close (tie.spec row-of-requires returns)

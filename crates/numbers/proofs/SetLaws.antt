@@ -1,0 +1,79 @@
+-- Sets as numbers: the members of an intersection, a union, a complement, a set moved one on; and the empty set.
+use mathlib.Core.Path.{_≡_, refl, sym, ap, ap₂, _∙_}
+use mathlib.Core.Bool.{Bool, true, false, not, _&&_, _||_}
+use Prim.Native.Nat.{ℕ, zero, suc, _+_, _-_, _*_, _/_, _%_, _^_, _≤_, _<_, min, max, suc-le-suc}
+use native.Mathlib.Nat.{not-suc-le-zero, le-of-suc-le-suc}
+use native.Mathlib.Numerals.{add-one}
+use native.Mathlib.Omega.{arith}
+use lib.Arith.{lt-one}
+use lib.Bits.{bitAnd, bitOr}
+use lib.Dec.{eqb}
+use lib.Pow.{shr-lt}
+use borrow.Author.Tests.{eqb-false}
+use Rattle.numbers.specs.Digits.{bit, has}
+use Rattle.numbers.proofs.DigitLaws.{bit-lt, bit-zero, bit-suc, bit-and, bit-or, bit-not, bit-above}
+
+min-one : (a b : ℕ) → a < 2 → b < 2 → eqb (min a b) 1 ≡ (eqb a 1 && eqb b 1)
+min-one zero zero h k = refl
+min-one zero (suc zero) h k = refl
+min-one (suc zero) zero h k = refl
+min-one (suc zero) (suc zero) h k = refl
+min-one zero (suc (suc b)) h k = absurd (omega arith)
+min-one (suc zero) (suc (suc b)) h k = absurd (omega arith)
+min-one (suc (suc a)) b h k = absurd (omega arith)
+
+max-one : (a b : ℕ) → a < 2 → b < 2 → eqb (max a b) 1 ≡ (eqb a 1 || eqb b 1)
+max-one zero zero h k = refl
+max-one zero (suc zero) h k = refl
+max-one (suc zero) zero h k = refl
+max-one (suc zero) (suc zero) h k = refl
+max-one zero (suc (suc b)) h k = absurd (omega arith)
+max-one (suc zero) (suc (suc b)) h k = absurd (omega arith)
+max-one (suc (suc a)) b h k = absurd (omega arith)
+
+less-one : (a : ℕ) → a < 2 → eqb (1 - a) 1 ≡ not (eqb a 1)
+less-one zero h = refl
+less-one (suc zero) h = refl
+less-one (suc (suc a)) h = absurd (omega arith)
+
+pub has-and : (x y j : ℕ) → has (bitAnd x y) j ≡ (has x j && has y j)
+has-and x y j = ap (λ (v : ℕ). eqb v 1) (bit-and x y j) ∙ min-one (bit x j) (bit y j) (bit-lt x j) (bit-lt y j)
+
+pub has-or : (x y j : ℕ) → has (bitOr x y) j ≡ (has x j || has y j)
+has-or x y j = ap (λ (v : ℕ). eqb v 1) (bit-or x y j) ∙ max-one (bit x j) (bit y j) (bit-lt x j) (bit-lt y j)
+
+-- `!x` of a number of k digits
+pub has-not : (k x j : ℕ) → x < 2 ^ k → j < k → has ((2 ^ k - 1) - x) j ≡ not (has x j)
+has-not k x j h l = ap (λ (v : ℕ). eqb v 1) (bit-not k x j h l) ∙ less-one (bit x j) (bit-lt x j)
+
+-- each member moved one on, with z at 0
+pub has-first : (x z : ℕ) → z < 2 → has (x * 2 + z) 0 ≡ eqb z 1
+has-first x z h =
+    let e : (x * 2 + z) % 2 ≡ z = omega arith in
+    ap (λ (v : ℕ). eqb v 1) (bit-zero (x * 2 + z) ∙ e)
+
+pub has-moved : (x z j : ℕ) → z < 2 → has (x * 2 + z) (suc j) ≡ has x j
+has-moved x z j h =
+    let e : (x * 2 + z) / 2 ≡ x = omega arith in
+    ap (λ (v : ℕ). eqb v 1) (bit-suc (x * 2 + z) j ∙ ap (λ (y : ℕ). bit y j) e)
+
+-- and each one back
+pub has-back : (x j : ℕ) → has (x / 2) j ≡ has x (suc j)
+has-back x j = ap (λ (v : ℕ). eqb v 1) (sym (bit-suc x j))
+
+-- a number of k digits has no member from k on
+pub has-above : (k x j : ℕ) → x < 2 ^ k → k ≤ j → has x j ≡ false
+has-above k x j h l = ap (λ (v : ℕ). eqb v 1) (bit-above k x j h l)
+
+-- a set with no member is 0
+no-odd : (x : ℕ) → has x 0 ≡ false → x % 2 ≡ 0
+no-odd x e =
+    let f = eqb-false (x % 2) 1 (ap (λ (v : ℕ). eqb v 1) (sym (bit-zero x)) ∙ e) in
+    omega (arith, f)
+
+pub none-zero : (k x : ℕ) → x < 2 ^ k → ((j : ℕ) → j < k → has x j ≡ false) → x ≡ 0
+none-zero zero x h f = lt-one h
+none-zero (suc k) x h f =
+    let half : x / 2 < 2 ^ k = shr-lt k 1 (rw (add-one k) h) in
+    let rest : x / 2 ≡ 0 = none-zero k (x / 2) half (λ j l. has-back x j ∙ f (suc j) (suc-le-suc l)) in
+    omega (arith, no-odd x (f 0 (omega arith)))
