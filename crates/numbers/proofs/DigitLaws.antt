@@ -2,7 +2,7 @@
 use mathlib.Core.Path.{_≡_, refl, sym, ap, ap₂, _∙_, subst}
 use mathlib.Core.Bool.{Bool, true, false, cond, _&&_, _||_}
 use Prim.Native.Nat.{ℕ, zero, suc, _+_, _-_, _*_, _/_, _%_, _^_, _≤_, _<_, min, max}
-use native.Mathlib.Nat.{div-one, mod-lt, lt-of-le-of-lt, zero-lt-suc, zero-mod, zero-div, not-suc-le-zero, le-of-suc-le-suc, one-mul, zero-mul, mod-eq-of-lt, zero-min, pow-suc}
+use native.Mathlib.Nat.{div-one, mod-lt, lt-of-le-of-lt, zero-lt-suc, zero-mod, zero-div, not-suc-le-zero, le-of-suc-le-suc, one-mul, zero-mul, mod-eq-of-lt, zero-min, pow-suc, zero-add}
 use native.Mathlib.Numerals.{add-one, one-add}
 use native.Mathlib.Omega.{arith}
 use lib.Bits.{bitAnd, bitOr, and-step, or-step, and-shr, or-shr, and-le-r}
@@ -11,9 +11,10 @@ use lib.Pow.{shr-shr, shr-lt, pow-pos, pow-lt, high, low, field, mod-mod-pow}
 use lib.Dec.{eqb, lit<, eqb·zero-suc, eqb·suc-zero, eqb·suc-suc}
 use native.Mathlib.Decide.{decLt}
 use lib.Arith.{lt-one, digits-mod}
+use borrow.Author.Tests.{ne-eqb, eq-eqb}
 use Rattle.numbers.specs.Sum.{sumTo, countTo, oneIf}
 use Rattle.numbers.specs.Digits.{bit, has, put, numberOf}
-use Rattle.numbers.proofs.SumLaws.{sum-front, sum-ext, sum-zero}
+use Rattle.numbers.proofs.SumLaws.{sum-front, sum-ext, sum-zero, sum-change}
 
 pub bit-lt : (x i : ℕ) → bit x i < 2
 bit-lt x i = mod-lt (x / 2 ^ i) (zero-lt-suc 1)
@@ -225,3 +226,28 @@ number-zero t = refl
 pub number-suc : (t : ℕ → Bool) (d : ℕ) → numberOf t (d + 1) ≡ numberOf t d + cond (t d) (2 ^ d) 0
 unfolding numberOf
 number-suc t d = rw (add-one d)
+
+-- ---- a choice with another one at i
+
+pub put-here : (f : ℕ → Bool) (i : ℕ) (b : Bool) (j : ℕ) → j ≡ i → put f i b j ≡ b
+put-here f i b j e = rw (eq-eqb j i e)
+
+pub put-there : (f : ℕ → Bool) (i : ℕ) (b : Bool) (j : ℕ) → (j ≡ i → ⊥) → put f i b j ≡ f j
+put-there f i b j e = rw (ne-eqb j i e)
+
+-- put in, i counts once more than taken out
+pub count-put : (n i : ℕ) (f p : ℕ → Bool) → i < n
+    → countTo n (λ j. put f i true j && p j) ≡ countTo n (λ j. put f i false j && p j) + oneIf (p i)
+count-put n i f p l =
+    sum-change n i (oneIf (p i)) (λ j. oneIf (put f i true j && p j)) (λ j. oneIf (put f i false j && p j)) l
+    (λ j q. ap (λ (b : Bool). oneIf (b && p j)) (put-there f i true j q ∙ sym (put-there f i false j q)))
+    (ap (λ (b : Bool). oneIf (b && p i)) (put-here f i true i refl) ∙ sym (zero-add (oneIf (p i))) ∙ sym (ap (λ (b : Bool). oneIf (b && p i) + oneIf (p i)) (put-here f i false i refl)))
+
+pub count-put-all : (n i : ℕ) (f : ℕ → Bool) → i < n → countTo n (put f i true) ≡ countTo n (put f i false) + 1
+count-put-all n i f l =
+    sum-change n i 1 (λ j. oneIf (put f i true j)) (λ j. oneIf (put f i false j)) l
+    (λ j q. ap oneIf (put-there f i true j q ∙ sym (put-there f i false j q)))
+    (ap oneIf (put-here f i true i refl) ∙ sym (ap (λ (b : Bool). oneIf b + 1) (put-here f i false i refl)))
+
+pub bit-is : (x i : ℕ) → bit x i ≡ oneIf (has x i)
+bit-is x i = bit-one-if (bit x i) (bit-lt x i)

@@ -1,8 +1,9 @@
 -- Laws of sums and counts over the numbers below n, and the three turns of a loop that adds them up.
-use mathlib.Core.Path.{_≡_, refl, sym, ap, ap₂, _∙_}
+use mathlib.Core.Path.{_≡_, refl, sym, ap, ap₂, _∙_, subst}
+use mathlib.Core.Logic.{⊎-elim}
 use mathlib.Core.Bool.{Bool, true, false}
 use Prim.Native.Nat.{ℕ, zero, suc, _+_, _-_, _*_, _≤_, _<_, zero-le}
-use native.Mathlib.Nat.{add-zero, add-suc, zero-add, add-assoc, add-comm, le-suc, le-trans, lt-suc-self, le-of-eq, add-le-add, suc-mul, zero-mul, le-refl, add-sub-of-le}
+use native.Mathlib.Nat.{add-zero, add-suc, zero-add, add-assoc, add-comm, le-suc, le-trans, lt-suc-self, le-of-eq, add-le-add, suc-mul, zero-mul, le-refl, add-sub-of-le, eq-or-lt-of-le, le-of-suc-le-suc, not-suc-le-zero}
 use native.Mathlib.Omega.{arith}
 use native.Mathlib.Numerals.{add-one}
 use Rattle.numbers.specs.Sum.{sumTo, countTo, oneIf, Is}
@@ -64,3 +65,31 @@ count-le n p = le-trans (sum-le n 1 (λ i. oneIf (p i)) (λ i l. at-most (p i)))
     at-most : (b : Bool) → oneIf b ≤ 1
     at-most true = le-refl 1
     at-most false = zero-le
+
+pub sum-add : (n : ℕ) (f g : ℕ → ℕ) → sumTo n (λ i. f i + g i) ≡ sumTo n f + sumTo n g
+unfolding sumTo
+sum-add zero f g = refl
+sum-add (suc n) f g = omega (arith, sum-add n f g)
+
+-- none adds anything
+pub sum-none : (n : ℕ) (f : ℕ → ℕ) → ((i : ℕ) → i < n → f i ≡ 0) → sumTo n f ≡ 0
+unfolding sumTo
+sum-none zero f h = refl
+sum-none (suc n) f h = omega (arith, sum-none n f (λ i l. h i (le-trans l (le-suc n))), h n (lt-suc-self n))
+
+-- a sum of 0 has only zeros
+pub sum-none-at : (n : ℕ) (f : ℕ → ℕ) → sumTo n f ≡ 0 → (i : ℕ) → i < n → f i ≡ 0
+unfolding sumTo
+sum-none-at zero f e i l = absurd (not-suc-le-zero l)
+sum-none-at (suc n) f e i l = ⊎-elim (λ q. ap f q ∙ omega arith) (λ q. sum-none-at n f (omega arith) i q) (eq-or-lt-of-le (le-of-suc-le-suc l))
+
+-- two sums that differ at i alone, there by x
+pub sum-change : (n i x : ℕ) (f g : ℕ → ℕ) → i < n → ((j : ℕ) → (j ≡ i → ⊥) → f j ≡ g j) → f i ≡ g i + x → sumTo n f ≡ sumTo n g + x
+unfolding sumTo
+sum-change zero i x f g l h e = absurd (not-suc-le-zero l)
+sum-change (suc n) i x f g l h e =
+    ⊎-elim
+    (λ q. let at : f n ≡ g n + x = subst (λ (k : ℕ). f k ≡ g k + x) q e in
+    omega (arith, sum-ext n f g (λ j m. h j (λ r. omega arith))))
+    (λ q. omega (arith, sum-change n i x f g q h e, h n (λ r. omega arith)))
+    (eq-or-lt-of-le (le-of-suc-le-suc l))

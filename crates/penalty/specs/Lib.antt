@@ -1,1 +1,6 @@
 pub mod Penalty
+pub mod Columns
+pub mod Costs
+pub mod Held
+pub mod Walk
+pub mod Shown

@@ -4,11 +4,13 @@ use mathlib.Core.Bool.{Bool, true, false, cond, not, _&&_}
 use mathlib.Core.List.{List, [], _∷_}
 use mathlib.Core.Option.{Option, none, some}
 use Prim.Native.Nat.{ℕ, zero, suc, _+_, _-_, _*_}
+use lib.Dec.{eqb}
 use lib.ListN.{length, getD}
 use Rattle.numbers.specs.Sum.{sumTo, countTo}
 use Rattle.numbers.specs.Digits.{has, numberOf}
 use Rattle.ward.specs.Fields.{nurses, days, groups, weight, block, masks, needs, need, low, high}
 use Rattle.rows.specs.Rows.{availableOn, fixedNight, fixedDay}
+use Rattle.penalty.specs.declared.Penalty.{Penalty}
 
 -- the pattern in use by a nurse; none while she is unplaced
 abbrev pub Slot : Type 0
@@ -44,15 +46,27 @@ pub record Parts : Type 0 where
 abbrev pub unplacedCost : ℕ
 unplacedCost = 10000000
 
+-- the parts that the code's value says
+abbrev pub partsOf : Penalty → Parts
+partsOf p = record { short = p .short; over = p .over; unplaced = p .unplaced }
+
 abbrev pub total : Parts → ℕ
 total x = x .short + x .over + unplacedCost * x .unplaced
+
+-- without the unplaced
+abbrev pub rest : Parts → ℕ
+rest x = x .short + x .over
 
 abbrev pub isNone : Slot → Bool
 isNone none = true
 isNone (some p) = false
 
-unfoldable pub unplaced : List ℕ → (ℕ → Slot) → ℕ
-unplaced w slots = countTo (nurses w) (λ i. isNone (slots i))
+unfoldable pub unplacedIn : List ℕ → (ℕ → Slot) → ℕ
+unplacedIn w slots = countTo (nurses w) (λ i. isNone (slots i))
+
+-- an exchange: nurse i takes the pattern p
+abbrev pub exchanged : (ℕ → Slot) → ℕ → ℕ → ℕ → Slot
+exchanged slots i p j = cond (eqb j i) (some p) (slots j)
 
 -- ---- the night search: nights count on N days, day counts are of available nurses, and day highs are ignored
 
@@ -71,7 +85,7 @@ unfoldable pub nightParts : List ℕ → (ℕ → Slot) → Parts
 nightParts w slots = record {
   short = sumTo (days w) (λ d. shortOn w 0 (atNight w slots d) d + shortOn w 1 (free w slots d) d);
   over = sumTo (days w) (λ d. overOn w 0 (atNight w slots d) d);
-  unplaced = unplaced w slots;
+  unplaced = unplacedIn w slots;
 }
 
 unfoldable pub nightPenalty : List ℕ → (ℕ → Slot) → ℕ
@@ -91,7 +105,7 @@ unfoldable pub dayParts : List ℕ → (ℕ → Slot) → Parts
 dayParts w slots = record {
   short = sumTo (days w) (λ d. shortOn w 1 (atDay w slots d) d);
   over = sumTo (days w) (λ d. overOn w 1 (atDay w slots d) d);
-  unplaced = unplaced w slots;
+  unplaced = unplacedIn w slots;
 }
 
 unfoldable pub dayPenalty : List ℕ → (ℕ → Slot) → ℕ

@@ -12,7 +12,7 @@ use Rattle.numbers.specs.Range.{upFrom, all}
 use Rattle.numbers.specs.Digits.{has}
 use Rattle.numbers.proofs.RangeLaws.{range-turn, range-done}
 use Rattle.ward.specs.Fields.{duty, markOn}
-use Rattle.rows.specs.Rows.{stateAfter, dayZero, rowState, allows, marksAllow, dutyOf}
+use Rattle.rows.specs.Rows.{stateAfter, dayZero, rowState, allows, marksAllow, availableOn, dutyOf}
 
 -- a day that is none of N, n and R is as an open one
 pub duty-open : {r : ℕ} (mark state : ℕ) (worked : Bool) → (r ≡ dutyOf mark 0 worked) × (r < 5)
@@ -44,3 +44,8 @@ marks-turn b p n d h = rw (range-turn n d h, add-one d)
 pub marks-done : (b : List ℕ) (p n d : ℕ) → n ≤ d → allowedFrom b p n d ≡ true
 unfolding all
 marks-done b p n d h = rw (range-done n d h)
+
+-- a day on which she starts is not an open one
+pub started-busy : (b : List ℕ) (p d : ℕ) → has p d ≡ true → availableOn b p (suc d) ≡ false
+unfolding availableOn rowState
+started-busy b p d e = rw e

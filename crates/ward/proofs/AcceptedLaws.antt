@@ -18,7 +18,7 @@ use Rattle.ward.specs.Fields as fields
 use Rattle.ward.specs.Fields.{Accepted, Block, blockAt, block, groupsAt, masks, needsAt, needs, weight}
 use Rattle.ward.proofs.GrammarLaws.{in-range}
 use Rattle.ward.proofs.AcceptLaws.{let-through}
-use Rattle.ward.proofs.AccessLaws.{After, First, Most, Takes, number-has, numbers-all, after-at, after-add, past, takes-one, takes-both, takes-repeat, in-repeat, takes-day, takes-group, takes-nurse, nurse-duty, nurse-least-nights, nurse-most-nights, nurse-least-rests, nurse-most-rests, nurse-mark, day-in}
+use Rattle.ward.proofs.AccessLaws.{After, First, Both, Most, Takes, number-has, numbers-have, numbers-all, after-at, after-add, past, takes-one, takes-both, takes-repeat, in-repeat, takes-day, takes-group, takes-nurse, nurse-duty, nurse-least-nights, nurse-most-nights, nurse-least-rests, nurse-most-rests, nurse-mark, day-in, day-pair}
 
 split : (a b : ℕ) → (a < b) ⊎ (b ≤ a)
 split a b = go (decLt a b)
@@ -101,6 +101,11 @@ module _ (h : Head) where
   in-days d j l k =
       days-past (First (Most 48)) (d * (2 + h .r * 4) + j)
       (in-repeat (day (h .r)) (2 + h .r * 4) (takes-day (h .r)) (h .n) d done j (First (Most 48)) l (λ g. day-in (h .r) j g k))
+
+  in-pairs : (d k g : ℕ) → d < h .n → k < 2 → g < h .r → After (rules h) (13 + (h .m * (11 + h .n) + (h .r * 1 + (d * (2 + h .r * 4) + (2 + (g * 4 + 2 * k)))))) (Both _≤_)
+  in-pairs d k g l q p =
+      days-past (Both _≤_) (d * (2 + h .r * 4) + (2 + (g * 4 + 2 * k)))
+      (in-repeat (day (h .r)) (2 + h .r * 4) (takes-day (h .r)) (h .n) d done (2 + (g * 4 + 2 * k)) (Both _≤_) l (λ x. day-pair (h .r) k g x q p))
 
   all-past : After (rules h) (13 + (h .m * (11 + h .n) + (h .r * 1 + h .n * (2 + h .r * 4)))) (λ g. g ≡ done)
   all-past = days-past (λ g. g ≡ done) (h .n * (2 + h .r * 4)) (takes-repeat (day (h .r)) (2 + h .r * 4) (takes-day (h .r)) (h .n) done)
@@ -205,17 +210,21 @@ module _ (m n r : ℕ) (ws us : List ℕ) (hm : Between 1 48 m) (hn : Between 1 
       let z : getD (take r (drop (16 + m * (11 + n)) w)) g 0 ≡ 0 = List·getD-eq-default (take r (drop (16 + m * (11 + n)) w)) 0 q in
       omega (arith, pow-pos m)
 
-  need-in : (d j : ℕ) → d < n → j < 4 * r + 2 → getD (needs w d) j 0 ≤ 48
-  unfolding w needs needsAt groupsAt h
-  need-in d j l k =
+  -- the number at an index of a day's numbers
+  need-at : (d j : ℕ) → j < 4 * r + 2 → getD (needs w d) j 0 ≡ getD w (16 + (m * (11 + n) + (r * 1 + (d * (2 + r * 4) + j)))) 0
+  unfolding w needs needsAt groupsAt
+  need-at d j k =
       let a = 16 + m * (11 + n) + r + d * (4 * r + 2) in
+      let c : d * (4 * r + 2) ≡ d * (2 + r * 4) = ap (λ (x : ℕ). d * x) (omega arith) in
+      let o : a + j ≡ 16 + (m * (11 + n) + (r * 1 + (d * (2 + r * 4) + j))) = omega arith in
+      getD-take (4 * r + 2) (drop a w) j 0 k ∙ getD-drop a w j 0 ∙ ap (λ (x : ℕ). getD w x 0) o
+
+  need-in : (d j : ℕ) → d < n → j < 4 * r + 2 → getD (needs w d) j 0 ≤ 48
+  unfolding w h
+  need-in d j l k =
       let J = m * (11 + n) + (r * 1 + (d * (2 + r * 4) + j)) in
       let q : getD w (16 + J) 0 ≤ 48 = at-index (Most 48) (13 + J) (16 + J) (omega arith) (in-days h d j l (omega arith)) in
-      let c : d * (4 * r + 2) ≡ d * (2 + r * 4) = ap (λ (x : ℕ). d * x) (omega arith) in
-      let o : a + j ≡ 16 + J = omega arith in
-      let s : getD (take (4 * r + 2) (drop a w)) j 0 ≡ getD w (16 + J) 0 =
-      getD-take (4 * r + 2) (drop a w) j 0 k ∙ getD-drop a w j 0 ∙ ap (λ (x : ℕ). getD w x 0) o in
-      omega arith
+      omega (arith, need-at d j k)
 
   need-out : (d j : ℕ) → 4 * r + 2 ≤ j → getD (needs w d) j 0 ≤ 48
   unfolding w needs needsAt groupsAt
@@ -223,6 +232,18 @@ module _ (m n r : ℕ) (ws us : List ℕ) (hm : Between 1 48 m) (hn : Between 1 
       let a = 16 + m * (11 + n) + r + d * (4 * r + 2) in
       let q : length (take (4 * r + 2) (drop a w)) ≤ j = simp length-take (omega arith) in
       let z : getD (take (4 * r + 2) (drop a w)) j 0 ≡ 0 = List·getD-eq-default (take (4 * r + 2) (drop a w)) 0 q in
+      omega arith
+
+  low-under-high : (d k g : ℕ) → d < n → k < 2 → g < r → getD (needs w d) (4 * g + 2 * k + 2) 0 ≤ getD (needs w d) (4 * g + 2 * k + 3) 0
+  unfolding w h
+  low-under-high d k g l q p =
+      let j = 2 + (g * 4 + 2 * k) in
+      let J = 13 + (m * (11 + n) + (r * 1 + (d * (2 + r * 4) + j))) in
+      let both = numbers-have (rules h) J at ws us _≤_ (in-pairs h d k g l q p) e in
+      let a : 16 + (m * (11 + n) + (r * 1 + (d * (2 + r * 4) + (4 * g + 2 * k + 2)))) ≡ suc (suc (suc J)) = omega arith in
+      let b : 16 + (m * (11 + n) + (r * 1 + (d * (2 + r * 4) + (4 * g + 2 * k + 3)))) ≡ suc (suc (suc (suc J))) = omega arith in
+      let x : getD (needs w d) (4 * g + 2 * k + 2) 0 ≡ getD ws J 0 = need-at d (4 * g + 2 * k + 2) (omega arith) ∙ ap (λ (y : ℕ). getD w y 0) a in
+      let z : getD (needs w d) (4 * g + 2 * k + 3) 0 ≡ getD ws (suc J) 0 = need-at d (4 * g + 2 * k + 3) (omega arith) ∙ ap (λ (y : ℕ). getD w y 0) b in
       omega arith
 
   groups-end : groupsAt w + r ≤ length w
@@ -257,6 +278,7 @@ module _ (m n r : ℕ) (ws us : List ℕ) (hm : Between 1 48 m) (hn : Between 1 
     blocks = block-is;
     masks-most = λ g. ⊎-elim (mask-in g) (mask-out g) (split g r);
     needs-most = λ d j l. ⊎-elim (need-in d j l) (need-out d j) (split j (4 * r + 2));
+    low-high = low-under-high;
   }
 
 -- the questions' yes to a list of numbers

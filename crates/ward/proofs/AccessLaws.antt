@@ -21,6 +21,11 @@ abbrev pub First : (ℕ → Type 0) → Grammar → Type 0
 First P done = ⊥
 First P (number f k) = (v : ℕ) → f .least ≤ v → v ≤ f .most → P v
 
+-- the next two numbers, each within its range, have P
+abbrev pub Both : (ℕ → ℕ → Type 0) → Grammar → Type 0
+Both P done = ⊥
+Both P (number f k) = (v : ℕ) → f .least ≤ v → v ≤ f .most → First (P v) (k v)
+
 -- a list that is let through: what Q says of what is left after j of its numbers
 pub record Reached (Q : Grammar → Type 0) (j i : ℕ) (ws : List ℕ) : Type 0 where
   pub here : Grammar
@@ -63,6 +68,32 @@ pub number-has : (g : Grammar) (j i : ℕ) (ws vs : List ℕ) (P : ℕ → Type 
 number-has g j i ws vs P q e =
     let a = reached g j i ws vs (First P) q e in
     subst P (at-drop ws j) (first-of (a .1 .here) P (a .0) j ws (a .1 .rest) (a .1 .holds) (a .1 .left))
+
+both-of : (g : Grammar) (P : ℕ → ℕ → Type 0) (i j : ℕ) (ws vs : List ℕ) → Both P g → check g i (drop j ws) ≡ good vs
+    → P (getD (drop j ws) 0 0) (getD (drop j ws) 1 0)
+unfolding check
+both-of done P i j ws vs p e = absurd p
+both-of (number f k) P i j ws vs p e = go (drop j ws) e
+  where
+    go : (us : List ℕ) → check (number f k) i us ≡ good vs → P (getD us 0 0) (getD us 1 0)
+    go [] e′ = let z : _≡_ {A = ℕ} 0 1 = cc in absurd (omega arith)
+    go (u ∷ us) e′ =
+        let t = let-through (asked f u) i u (check (k u) (i + 1) us) vs e′ in
+        let r = in-range f u (t .0) in
+        first-of (k u) (P u) (i + 1) 0 us (t .1 .0) (p u (r .0) (r .1)) (t .1 .1)
+
+next-drop : (ws : List ℕ) (j : ℕ) → getD (drop j ws) 1 0 ≡ getD ws (suc j) 0
+next-drop [] zero = refl
+next-drop [] (suc j) = refl
+next-drop (w ∷ ws) zero = refl
+next-drop (w ∷ ws) (suc j) = next-drop ws j
+
+-- so the numbers at j and after it have P
+pub numbers-have : (g : Grammar) (j i : ℕ) (ws vs : List ℕ) (P : ℕ → ℕ → Type 0) → After g j (Both P) → check g i ws ≡ good vs → P (getD ws j 0) (getD ws (suc j) 0)
+numbers-have g j i ws vs P q e =
+    let a = reached g j i ws vs (Both P) q e in
+    let h = both-of (a .1 .here) P (a .0) j ws (a .1 .rest) (a .1 .holds) (a .1 .left) in
+    subst (λ (x : ℕ). P x (getD ws (suc j) 0)) (at-drop ws j) (subst (λ (y : ℕ). P (getD (drop j ws) 0 0) y) (next-drop ws j) h)
 
 done-left : (g : Grammar) (i : ℕ) (us vs : List ℕ) → g ≡ done → check g i us ≡ good vs → length us ≡ 0
 unfolding check
@@ -230,3 +261,15 @@ day-in r (suc (suc j)) g l =
     let p = j % 4 in
     λ v lo hi u lo′ hi′. after-at (repeat r bounds g) (First (Most 48)) (q * 4 + p) j (omega arith)
     (in-repeat bounds 4 takes-bounds r q g p (First (Most 48)) (omega arith) (λ h. bounds-in p h (omega arith)))
+
+-- a group's low and high on one day, by night and by day
+bounds-pair : (k : ℕ) (g : Grammar) → k < 2 → After (bounds g) (2 * k) (Both _≤_)
+bounds-pair zero g l = λ v lo hi u lo′ hi′. lo′
+bounds-pair (suc zero) g l = past (pair 48) 2 (takes-pair 48) (pair 48 g) 0 (Both _≤_) (λ v lo hi u lo′ hi′. lo′)
+bounds-pair (suc (suc k)) g l = absurd (omega arith)
+
+pub day-pair : (r k q : ℕ) (g : Grammar) → k < 2 → q < r → After (day r g) (2 + (q * 4 + 2 * k)) (Both _≤_)
+day-pair r k q g l m =
+    past (λ x. one (range 0 48) (one (range 0 48) x)) 2 (takes-both (one (range 0 48)) (one (range 0 48)) 1 1 (takes-one (range 0 48)) (takes-one (range 0 48)))
+    (repeat r bounds g) (q * 4 + 2 * k) (Both _≤_)
+    (in-repeat bounds 4 takes-bounds r q g (2 * k) (Both _≤_) m (λ h. bounds-pair k h l))

@@ -147,3 +147,4 @@ pub record Accepted (w : List ℕ) : Type 0 where
   pub blocks : (i : ℕ) → i < nurses w → Block (block w i) (days w)
   pub masks-most : (g : ℕ) → getD (masks w) g 0 < 2 ^ nurses w
   pub needs-most : (d j : ℕ) → d < days w → getD (needs w d) j 0 ≤ 48
+  pub low-high : (d k g : ℕ) → d < days w → k < 2 → g < groups w → low (needs w d) k g ≤ high (needs w d) k g

@@ -1,0 +1,67 @@
+-- `day_parts` meets its contract: the loop over the days adds up what is short and what is over.
+use borrow.Author.Needs.{needs}
+use Prim.Native.Nat.{_-_}
+use native.Mathlib.Omega.{arith}
+use Rattle.penalty.proofs.CountLaws.{DaySums, day-start, day-turn, day-bounded, day-is}
+use Rattle.penalty.proofs.day_parts.Statement.{statement}
+use Rattle.penalty.proofs.day_parts.Tie as tie
+
+abbrev Inv-loop : tie.InvT-loop
+Inv-loop w unplaced cols short₀ over₀ n d₀ short over d = DaySums w (cols .day) n d short over
+
+abbrev μ-loop : tie.MeasureT-loop
+μ-loop w unplaced cols short₀ over₀ n d₀ short over d = n - d
+
+days-requires : tie.Need-days-requires Inv-loop μ-loop
+days-requires c κs = search needs
+
+loop-holds : tie.Need-loop-holds Inv-loop μ-loop
+loop-holds c = day-start _ _ _
+
+mul-day-day : tie.Need-mul-day-day Inv-loop μ-loop
+mul-day-day c = search needs
+
+element-copy-out-day-day : tie.Need-element-copy-out-day-day Inv-loop μ-loop
+element-copy-out-day-day c = search needs
+
+day-day-requires : tie.Need-day-day-requires Inv-loop μ-loop
+day-day-requires c κs = search needs
+
+add-short : tie.Need-add-short Inv-loop μ-loop
+add-short c = search needs
+
+add-over : tie.Need-add-over Inv-loop μ-loop
+add-over c = search needs
+
+add-d : tie.Need-add-d Inv-loop μ-loop
+add-d c = search needs
+
+loop-less : tie.Need-loop-less Inv-loop μ-loop
+loop-less c = search needs
+
+loop-again : tie.Need-loop-again Inv-loop μ-loop
+loop-again c = day-turn _ _ _ (c .before .before .before .before .before .loop .inv) (c .before .before .before .before .loop-test .taken) (c .before .before .day-day .ensures)
+
+returns : tie.Need-returns Inv-loop μ-loop
+returns c = (
+  day-bounded _ _ (c .before .loop .inv) (omega (arith, c .before .before .days .ensures, c .before .before .before .before .pre .0 .days-most)) (c .before .before .before .before .pre .1),
+  day-is _ _ (c .before .before .before .before .pre .0) (c .before .loop .inv) (c .loop-test .left) (c .before .before .days .ensures),
+)
+
+pub day-parts-spec : {M : Type 1} → statement M
+day-parts-spec =
+    tie.close
+    (tie.spec
+    Inv-loop
+    μ-loop
+    days-requires
+    loop-holds
+    mul-day-day
+    element-copy-out-day-day
+    day-day-requires
+    add-short
+    add-over
+    add-d
+    loop-less
+    loop-again
+    returns)

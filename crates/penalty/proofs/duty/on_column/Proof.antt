@@ -1,0 +1,70 @@
+-- `duty::on_column` meets its contract: the loop over the groups adds up their terms.
+use borrow.Author.Needs.{needs}
+use Prim.Native.Nat.{_-_}
+use mathlib.Core.Path.{refl}
+use lib.ListN.{length}
+use Rattle.numbers.specs.Digits.{has}
+use Rattle.penalty.proofs.DutyLaws.{Sums, need-is, sums-start, sums-turn, sums-end}
+use Rattle.penalty.proofs.duty.on_column.Statement.{statement}
+use Rattle.penalty.proofs.duty.on_column.Tie as tie
+
+abbrev Inv-loop : tie.InvT-loop
+Inv-loop wt masks row k column short₀ over₀ g₀ g-end short over g = Sums wt masks row k (has column) g short over
+
+abbrev μ-loop : tie.MeasureT-loop
+μ-loop wt masks row k column short₀ over₀ g₀ g-end short over g = length masks - g
+
+mul-need-term : tie.Need-mul-need-term Inv-loop μ-loop
+mul-need-term c = search needs
+
+shared-slice-read-need-term : tie.Need-shared-slice-read-need-term Inv-loop μ-loop
+shared-slice-read-need-term c = search needs
+
+on-duty-requires : tie.Need-on-duty-requires Inv-loop μ-loop
+on-duty-requires c κs = search needs
+
+need-term-requires : tie.Need-need-term-requires Inv-loop μ-loop
+need-term-requires c κs = (c .before .before .before .before .pre .0, c .before .before .before .before .pre .1 .small _)
+
+loop-holds : tie.Need-loop-holds Inv-loop μ-loop
+loop-holds c = sums-start _ _ _ _ _ (need-is _ _ _ _ (c .before .on-duty .ensures .is) (c .need-term .ensures))
+
+group-at-requires : tie.Need-group-at-requires Inv-loop μ-loop
+group-at-requires c κs = search needs
+
+add-short : tie.Need-add-short Inv-loop μ-loop
+add-short c = search needs
+
+add-over : tie.Need-add-over Inv-loop μ-loop
+add-over c = search needs
+
+add-g : tie.Need-add-g Inv-loop μ-loop
+add-g c = search needs
+
+loop-less : tie.Need-loop-less Inv-loop μ-loop
+loop-less c = search needs
+
+loop-again : tie.Need-loop-again Inv-loop μ-loop
+loop-again c = sums-turn _ _ _ _ _ (c .before .before .before .before .loop .inv) (c .before .before .before .loop-test .taken) (c .before .before .group-at .ensures)
+
+returns : tie.Need-returns Inv-loop μ-loop
+returns c = sums-end _ _ _ _ _ (c .before .loop .inv) (c .loop-test .left) (c .before .before .before .before .before .before .before .pre .1 .groups) refl refl
+
+pub on-column-spec : {M : Type 1} → statement M
+on-column-spec =
+    tie.close
+    (tie.spec
+    Inv-loop
+    μ-loop
+    mul-need-term
+    shared-slice-read-need-term
+    on-duty-requires
+    need-term-requires
+    loop-holds
+    group-at-requires
+    add-short
+    add-over
+    add-g
+    loop-less
+    loop-again
+    returns)
