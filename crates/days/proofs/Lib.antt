@@ -1,0 +1,7 @@
+pub mod RuleLaws
+pub mod MonthLaws
+pub mod WalkLaws
+pub mod LocalLaws
+pub mod ReachLaws
+pub mod ListLaws
+pub mod SheetLaws

@@ -1,0 +1,160 @@
+-- The rule over a nurse's month is the day rule, so what the walk lists is her day list.
+use mathlib.Core.Path.{_≡_, refl, sym, ap, ap₂, _∙_, subst}
+use mathlib.Core.Bool.{Bool, true, false, cond, not, _&&_, _||_}
+use mathlib.Core.List.{List, [], _∷_}
+use Prim.Native.Nat.{ℕ, zero, suc, _+_, _-_, _*_, _^_, _≤_, _<_}
+use native.Mathlib.Omega.{arith}
+use native.Mathlib.Decide.{decLt}
+use borrow.Author.Tests.{lt-ltb, le-ltb, ltb-true, eqb-true}
+use lib.Dec.{leb, ltb, eqb}
+use lib.ListN.{length, getD}
+use Rattle.numbers.specs.Range.{upFrom, keep, all, Ascending}
+use Rattle.numbers.specs.Digits.{has, numberOf}
+use Rattle.numbers.proofs.RangeLaws.{and-parts, keep-same, keep-ascending, At, kept-in, kept-only}
+use Rattle.numbers.proofs.DigitLaws.{number-lt, number-has, bit-of-zero}
+use Rattle.numbers.proofs.AgreeLaws.{all-agree, keep-agree, all-in}
+use Rattle.ward.specs.Fields.{Accepted, days, longestDays, nurses, block, duty, leastRestsOf, mostRestsOf, markOn}
+use Rattle.rows.specs.Rows.{started, rowState, available, availableOn, fixedDay, dutyOf, dutyOn}
+use Rattle.days.specs.Days.{choice, rowDuty, isRest, windowsHold, rests, dayRule, dayRuleOf, dayList}
+use Rattle.days.specs.Walk.{IsSheet, Small, inBounds, dutyAt, choiceOf, ruleOf, listed}
+use Rattle.days.specs.declared.month.Month.{Month}
+use Rattle.days.proofs.LocalLaws.{windows-same}
+use Rattle.days.proofs.ReachLaws.{Bounded}
+use Rattle.days.proofs.ListLaws.{walk-lists}
+
+-- ---- one day
+
+-- an available day is open, so it is day duty where it is worked
+open-duty : (mark state : ℕ) → available mark state ≡ true → dutyOf mark state true ≡ 1
+open-duty mark state e =
+    let z = eqb-true state 0 (and-parts (eqb state 0) _ e .0) in
+    rw z
+
+worked-duty : (b : List ℕ) (p q d : ℕ) → has q d ≡ true → availableOn b p (suc d) ≡ true → dutyOn b p q (suc d) ≡ 1
+unfolding dutyOn availableOn
+worked-duty b p q d h e = rw h (open-duty (markOn b (suc d)) (rowState b p (suc d)) e)
+
+idle-duty : (b : List ℕ) (p q d : ℕ) → has q d ≡ false → dutyOn b p q (suc d) ≡ dutyOn b p 0 (suc d)
+unfolding dutyOn
+idle-duty b p q d h = rw (h, bit-of-zero d)
+
+-- ---- the month of a nurse: D and the days are those of her sheet
+
+module _ (b : List ℕ) (p : ℕ) (m : Month) (row : List ℕ) (s : IsSheet b (m .days) (m .longest) p m row) (short : m .longest ≤ 6) (q : ℕ) where
+  free-at : (d : ℕ) → d < m .days → has (m .free) d ≡ availableOn b p (suc d)
+  free-at d l = ap (λ (x : ℕ). has x d) (s .free-is) ∙ number-has (λ e. availableOn b p (suc e)) (m .days) d l
+
+  fixed-at : (d : ℕ) → d < m .days → has (m .fixed) d ≡ eqb (markOn b (suc d)) 2
+  fixed-at d l = ap (λ (x : ℕ). has x d) (s .fixed-is) ∙ number-has (fixedDay b) (m .days) d l
+
+  chosen-is : (d : ℕ) → 1 ≤ d → d < 1 + m .days
+      → cond (started q d) (availableOn b p d) (not (eqb (markOn b d) 2)) ≡ cond (started q d) (started (m .free) d) (not (started (m .fixed) d))
+  chosen-is zero l h = absurd (omega arith)
+  chosen-is (suc d) l h = rw (free-at d (omega arith), fixed-at d (omega arith))
+
+  choice-is : choice b (m .days) p q ≡ choiceOf m q
+  unfolding choice choiceOf
+  choice-is = ap (λ (t : Bool). ltb q (2 ^ m .days) && t) (all-agree _ _ 1 (m .days) chosen-is)
+
+  -- where q is a choice, the row with its days worked is that of the sheet
+  module _ (c : choice b (m .days) p q ≡ true) where
+    chosen-at : (d : ℕ) → d < m .days → has q d ≡ true → availableOn b p (suc d) ≡ true
+    unfolding choice
+    chosen-at d l h =
+        let a = all-in (λ e. cond (started q e) (availableOn b p e) (not (eqb (markOn b e) 2))) 1 (m .days) (suc d) (and-parts (ltb q (2 ^ m .days)) _ c .1) (omega arith) (omega arith) in
+        rw h at a
+
+    month-duty : (d : ℕ) → d < m .days → (x : Bool) → has q d ≡ x → dutyOn b p q (suc d) ≡ cond (has q d) 1 (dutyOn b p 0 (suc d))
+    month-duty d l true h = worked-duty b p q d h (chosen-at d l h) ∙ rw h
+    month-duty d l false h = idle-duty b p q d h ∙ rw h
+
+    duty-is : (t : ℕ) → t < 7 + m .days → rowDuty b p q t ≡ dutyAt row q t
+    unfolding rowDuty dutyAt
+    duty-is t l = rw (s .row-is t l) (go (decLt t 7))
+      where
+        go : Dec (t < 7) → cond (ltb t 7) (duty b t) (dutyOn b p q (t - 6))
+            ≡ cond (ltb t 7) (cond (ltb t 7) (duty b t) (dutyOn b p 0 (t - 6))) (cond (has q (t - 7)) 1 (cond (ltb t 7) (duty b t) (dutyOn b p 0 (t - 6))))
+        go (yes h) = rw (lt-ltb t 7 h)
+        go (no h) =
+            let g : 7 ≤ t = omega arith in
+            let e : t - 6 ≡ suc (t - 7) = omega arith in
+            rw (le-ltb t 7 g, e) (month-duty (t - 7) (omega arith) (has q (t - 7)) refl)
+
+    windows-are : all (windowsHold (rowDuty b p q) (m .longest)) (upFrom 7 (m .days)) ≡ all (windowsHold (dutyAt row q) (m .longest)) (upFrom 7 (m .days))
+    windows-are =
+        all-agree _ _ 7 (m .days) (λ t l h. windows-same (rowDuty b p q) (dutyAt row q) (m .longest) t short (omega arith) (λ u i k. duty-is u (omega arith)))
+
+    rests-are : rests (rowDuty b p q) (m .days) ≡ rests (dutyAt row q) (m .days)
+    unfolding rests
+    rests-are = ap length (keep-agree (λ t. isRest (rowDuty b p q t)) (λ t. isRest (dutyAt row q t)) 7 (m .days) (λ t l h. ap (λ (x : ℕ). isRest x) (duty-is t h)))
+
+  rule-here : dayRule b (m .days) (m .longest) p q ≡ ruleOf m row q
+  unfolding dayRule ruleOf
+  rule-here = go (choice b (m .days) p q) refl
+    where
+      go : (t : Bool) → choice b (m .days) p q ≡ t
+          → (choice b (m .days) p q
+          && (all (windowsHold (rowDuty b p q) (m .longest)) (upFrom 7 (m .days))
+          && inBounds (leastRestsOf b) (mostRestsOf b) (rests (rowDuty b p q) (m .days))))
+          ≡ (choiceOf m q
+          && (all (windowsHold (dutyAt row q) (m .longest)) (upFrom 7 (m .days))
+          && inBounds (m .least) (m .most) (rests (dutyAt row q) (m .days))))
+      go true c =
+          ap₂ _&&_ choice-is
+          (ap₂ _&&_ (windows-are c)
+          (ap (inBounds (leastRestsOf b) (mostRestsOf b)) (rests-are c) ∙ ap₂ (λ (x y : ℕ). inBounds x y (rests (dutyAt row q) (m .days))) (sym (s .least-is)) (sym (s .most-is))))
+      go false c = rw (← choice-is, c)
+
+pub rule-is : (b : List ℕ) (n longest p : ℕ) (m : Month) (row : List ℕ) → IsSheet b n longest p m row → longest ≤ 6 → (q : ℕ)
+    → dayRule b n longest p q ≡ ruleOf m row q
+rule-is b n longest p m row s short q =
+    ap₂ (λ (k l : ℕ). dayRule b k l p q) (sym (s .days-is)) (sym (s .longest-is))
+    ∙ rule-here b p m row
+    (subst (λ (k : ℕ). IsSheet b k (m .longest) p m row) (sym (s .days-is)) (subst (λ (l : ℕ). IsSheet b n l p m row) (sym (s .longest-is)) s))
+    (rw (s .longest-is) short) q
+
+-- ---- her list
+
+pub sheet-small : (b : List ℕ) (n longest p : ℕ) (m : Month) (row : List ℕ) → IsSheet b n longest p m row → n ≤ 31 → longest ≤ 6 → Small m
+sheet-small b n longest p m row s few short = record { few-days = omega (arith, s .days-is); short = omega (arith, s .longest-is) }
+
+bounded : (b : List ℕ) (n longest p : ℕ) (m : Month) (row : List ℕ) → IsSheet b n longest p m row → n ≤ 31 → longest ≤ 6 → Bounded m
+bounded b n longest p m row s few short = record {
+  small = sheet-small b n longest p m row s few short;
+  fixed-days =
+      subst (λ (x : ℕ). x < 2 ^ m .days) (sym (s .fixed-is))
+      (subst (λ (k : ℕ). numberOf (fixedDay b) n < 2 ^ k) (sym (s .days-is)) (number-lt (fixedDay b) n));
+  within-is = λ k l.
+      ap (λ (x : ℕ). has x k) (s .within-is) ∙ number-has (inBounds (leastRestsOf b) (mostRestsOf b)) 32 k l
+      ∙ ap₂ (λ (x y : ℕ). inBounds x y k) (sym (s .least-is)) (sym (s .most-is));
+}
+
+pub lists-day-list : (w : List ℕ) (i p : ℕ) (m : Month) (row : List ℕ) → Accepted w → IsSheet (block w i) (days w) (longestDays w) p m row
+    → listed m row (days w) 0 0 ≡ dayList w i p
+unfolding dayList
+lists-day-list w i p m row a s =
+    ap (λ (k : ℕ). listed m row k 0 0) (sym (s .days-is))
+    ∙ walk-lists m row (bounded (block w i) (days w) (longestDays w) p m row s (a .days-most) (a .day-run-most))
+    ∙ keep-same (ruleOf m row) (dayRuleOf w i p) (λ q. sym (rule-is (block w i) (days w) (longestDays w) p m row s (a .day-run-most) q)) (upFrom 0 (2 ^ m .days))
+    ∙ ap (λ (k : ℕ). keep (dayRuleOf w i p) (upFrom 0 (2 ^ k))) (s .days-is)
+
+-- ---- what her list is: ascending, and exactly the patterns that the rule lets through
+
+pub list-ascending : (w : List ℕ) (i p : ℕ) → Ascending (dayList w i p)
+unfolding dayList
+list-ascending w i p = keep-ascending (dayRuleOf w i p) 0 (2 ^ days w)
+
+-- the rule's yes is to patterns of the month only
+pub rule-below : (w : List ℕ) (i p q : ℕ) → dayRuleOf w i p q ≡ true → q < 2 ^ days w
+unfolding dayRule choice
+rule-below w i p q e = ltb-true q (2 ^ days w) (and-parts _ _ (and-parts _ _ e .0) .0)
+
+pub list-has : (w : List ℕ) (i p q : ℕ) → dayRuleOf w i p q ≡ true → At (dayList w i p) q
+unfolding dayList
+list-has w i p q e = kept-in (dayRuleOf w i p) 0 (2 ^ days w) q (omega arith) (omega (arith, rule-below w i p q e)) e
+
+pub list-only : (w : List ℕ) (i p q : ℕ) → At (dayList w i p) q → (dayRuleOf w i p q ≡ true) × (q < 2 ^ days w)
+unfolding dayList
+list-only w i p q a =
+    let k = kept-only (dayRuleOf w i p) 0 (2 ^ days w) q a in
+    (k .0, omega (arith, k .2))

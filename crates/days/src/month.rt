@@ -1,0 +1,105 @@
+// A nurse's month under her nights, made ready for the day patterns: the duties where she works no day, the days that she may
+// work, and the ward's and her own limits.
+ghost use mathlib.Core.Path.{_≡_};
+ghost use mathlib.Core.Bool.{cond};
+ghost use Prim.Native.Nat.{ℕ, _+_, _^_, _≤_, _<_};
+ghost use Rattle.numbers.specs.Digits.{numberOf};
+ghost use lib.ListN.{length, getD};
+ghost use Rattle.ward.specs.Fields.{Block, duty};
+ghost use Rattle.days.specs.Walk.{IsSheet, inBounds};
+
+// The days of the month, D, the bounds of her rests, the days that she is available on, those marked 2, and the counts of
+// rests within her bounds: the last three are sets.
+pub struct Month {
+    pub days: usize,
+    pub longest: usize,
+    pub least: u64,
+    pub most: u64,
+    pub free: u64,
+    pub fixed: u64,
+    pub within: u64,
+}
+
+// The month with its row: the seven days, then each day's duty where she works no day.
+pub struct Sheet {
+    pub month: Month,
+    pub row: [u64; 38],
+}
+
+// The set with i put in or not, where all others are below i.
+fn with_next(set: u64, i: u64, on: bool) -> u64
+    requires { ⌜ i < 32 ⌝ }
+    requires { ⌜ set < 2 ^ i ⌝ }
+    ensures { λ r. ⌜ r ≡ set + cond on (2 ^ i) 0 ⌝ }
+{
+    if on {
+        return set + (numbers::bit(i) as u64);
+    }
+    set
+}
+
+// Whether a count of rests is within bounds.
+pub(crate) fn in_bounds(least: u64, most: u64, k: u64) -> bool
+    ensures { λ r. ⌜ r ≡ inBounds least most k ⌝ }
+{
+    least <= k && k <= most
+}
+
+// The counts from least to most.
+fn bounds(least: u64, most: u64) -> u64
+    ensures { λ r. ⌜ r ≡ numberOf (inBounds least most) 32 ⌝ }
+{
+    let mut set: u64 = 0;
+    let mut i: u64 = 0;
+    while i < 32 {
+        set = with_next(set, i, in_bounds(least, most, i));
+        i = i + 1;
+    }
+    set
+}
+
+// The seven days, with no duty after them.
+fn seven_days(b: &[u64]) -> [u64; 38]
+    requires { ⌜ 7 ≤ length (now b) ⌝ }
+    ensures { λ r. ⌜ ((t : ℕ) → t < 7 → getD r t 0 ≡ duty (now (b .entry)) t) ⌝ }
+{
+    let mut row = [0u64; 38];
+    let mut t: usize = 0;
+    while t < 7 {
+        row[t] = b[t];
+        t = t + 1;
+    }
+    row
+}
+
+// Her month by her block of the ward's numbers and her night pattern.
+pub(crate) fn sheet_of(b: &[u64], n: usize, longest: usize, p: u32) -> Sheet
+    requires { ⌜ Block (now b) n ⌝ }
+    requires { ⌜ n ≤ 31 ⌝ }
+    ensures { λ r. ⌜ IsSheet (now (b .entry)) n longest p (r .month) (r .row) ⌝ }
+{
+    let mut row = seven_days(b);
+    let mut free: u64 = 0;
+    let mut fixed: u64 = 0;
+    let mut state = rows::day_zero(b[6]);
+    let mut d: usize = 0;
+    while d < n {
+        let mark = b[11 + d];
+        state = rows::state_after(state, numbers::has_bit(p, d as u64));
+        row[d + 7] = rows::duty_of(mark, state, false);
+        free = with_next(free, d as u64, rows::is_available(mark, state));
+        fixed = with_next(fixed, d as u64, mark == 2);
+        d = d + 1;
+    }
+    let within = bounds(b[9], b[10]);
+    let month = Month {
+        days: n,
+        longest: longest,
+        least: b[9],
+        most: b[10],
+        free: free,
+        fixed: fixed,
+        within: within,
+    };
+    Sheet { month, row }
+}

@@ -1,0 +1,33 @@
+-- A buffer with one list written at its start and another in the part after it, as a lent rest of the buffer comes back.
+use mathlib.Core.Path.{_≡_, refl, sym, ap, _∙_, subst}
+use mathlib.Core.List.{List, [], _∷_, _++_, append-nil, append-assoc}
+use Prim.Native.Nat.{ℕ, zero, suc, _+_, _-_, _≤_}
+use native.Mathlib.Nat.{not-suc-le-zero}
+use native.Mathlib.Omega.{arith}
+use lib.ListN.{length, set, take, drop, length-append, length-drop, drop-of-length-le}
+use lib.Seq.{take-all, take-append-seam, drop-append-seam, drop-drop}
+
+module _ (A buf xs : List ℕ) (low : ℕ) (len : low ≡ length A) (first : xs ≡ A ++ drop (length A) buf) (room : length A ≤ length buf) where
+  pub part-is : take (length xs - low) (drop low xs) ≡ drop (length A) buf
+  part-is = rw (len, first, drop-append-seam)
+      (take-all (length (A ++ drop (length A) buf) - length A) (drop (length A) buf) (simp (length-append, length-drop) (omega arith)))
+
+  pub rest-is : drop (length xs - low) (drop low xs) ≡ []
+  rest-is = rw (len, first, drop-append-seam)
+      (drop-of-length-le (drop (length A) buf) {i = length (A ++ drop (length A) buf) - length A} (simp (length-append, length-drop) (omega arith)))
+
+  pub both-written : (B ys : List ℕ) → ys ≡ B ++ drop (length B) (take (length xs - low) (drop low xs))
+      → take low xs ++ (ys ++ drop (length xs - low) (drop low xs)) ≡ (A ++ B) ++ drop (length (A ++ B)) buf
+  both-written B ys second = rw (second, part-is, rest-is, append-nil, len, first, take-append-seam, length-append, ← drop-drop, ← append-assoc)
+
+-- one number written, and none
+pub one-written : (L buf : List ℕ) (x : ℕ) → L ≡ x ∷ [] → length L ≤ length buf → set buf 0 x ≡ L ++ drop (length L) buf
+one-written L [] x e h = absurd (not-suc-le-zero (subst (λ (l : List ℕ). length l ≤ 0) e h))
+one-written L (y ∷ ys) x e h = rw e
+
+pub none-written : (L buf : List ℕ) → L ≡ [] → buf ≡ L ++ drop (length L) buf
+none-written L buf e = rw e
+
+-- the buffer keeps its length
+pub as-long : (L buf xs : List ℕ) → xs ≡ L ++ drop (length L) buf → length L ≤ length buf → length xs ≡ length buf
+as-long L buf xs e h = rw e (simp (length-append, length-drop) (omega arith))
