@@ -7,13 +7,13 @@ use native.Mathlib.Omega.{arith}
 use native.Mathlib.Decide.{decLt}
 use borrow.Author.Tests.{lt-ltb, le-ltb, ltb-true, eqb-true}
 use lib.Dec.{leb, ltb, eqb}
-use lib.ListN.{length, getD}
+use lib.ListN.{length, getD, take, drop}
 use Rattle.numbers.specs.Range.{upFrom, keep, all, Ascending}
 use Rattle.numbers.specs.Digits.{has, numberOf}
 use Rattle.numbers.proofs.RangeLaws.{and-parts, keep-same, keep-ascending, At, kept-in, kept-only}
 use Rattle.numbers.proofs.DigitLaws.{number-lt, number-has, bit-of-zero}
 use Rattle.numbers.proofs.AgreeLaws.{all-agree, keep-agree, all-in}
-use Rattle.ward.specs.Fields.{Accepted, days, longestDays, nurses, block, duty, leastRestsOf, mostRestsOf, markOn}
+use Rattle.ward.specs.Fields.{Accepted, days, longestDays, nurses, block, blockAt, duty, leastRestsOf, mostRestsOf, markOn}
 use Rattle.rows.specs.Rows.{started, rowState, available, availableOn, fixedDay, dutyOf, dutyOn}
 use Rattle.days.specs.Days.{choice, rowDuty, isRest, windowsHold, rests, dayRule, dayRuleOf, dayList}
 use Rattle.days.specs.Walk.{IsSheet, Small, inBounds, dutyAt, choiceOf, ruleOf, listed}
@@ -158,3 +158,15 @@ unfolding dayList
 list-only w i p q a =
     let k = kept-only (dayRuleOf w i p) 0 (2 ^ days w) q a in
     (k .0, omega (arith, k .2))
+
+-- ---- her block as a part of the ward
+
+pub block-ends : (w : List ℕ) (i : ℕ) → Accepted w → i < nurses w → (16 + i * (11 + days w) + (11 + days w) ≤ length w) × (length w ≤ 4094)
+unfolding blockAt
+block-ends w i a l = (a .block-fits i l, a .bound)
+
+pub block-part : (w : List ℕ) (i : ℕ) → take (16 + i * (11 + days w) + (11 + days w) - (16 + i * (11 + days w))) (drop (16 + i * (11 + days w)) w) ≡ block w i
+unfolding block blockAt
+block-part w i =
+    let e : 16 + i * (11 + days w) + (11 + days w) - (16 + i * (11 + days w)) ≡ 11 + days w = omega arith in
+    ap (λ (k : ℕ). take k (drop (16 + i * (11 + days w)) w)) e
