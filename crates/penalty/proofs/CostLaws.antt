@@ -7,7 +7,8 @@ use Prim.Native.Nat.{ℕ, zero, suc, _+_, _-_, _*_, _≤_, _<_}
 use native.Mathlib.Nat.{not-suc-le-zero, eq-or-lt-of-le, le-of-suc-le-suc}
 use native.Mathlib.Numerals.{add-one}
 use native.Mathlib.Omega.{arith}
-use lib.ListN.{length, getD, set, length-set}
+use lib.ListN.{length, getD, set, length-set, replicate}
+use native.Mathlib.Decide.{decLt}
 use lib.Seq.{getD-set-same, getD-set-other}
 use Rattle.numbers.specs.Sum.{sumTo, Is}
 use Rattle.numbers.specs.Digits.{has, put}
@@ -25,7 +26,7 @@ use Rattle.penalty.specs.Penalty.{Slot, Parts, rest, shortOn, overOn, ex
 use Rattle.penalty.specs.Columns.{Same, ShowsNight, ShowsDay, Frees}
 use Rattle.penalty.specs.Costs.{trialAt, trialOf, Small, TrialsNight, TrialsDay}
 use Rattle.penalty.specs.Walk.{weightsOf, noHigh, Tells, dutyCost, dutyShort, dutyOver, shortIn, overIn, nightWith, dayWith, NightDay, DayDay, Filled}
-use Rattle.penalty.proofs.ColumnLaws.{night-after, free-after, day-after}
+use Rattle.penalty.proofs.ColumnLaws.{zeros, night-after, free-after, day-after}
 use Rattle.penalty.proofs.CountLaws.{short-same, over-same, cost-both, cost-low}
 
 -- ---- one day, from what the calls gave
@@ -62,13 +63,14 @@ day-three w d i day y = record { at-night = wider (y .off-is); at-free = wider (
 
 -- ---- filling the table
 
-fill-start : (l : List ℕ) (f : ℕ → ℕ) (b : ℕ) → length l ≡ 31 → Filled l f b 0
-fill-start l f b h = record { long = h; done = λ e q. absurd (not-suc-le-zero q) }
+fill-start : (f : ℕ → ℕ) (b : ℕ) → Filled (replicate 33 0) f b 0
+fill-start f b = record { long = refl; done = λ e q. absurd (not-suc-le-zero q); left = λ e q. zeros 33 e }
 
 fill-turn : (l : List ℕ) (f : ℕ → ℕ) (b d : ℕ) {x : ℕ} → Filled l f b d → d < 31 → Is x (f d) b → Filled (set l d x) f b (d + 1)
 fill-turn l f b d {x} p h k = record {
   long = length-set l d x ∙ p .long;
   done = λ e q. ⊎-elim (λ s. here e s) (λ s. there e s) (eq-or-lt-of-le (le-of-suc-le-suc (rw add-one at q)));
+  left = λ e q. getD-set-other l d e x 0 (λ s. omega arith) ∙ p .left e (omega arith);
 }
   where
     here : (e : ℕ) → e ≡ d → Is (getD (set l d x) e 0) (f e) b
@@ -76,6 +78,14 @@ fill-turn l f b d {x} p h k = record {
 
     there : (e : ℕ) → e < d → Is (getD (set l d x) e 0) (f e) b
     there e s = rw (getD-set-other l d e x 0 (λ t. omega arith)) (p .done e s)
+
+-- every place is small
+fill-small : (l : List ℕ) (f : ℕ → ℕ) (b d : ℕ) → Filled l f b d → (e : ℕ) → getD l e 0 ≤ b
+fill-small l f b d p e = go (decLt e d)
+  where
+    go : Dec (e < d) → getD l e 0 ≤ b
+    go (yes q) = p .done e q .most
+    go (no q) = omega (arith, p .left e (omega arith))
 
 -- a day's cost by night with nurse i in a state, and by day with her worked or not
 unfoldable pub nightAt : List ℕ → Columns → ℕ → Bool → Bool → ℕ → ℕ
@@ -97,8 +107,8 @@ NightTable w c i n d t = Table (nightAt w c i true false) (nightAt w c i false t
 abbrev pub DayTable : List ℕ → Columns → ℕ → ℕ → ℕ → Costs → Type 0
 DayTable w c i n d t = Table (dayAt w c i false) (dayAt w c i true) (dayAt w c i false) n d t
 
-pub table-start : (f g h : ℕ → ℕ) (n : ℕ) (t : Costs) → length (t .night) ≡ 31 → length (t .free) ≡ 31 → length (t .none) ≡ 31 → Table f g h n 0 t
-table-start f g h n t x y z = record { inside = omega arith; nights = fill-start _ _ _ x; frees = fill-start _ _ _ y; nones = fill-start _ _ _ z }
+pub table-start : (f g h : ℕ → ℕ) (n : ℕ) → Table f g h n 0 (record { night = replicate 33 0; free = replicate 33 0; none = replicate 33 0 })
+table-start f g h n = record { inside = omega arith; nights = fill-start _ _; frees = fill-start _ _; nones = fill-start _ _ }
 
 pub table-turn : (f g h : ℕ → ℕ) (n d : ℕ) (t : Costs) {x y z : ℕ} → Table f g h n d t → d < n → n ≤ 31 → Is x (f d) 371200 → Is y (g d) 371200 → Is z (h d) 371200
     → Table f g h n (d + 1) (record { night = set (t .night) d x; free = set (t .free) d y; none = set (t .none) d z })
@@ -122,12 +132,21 @@ pub day-row : (w : List ℕ) (c : Columns) (i n d : ℕ) (t : Costs) {r : Three}
 unfolding dayAt
 day-row w c i n d t k l m r = table-turn _ _ _ n d t k l m (r .at-night) (r .at-free) (r .at-none)
 
+all-zero : (a b : Bool) {x y z : ℕ} → x ≡ 0 → y ≡ 0 → z ≡ 0 → cond a x (cond b y z) ≡ 0
+all-zero true b h k l = h
+all-zero false true h k l = k
+all-zero false false h k l = l
+
 pub table-small : (f g h : ℕ → ℕ) (t : Costs) {n d m : ℕ} → Table f g h n d t → n ≤ d → n ≡ m → m ≤ 31 → Small t m
-table-small f g h t k l e q = record {
+unfolding trialAt
+table-small f g h t {n} {d} {m} k l e q = record {
   at-most = q;
-  night-small = λ x p. k .nights .done x (omega arith) .most;
-  free-small = λ x p. k .frees .done x (omega arith) .most;
-  none-small = λ x p. k .nones .done x (omega arith) .most;
+  night-small = fill-small _ _ _ _ (k .nights);
+  free-small = fill-small _ _ _ _ (k .frees);
+  none-small = fill-small _ _ _ _ (k .nones);
+  past = λ p s x r.
+      let i : d ≤ x = omega (arith, k .inside) in
+      all-zero (has p x) (has s x) (k .nights .left x i) (k .frees .left x i) (k .nones .left x i);
 }
 
 -- ---- a trial
@@ -146,7 +165,7 @@ pub trial-day : (c : Costs) (n p free d : ℕ) {a b : Bool} {x : ℕ} → Small 
 unfolding trialAt
 trial-day c n p free d {a} {b} s l ea eb ex = record {
   is = ex ∙ ap₂ (λ (s t : Bool). cond s (getD (c .night) d 0) (cond t (getD (c .free) d 0) (getD (c .none) d 0))) ea eb;
-  most = omega (arith, ex, state-most a b (s .night-small d l) (s .free-small d l) (s .none-small d l));
+  most = omega (arith, ex, state-most a b (s .night-small d) (s .free-small d) (s .none-small d));
 }
 
 pub trial-turn : (c : Costs) (p free d : ℕ) {t x : ℕ} → Is t (0 + sumTo d (trialAt c p free)) (0 + 371200 * d) → Is x (trialAt c p free d) 371200

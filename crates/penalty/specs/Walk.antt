@@ -124,7 +124,8 @@ pub record DayDay (w : List ℕ) (d i day : ℕ) (t : Three) : Type 0 where
   pub at-free : Is (t .free) (dayWith w d i true day) 371200
   pub at-none : Is (t .none) (dayWith w d i false day) 371200
 
--- the first d places of l hold f, each at most b
+-- the first d places of l hold f, each at most b, and the others 0
 pub record Filled (l : List ℕ) (f : ℕ → ℕ) (b d : ℕ) : Type 0 where
-  pub long : length l ≡ 31
+  pub long : length l ≡ 33
   pub done : (e : ℕ) → e < d → Is (getD l e 0) (f e) b
+  pub left : (e : ℕ) → d ≤ e → getD l e 0 ≡ 0

@@ -13,10 +13,11 @@ ghost use Rattle.penalty.specs.Costs.{Small, TrialsNight, TrialsDay, tri
 ghost use Rattle.penalty.specs.Walk.{NightDay, DayDay};
 
 // Each day's cost, short and over together: with her at night, available, or neither. By day: free is worked.
+// Eleven groups of three days; 0 past the month.
 pub struct Costs {
-    pub night: [u64; 31],
-    pub free: [u64; 31],
-    pub none: [u64; 31],
+    pub night: [u64; 33],
+    pub free: [u64; 33],
+    pub none: [u64; 33],
 }
 
 // One day of them.
@@ -64,9 +65,9 @@ pub fn nurse_costs_night(w: &[u64], cols: Columns, i: usize) -> Costs
     ensures trials { λ r. ⌜ ((slots : ℕ → Slot) → ShowsNight (now (w .entry)) slots cols → TrialsNight (now (w .entry)) slots i r) ⌝ }
 {
     let mut c = Costs {
-        night: [0; 31],
-        free: [0; 31],
-        none: [0; 31],
+        night: [0; 33],
+        free: [0; 33],
+        none: [0; 33],
     };
     let n = fields::days(w);
     for d in 0..n {
@@ -85,9 +86,9 @@ pub fn nurse_costs_day(w: &[u64], cols: Columns, i: usize) -> Costs
     ensures trials { λ r. ⌜ ((slots : ℕ → Slot) → ShowsDay (now (w .entry)) slots cols → TrialsDay (now (w .entry)) slots i r) ⌝ }
 {
     let mut c = Costs {
-        night: [0; 31],
-        free: [0; 31],
-        none: [0; 31],
+        night: [0; 33],
+        free: [0; 33],
+        none: [0; 33],
     };
     let n = fields::days(w);
     for d in 0..n {

@@ -65,9 +65,10 @@ pub fn low_weights(w: &[u64], k: usize) -> Weights
     requires { ⌜ Accepted (now w) × (k < 2) ⌝ }
     ensures { λ r. ⌜ r ≡ noHigh (weightsOf (now (w .entry)) k) ⌝ }
 {
+    let wt = weights(w, k);
     Weights {
-        w: w[10 + 3 * k],
-        u: w[10 + (3 * k + 1)],
+        w: wt.w,
+        u: wt.u,
         v: 0,
     }
 }

@@ -1,7 +1,6 @@
 -- `costs::nurse_costs_day` meets its contract: the loop fills the table, and a trial by it is the penalty counted afresh.
 use borrow.Author.Needs.{needs}
 use Prim.Native.Nat.{_-_}
-use mathlib.Core.Path.{refl}
 use native.Mathlib.Omega.{arith}
 use Rattle.penalty.proofs.CostLaws.{DayTable, table-start, day-row, table-small, day-trials}
 use Rattle.penalty.proofs.costs.nurse_costs_day.Statement.{statement}
@@ -17,7 +16,7 @@ days-requires : tie.Need-days-requires Inv-loop μ-loop
 days-requires c κs = search needs
 
 loop-holds : tie.Need-loop-holds Inv-loop μ-loop
-loop-holds c = table-start _ _ _ _ _ refl refl refl
+loop-holds c = table-start _ _ _ _
 
 mul-day-day : tie.Need-mul-day-day Inv-loop μ-loop
 mul-day-day c = search needs

@@ -1,7 +1,6 @@
 -- `costs::nurse_costs_night` meets its contract: the loop fills the table, and a trial by it is the penalty counted afresh.
 use borrow.Author.Needs.{needs}
 use Prim.Native.Nat.{_-_}
-use mathlib.Core.Path.{refl}
 use native.Mathlib.Omega.{arith}
 use Rattle.penalty.proofs.CostLaws.{NightTable, table-start, night-row, table-small, night-trials}
 use Rattle.penalty.proofs.costs.nurse_costs_night.Statement.{statement}
@@ -17,7 +16,7 @@ days-requires : tie.Need-days-requires Inv-loop μ-loop
 days-requires c κs = search needs
 
 loop-holds : tie.Need-loop-holds Inv-loop μ-loop
-loop-holds c = table-start _ _ _ _ _ refl refl refl
+loop-holds c = table-start _ _ _ _
 
 mul-night-day : tie.Need-mul-night-day Inv-loop μ-loop
 mul-night-day c = search needs
