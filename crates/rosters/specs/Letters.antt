@@ -9,18 +9,22 @@ use Rattle.ward.specs.Fields.{days, block}
 use Rattle.rows.specs.Rows.{dutyOn}
 
 -- the letter of a duty, as its byte
-abbrev pub letter : ℕ → ℕ
+unfoldable pub letter : ℕ → ℕ
 letter duty = getD (47 ∷ 45 ∷ 78 ∷ 110 ∷ 43 ∷ []) duty 0
 
--- nurse i's row under night pattern p and day pattern q
-unfoldable pub rowLetters : List ℕ → ℕ → ℕ → ℕ → List ℕ
-rowLetters w i p q = map (λ d. letter (dutyOn (block w i) p q d)) (upFrom 1 (days w))
+-- the row of n days of the nurse with block b, under night pattern p and day pattern q
+unfoldable pub rowLettersOf : List ℕ → ℕ → ℕ → ℕ → List ℕ
+rowLettersOf b n p q = map (λ d. letter (dutyOn b p q d)) (upFrom 1 n)
 
--- the rows of the first k nurses under these patterns, one after the other
+-- nurse i's row
+abbrev pub rowLetters : List ℕ → ℕ → ℕ → ℕ → List ℕ
+rowLetters w i p q = rowLettersOf (block w i) (days w) p q
+
+-- the rows of the first k nurses, one after the other: nurse i's night pattern is ps i, her day pattern qs i
 unfoldable pub letters : List ℕ → (ℕ → ℕ) → (ℕ → ℕ) → ℕ → List ℕ
-letters w nights days zero = []
-letters w nights days (suc k) = letters w nights days k ++ rowLetters w k (nights k) (days k)
+letters w ps qs zero = []
+letters w ps qs (suc k) = letters w ps qs k ++ rowLetters w k (ps k) (qs k)
 
 -- one of the five
-abbrev pub isLetter : ℕ → Bool
+unfoldable pub isLetter : ℕ → Bool
 isLetter c = eqb c 47 || (eqb c 45 || (eqb c 78 || (eqb c 110 || eqb c 43)))

@@ -10,39 +10,39 @@ Inv-loop roster m n d c col₀ i₀ col i = ?
 abbrev μ-loop : tie.MeasureT-loop
 μ-loop roster m n d c col₀ i₀ col i = ?
 
--- src/needs.rt:17:5
+-- src/needs.rt:19:5
 loop-holds : tie.Need-loop-holds Inv-loop μ-loop
 loop-holds c = ?
 
--- src/needs.rt:18:47
+-- src/needs.rt:20:47
 mul-put-bit : tie.Need-mul-put-bit Inv-loop μ-loop
 mul-put-bit c = ?
 
--- src/needs.rt:18:47
+-- src/needs.rt:20:47
 add-put-bit : tie.Need-add-put-bit Inv-loop μ-loop
 add-put-bit c = ?
 
--- src/needs.rt:18:40
+-- src/needs.rt:20:40
 shared-slice-read-put-bit : tie.Need-shared-slice-read-put-bit Inv-loop μ-loop
 shared-slice-read-put-bit c = ?
 
--- src/needs.rt:18:9
+-- src/needs.rt:20:9
 put-bit-requires : tie.Need-put-bit-requires Inv-loop μ-loop
 put-bit-requires c κs = ?
 
--- src/needs.rt:19:9
+-- src/needs.rt:21:9
 add-i : tie.Need-add-i Inv-loop μ-loop
 add-i c = ?
 
--- src/needs.rt:17:5
+-- src/needs.rt:19:5
 loop-less : tie.Need-loop-less Inv-loop μ-loop
 loop-less c = ?
 
--- src/needs.rt:17:5
+-- src/needs.rt:19:5
 loop-again : tie.Need-loop-again Inv-loop μ-loop
 loop-again c = ?
 
--- src/needs.rt:11:1
+-- src/needs.rt:13:1
 returns : tie.Need-returns Inv-loop μ-loop
 returns c = ?
 

@@ -1,14 +1,13 @@
-use borrow.Author.Needs.{needs}
 use Rattle.rosters.proofs.needs.duty_letter.Statement.{statement}
 use Rattle.rosters.proofs.needs.duty_letter.Tie as tie
 use Rattle.rosters.proofs.needs.duty_letter.Reads as reads
 use Rattle.rosters.proofs.needs.duty_letter.Lts as lts
 
--- src/needs.rt:66:1
+-- src/needs.rt:54:1
 returns : tie.Need-returns
-returns c = search needs
+returns c = ?
 
--- src/needs.rt:66:1
+-- src/needs.rt:54:1
 returns-2 : tie.Need-returns-2
 returns-2 c = ?
 

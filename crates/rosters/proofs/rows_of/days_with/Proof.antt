@@ -10,39 +10,39 @@ Inv-loop roster at n c set₀ d₀ set d = ?
 abbrev μ-loop : tie.MeasureT-loop
 μ-loop roster at n c set₀ d₀ set d = ?
 
--- src/rows_of.rt:19:5
+-- src/rows_of.rt:16:5
 loop-holds : tie.Need-loop-holds Inv-loop μ-loop
 loop-holds c = ?
 
--- src/rows_of.rt:20:19
+-- src/rows_of.rt:17:19
 add-if1 : tie.Need-add-if1 Inv-loop μ-loop
 add-if1 c = ?
 
--- src/rows_of.rt:20:12
+-- src/rows_of.rt:17:12
 shared-slice-read-if1 : tie.Need-shared-slice-read-if1 Inv-loop μ-loop
 shared-slice-read-if1 c = ?
 
--- src/rows_of.rt:21:25
+-- src/rows_of.rt:18:25
 bit-requires : tie.Need-bit-requires Inv-loop μ-loop
 bit-requires c κs = ?
 
--- src/rows_of.rt:21:19
+-- src/rows_of.rt:18:19
 add-set : tie.Need-add-set Inv-loop μ-loop
 add-set c = ?
 
--- src/rows_of.rt:23:9
+-- src/rows_of.rt:20:9
 add-d : tie.Need-add-d Inv-loop μ-loop
 add-d c = ?
 
--- src/rows_of.rt:19:5
+-- src/rows_of.rt:16:5
 loop-less : tie.Need-loop-less Inv-loop μ-loop
 loop-less c = ?
 
--- src/rows_of.rt:19:5
+-- src/rows_of.rt:16:5
 loop-again : tie.Need-loop-again Inv-loop μ-loop
 loop-again c = ?
 
--- src/rows_of.rt:13:1
+-- src/rows_of.rt:10:1
 returns : tie.Need-returns Inv-loop μ-loop
 returns c = ?
 

@@ -14,75 +14,75 @@ Inv-loop b n roster at p q state₀ d₀ state d = ?
 abbrev μ-loop : tie.MeasureT-loop
 μ-loop b n roster at p q state₀ d₀ state d = ?
 
--- src/rows_of.rt:33:36
+-- src/rows_of.rt:30:36
 shared-slice-read-day-zero : tie.Need-shared-slice-read-day-zero Inv-loop μ-loop
 shared-slice-read-day-zero c = ?
 
--- src/rows_of.rt:33:9
+-- src/rows_of.rt:30:9
 day-zero-requires : tie.Need-day-zero-requires Inv-loop μ-loop
 day-zero-requires c κs = ?
 
--- src/rows_of.rt:35:5
+-- src/rows_of.rt:32:5
 loop-holds : tie.Need-loop-holds Inv-loop μ-loop
 loop-holds c = ?
 
--- src/rows_of.rt:37:42
+-- src/rows_of.rt:34:42
 has-bit-requires : tie.Need-has-bit-requires Inv-loop μ-loop
 has-bit-requires c κs = ?
 
--- src/rows_of.rt:37:9
+-- src/rows_of.rt:34:9
 state-after-requires : tie.Need-state-after-requires Inv-loop μ-loop
 state-after-requires c κs = ?
 
--- src/rows_of.rt:38:36
+-- src/rows_of.rt:35:36
 add-duty-of : tie.Need-add-duty-of Inv-loop μ-loop
 add-duty-of c = ?
 
--- src/rows_of.rt:38:34
+-- src/rows_of.rt:35:34
 mul-duty-of : tie.Need-mul-duty-of Inv-loop μ-loop
 mul-duty-of c = ?
 
--- src/rows_of.rt:38:34
+-- src/rows_of.rt:35:34
 shared-slice-read-duty-of : tie.Need-shared-slice-read-duty-of Inv-loop μ-loop
 shared-slice-read-duty-of c = ?
 
--- src/rows_of.rt:38:52
+-- src/rows_of.rt:35:52
 has-bit-requires-2 : tie.Need-has-bit-requires-2 Inv-loop μ-loop
 has-bit-requires-2 c κs = ?
 
--- src/rows_of.rt:38:13
+-- src/rows_of.rt:35:13
 duty-of-requires : tie.Need-duty-of-requires Inv-loop μ-loop
 duty-of-requires c κs = ?
 
--- src/rows_of.rt:39:12
+-- src/rows_of.rt:36:13
 letter-of-requires : tie.Need-letter-of-requires Inv-loop μ-loop
 letter-of-requires c κs = ?
 
--- src/rows_of.rt:39:63
+-- src/rows_of.rt:37:19
 add-if1 : tie.Need-add-if1 Inv-loop μ-loop
 add-if1 c = ?
 
--- src/rows_of.rt:39:56
+-- src/rows_of.rt:37:12
 shared-slice-read-if1 : tie.Need-shared-slice-read-if1 Inv-loop μ-loop
 shared-slice-read-if1 c = ?
 
--- src/rows_of.rt:40:13
+-- src/rows_of.rt:38:13
 add-d : tie.Need-add-d Inv-loop μ-loop
 add-d c = ?
 
--- src/rows_of.rt:35:5
+-- src/rows_of.rt:32:5
 loop-less : tie.Need-loop-less Inv-loop μ-loop
 loop-less c = ?
 
--- src/rows_of.rt:35:5
+-- src/rows_of.rt:32:5
 loop-again : tie.Need-loop-again Inv-loop μ-loop
 loop-again c = ?
 
--- src/rows_of.rt:42:13
+-- src/rows_of.rt:40:13
 returns : tie.Need-returns Inv-loop μ-loop
 returns c = ?
 
--- src/rows_of.rt:29:1
+-- src/rows_of.rt:26:1
 returns-2 : tie.Need-returns-2 Inv-loop μ-loop
 returns-2 c = ?
 
