@@ -5,3 +5,4 @@ pub mod LocalLaws
 pub mod ReachLaws
 pub mod ListLaws
 pub mod SheetLaws
+pub mod ListsLaws

@@ -1,18 +1,17 @@
 -- What a window, a day's step and a count of rests depend on: only the duties of their own places, and so only the days of q there.
-use mathlib.Core.Path.{_≡_, refl, sym, ap, ap₂, _∙_, subst}
-use mathlib.Core.Bool.{Bool, true, false, cond, not, _&&_, _||_}
-use mathlib.Core.List.{List, [], _∷_, map}
-use Prim.Native.Nat.{ℕ, zero, suc, _+_, _-_, _*_, _/_, _%_, _^_, _≤_, _<_}
+use mathlib.Core.Path.{_≡_, ap, ap₂}
+use mathlib.Core.Bool.{Bool, cond, not, _&&_, _||_}
+use mathlib.Core.List.{List}
+use Prim.Native.Nat.{ℕ, suc, _+_, _-_, _/_, _%_, _^_, _≤_, _<_}
 use native.Mathlib.Omega.{arith}
 use native.Mathlib.Decide.{decLt}
 use borrow.Author.Tests.{lt-ltb, le-ltb}
-use lib.Dec.{ltb, eqb}
+use lib.Dec.{ltb}
 use lib.ListN.{length, getD}
-use Rattle.numbers.specs.Range.{upFrom, keep, all}
 use Rattle.numbers.specs.Sum.{oneIf}
 use Rattle.numbers.specs.Digits.{has}
 use Rattle.numbers.proofs.AgreeLaws.{map-agree, keep-agree, high-agree}
-use Rattle.days.specs.Days.{inRun, isRest, anyOf, same, window, freeOf, windowsHold, rests}
+use Rattle.days.specs.Days.{isRest, same, window, freeOf, windowsHold, rests}
 use Rattle.days.specs.Walk.{dutyAt, stepHolds, restOn, branch}
 use Rattle.days.specs.declared.month.Month.{Month}
 use Rattle.days.proofs.RuleLaws.{restsFrom}

@@ -1,23 +1,21 @@
 -- Laws of a nurse's month: one turn of the loops that make its sets and its row.
-use mathlib.Core.Path.{_≡_, refl, sym, ap, _∙_, subst}
-use mathlib.Core.Bool.{Bool, true, false, cond, not, _&&_}
-use mathlib.Core.List.{List, [], _∷_}
-use mathlib.Core.Logic.{_⊎_, inl, inr}
-use Prim.Native.Nat.{ℕ, zero, suc, _+_, _-_, _≤_, _<_, _^_}
+use mathlib.Core.Path.{_≡_, sym, ap, _∙_, subst}
+use mathlib.Core.Bool.{Bool, false, cond}
+use mathlib.Core.List.{List}
+use Prim.Native.Nat.{ℕ, suc, _+_, _-_, _≤_, _<_, _^_}
 use native.Mathlib.Numerals.{add-one}
 use native.Mathlib.Omega.{arith}
 use native.Mathlib.Decide.{decLt}
 use borrow.Author.Tests.{lt-ltb, le-ltb}
-use lib.Dec.{leb, ltb, eqb}
+use lib.Dec.{eqb}
 use lib.ListN.{length, getD, set, length-set}
 use lib.Seq.{getD-set-same, getD-set-other}
-use Rattle.numbers.specs.Digits.{has, bit, numberOf}
+use Rattle.numbers.specs.Digits.{has, numberOf}
 use Rattle.numbers.proofs.DigitLaws.{number-lt, number-zero, number-suc, bit-of-zero}
-use Rattle.ward.specs.Fields.{duty, markOn}
-use Rattle.rows.specs.Rows.{rowState, stateAfter, dayZero, available, availableOn, fixedDay, dutyOf, dutyOn, started}
+use Rattle.ward.specs.Fields.{duty}
+use Rattle.rows.specs.Rows.{rowState, stateAfter, dayZero, available, availableOn, fixedDay, dutyOf, dutyOn}
 use Rattle.rows.proofs.RowLaws.{row-zero, row-turn}
 use Rattle.days.specs.Days.{rowDuty}
-use Rattle.days.specs.Walk.{IsSheet, inBounds}
 
 -- ---- sets
 

@@ -1,18 +1,17 @@
 -- A pattern that meets the rules is never cut off: on its way the walk goes on.
-use mathlib.Core.Path.{_≡_, refl, sym, ap, ap₂, _∙_, subst}
-use mathlib.Core.Bool.{Bool, true, false, cond, not, _&&_, _||_, or-true}
-use mathlib.Core.List.{List, [], _∷_}
+use mathlib.Core.Path.{_≡_, refl, sym, ap, _∙_, subst}
+use mathlib.Core.Bool.{Bool, true, false, cond, not, _||_}
+use mathlib.Core.List.{List}
 use Prim.Native.Nat.{ℕ, zero, suc, _+_, _-_, _*_, _/_, _%_, _^_, _≤_, _<_, min}
 use native.Mathlib.Nat.{add-zero, pow-suc, div-one, mul-comm, mul-assoc, sub-zero}
 use native.Mathlib.Numerals.{add-one}
 use native.Mathlib.Omega.{arith}
-use native.Mathlib.Decide.{decLt, decLe}
+use native.Mathlib.Decide.{decLt}
 use borrow.Author.Tests.{lt-ltb, le-ltb, ltb-true, eqb-true, eqb-false}
-use lib.Dec.{leb, ltb, eqb}
+use lib.Dec.{ltb, eqb}
 use lib.Bits.{bitOr}
 use lib.Pow.{shr-shr, shl-shr}
-use lib.ListN.{length, getD}
-use Rattle.numbers.specs.Range.{upFrom, keep, all}
+use Rattle.numbers.specs.Range.{upFrom, all}
 use Rattle.numbers.specs.Digits.{has, bit}
 use Rattle.numbers.proofs.RangeLaws.{and-parts, length-range}
 use Rattle.numbers.proofs.DigitLaws.{bit-above, bit-lt}
@@ -21,7 +20,7 @@ use Rattle.days.specs.Days.{isRest, windowsHold, rests}
 use Rattle.days.specs.Walk.{Small, inBounds, dutyAt, choiceOf, ruleOf, stepHolds, restOn, branch, reach, goesOn}
 use Rattle.days.specs.declared.month.Month.{Month}
 use Rattle.days.proofs.RuleLaws.{restsFrom, rests-start, rest-day}
-use Rattle.days.proofs.LocalLaws.{Near, near-high, windows-same, duty-same, step-same, rest-same, branch-same, rests-high}
+use Rattle.days.proofs.LocalLaws.{Near, near-high, windows-same, duty-same, step-same, branch-same, rests-high}
 
 -- what the walk leans on: no mark 2 after the month, and the set of counts of rests within her bounds
 pub record Bounded (m : Month) : Type 0 where

@@ -1,13 +1,13 @@
 -- Laws of the day rule over a row: what each loop over places or days has left.
-use mathlib.Core.Path.{_≡_, refl, sym, ap, _∙_, subst}
-use mathlib.Core.Bool.{Bool, true, false, cond, not, _&&_, _||_, and-true}
+use mathlib.Core.Path.{_≡_, sym, ap, _∙_}
+use mathlib.Core.Bool.{Bool, true, false, cond, not, _&&_, and-true}
 use mathlib.Core.List.{List, [], _∷_, map}
-use Prim.Native.Nat.{ℕ, zero, suc, _+_, _-_, _≤_, _<_, _^_}
-use native.Mathlib.Nat.{sub-zero, add-zero}
+use Prim.Native.Nat.{ℕ, suc, _+_, _-_, _≤_, _<_, _^_}
+use native.Mathlib.Nat.{sub-zero}
 use native.Mathlib.Numerals.{add-one}
 use native.Mathlib.Omega.{arith}
-use borrow.Author.Tests.{lt-ltb, le-ltb, eq-eqb, ne-eqb, le-leb, lt-leb}
-use lib.Dec.{leb, ltb, eqb}
+use borrow.Author.Tests.{lt-ltb, le-ltb, eq-eqb, ne-eqb}
+use lib.Dec.{eqb}
 use lib.ListN.{length, getD, drop, drop-of-length-le}
 use lib.Seq.{drop-cons}
 use Rattle.numbers.specs.Range.{upFrom, keep, all}
@@ -15,8 +15,8 @@ use Rattle.numbers.specs.Sum.{oneIf}
 use Rattle.numbers.specs.Digits.{has}
 use Rattle.rows.specs.Rows.{started}
 use Rattle.numbers.proofs.RangeLaws.{range-turn, range-done}
-use Rattle.days.specs.Days.{inRun, isRest, anyOf, same, window, forbidden, freeOf, windowsHold, rests}
-use Rattle.days.specs.Walk.{Small, dutyAt, choiceOf, inBounds, restOn, ruleOf}
+use Rattle.days.specs.Days.{inRun, isRest, anyOf, same, window, freeOf, windowsHold, rests}
+use Rattle.days.specs.Walk.{dutyAt, choiceOf, inBounds, restOn, ruleOf}
 use Rattle.days.specs.declared.month.Month.{Month}
 
 -- ---- the duty at a place

@@ -1,13 +1,13 @@
 -- The rule over a nurse's month is the day rule, so what the walk lists is her day list.
 use mathlib.Core.Path.{_≡_, refl, sym, ap, ap₂, _∙_, subst}
-use mathlib.Core.Bool.{Bool, true, false, cond, not, _&&_, _||_}
-use mathlib.Core.List.{List, [], _∷_}
+use mathlib.Core.Bool.{Bool, true, false, cond, not, _&&_}
+use mathlib.Core.List.{List}
 use Prim.Native.Nat.{ℕ, zero, suc, _+_, _-_, _*_, _^_, _≤_, _<_}
 use native.Mathlib.Omega.{arith}
 use native.Mathlib.Decide.{decLt}
 use borrow.Author.Tests.{lt-ltb, le-ltb, ltb-true, eqb-true}
-use lib.Dec.{leb, ltb, eqb}
-use lib.ListN.{length, getD, take, drop}
+use lib.Dec.{ltb, eqb}
+use lib.ListN.{length, take, drop}
 use Rattle.numbers.specs.Range.{upFrom, keep, all, Ascending}
 use Rattle.numbers.specs.Digits.{has, numberOf}
 use Rattle.numbers.proofs.RangeLaws.{and-parts, keep-same, keep-ascending, At, kept-in, kept-only}

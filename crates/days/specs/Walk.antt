@@ -2,11 +2,11 @@
 -- where a pattern may remain. `m` is her month, `row` the duties where she works no day, as place t of a row is day t - 6;
 -- days have indexes from 0 here, so day d has place d + 7.
 use mathlib.Core.Path.{_≡_}
-use mathlib.Core.Bool.{Bool, true, false, cond, not, _&&_, _||_}
+use mathlib.Core.Bool.{Bool, cond, not, _&&_, _||_}
 use mathlib.Core.List.{List, [], _∷_, _++_}
 use Prim.Native.Nat.{ℕ, zero, suc, _+_, _-_, _*_, _/_, _%_, _^_, _≤_, _<_, min}
-use lib.Dec.{leb, ltb, eqb}
-use lib.ListN.{length, getD}
+use lib.Dec.{leb, ltb}
+use lib.ListN.{getD}
 use lib.Bits.{bitOr}
 use Rattle.numbers.specs.Range.{upFrom, all}
 use Rattle.numbers.specs.Sum.{oneIf}

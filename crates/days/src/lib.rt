@@ -3,7 +3,7 @@ mod month;
 mod rule;
 mod reach;
 mod walk;
-mod lists;
+pub mod lists;
 
 use month::Sheet;
 ghost use mathlib.Core.Path.{_≡_};

@@ -1,7 +1,7 @@
 -- `days::day_count` meets its contract: what the walk lists is the day list.
-use mathlib.Core.Path.{_≡_, sym, ap, _∙_}
+use mathlib.Core.Path.{ap, _∙_}
 use mathlib.Core.List.{List}
-use Prim.Native.Nat.{ℕ, min, _^_}
+use Prim.Native.Nat.{ℕ, min}
 use native.Mathlib.Omega.{arith}
 use lib.ListN.{length}
 use lib.Pow.{pow-mono}
@@ -11,23 +11,15 @@ use Rattle.days.proofs.SheetLaws.{sheet-small, lists-day-list}
 use borrow.Author.Needs.{needs}
 use Rattle.days.proofs.day_count.Statement.{statement}
 use Rattle.days.proofs.day_count.Tie as tie
-use Rattle.days.proofs.day_count.Reads as reads
-use Rattle.days.proofs.day_count.Lts as lts
-use Rattle.days.proofs.nurse_sheet.Reads as nurse-sheet-reads
-use Rattle.days.proofs.reach.table_of.Reads as table-of-reads
-use Rattle.days.proofs.walk.count.Reads as count-reads
 
--- src/lib.rt:48:9
 nurse-sheet-requires : tie.Need-nurse-sheet-requires
 nurse-sheet-requires c κs = search needs
 
--- src/lib.rt:51:17
 table-of-requires : tie.Need-table-of-requires
 table-of-requires c κs = let s = c .before .before .before .before .before .args in
     let t = c .before .before .before .nurse-sheet .result in
     sheet-small (block (s .w .now) (s .i)) (days (s .w .now)) (longestDays (s .w .now)) (s .p) (t .month) (t .row) (c .before .before .before .nurse-sheet .ensures) (c .before .before .before .before .before .pre .0 .days-most) (c .before .before .before .before .before .pre .0 .day-run-most)
 
--- src/lib.rt:52:5
 count-requires : tie.Need-count-requires
 count-requires c κs = let s = c .before .before .before .before .before .before .before .before .args in
     let t = c .before .before .before .before .before .before .nurse-sheet .result in
@@ -35,7 +27,6 @@ count-requires c κs = let s = c .before .before .before .before .before .before
     let fits = pow-mono {i = t .month .days} {j = 31} (small .few-days) in
     (small, (c .before .before .table-of .ensures, (omega arith, omega (arith, fits))))
 
--- src/lib.rt:43:1
 returns : tie.Need-returns
 returns c = let s = c .before .before .before .before .before .before .before .before .before .args in
     let t = c .before .before .before .before .before .before .before .nurse-sheet .result in

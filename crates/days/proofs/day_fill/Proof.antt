@@ -1,7 +1,6 @@
 -- `days::day_fill` meets its contract: what the walk lists is the day list.
-use mathlib.Core.Path.{_≡_, sym, ap, _∙_}
-use mathlib.Core.List.{List}
-use Prim.Native.Nat.{ℕ, min, _^_}
+use mathlib.Core.Path.{ap, _∙_}
+use Prim.Native.Nat.{ℕ}
 use native.Mathlib.Omega.{arith}
 use lib.ListN.{length}
 use lib.Pow.{pow-mono}
@@ -11,23 +10,15 @@ use Rattle.days.proofs.SheetLaws.{sheet-small, lists-day-list}
 use borrow.Author.Needs.{needs}
 use Rattle.days.proofs.day_fill.Statement.{statement}
 use Rattle.days.proofs.day_fill.Tie as tie
-use Rattle.days.proofs.day_fill.Reads as reads
-use Rattle.days.proofs.day_fill.Lts as lts
-use Rattle.days.proofs.nurse_sheet.Reads as nurse-sheet-reads
-use Rattle.days.proofs.reach.table_of.Reads as table-of-reads
-use Rattle.days.proofs.walk.fill.Reads as fill-reads
 
--- src/lib.rt:63:9
 nurse-sheet-requires : tie.Need-nurse-sheet-requires
 nurse-sheet-requires c κs = search needs
 
--- src/lib.rt:66:17
 table-of-requires : tie.Need-table-of-requires
 table-of-requires c κs = let s = c .before .before .before .before .before .before .args in
     let t = c .before .before .before .nurse-sheet .result in
     sheet-small (block (s .w .now) (s .i)) (days (s .w .now)) (longestDays (s .w .now)) (s .p) (t .month) (t .row) (c .before .before .before .nurse-sheet .ensures) (c .before .before .before .before .before .before .pre .0 .days-most) (c .before .before .before .before .before .before .pre .0 .day-run-most)
 
--- src/lib.rt:67:5
 fill-requires : tie.Need-fill-requires
 fill-requires c κs = let s = c .before .before .before .before .before .before .before .before .before .before .args in
     let t = c .before .before .before .before .before .before .before .nurse-sheet .result in
@@ -36,11 +27,9 @@ fill-requires c κs = let s = c .before .before .before .before .before .before 
     let is = ap (λ (k : ℕ). listed (t .month) (t .row) k 0 0) (c .before .before .before .before .before .before .before .nurse-sheet .ensures .days-is) ∙ lists-day-list (s .w .now) (s .i) (s .p) (t .month) (t .row) (c .before .before .before .before .before .before .before .before .before .before .pre .0) (c .before .before .before .before .before .before .before .nurse-sheet .ensures) in
     (small, (c .before .before .before .table-of .ensures, (omega arith, (omega (arith, fits), omega (arith, ap length is, c .before .before .before .before .before .before .before .before .before .before .pre .1 .1)))))
 
--- src/lib.rt:56:1
 same-length : tie.Need-same-length
 same-length c = search needs
 
--- src/lib.rt:56:1
 returns : tie.Need-returns
 returns c = let s = c .before .before .before .before .before .before .before .before .before .before .before .before .before .args in
     let t = c .before .before .before .before .before .before .before .before .before .before .nurse-sheet .result in

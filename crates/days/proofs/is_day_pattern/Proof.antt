@@ -5,22 +5,15 @@ use Rattle.days.proofs.SheetLaws.{sheet-small, rule-is}
 use borrow.Author.Needs.{needs}
 use Rattle.days.proofs.is_day_pattern.Statement.{statement}
 use Rattle.days.proofs.is_day_pattern.Tie as tie
-use Rattle.days.proofs.is_day_pattern.Reads as reads
-use Rattle.days.proofs.is_day_pattern.Lts as lts
-use Rattle.days.proofs.nurse_sheet.Reads as nurse-sheet-reads
-use Rattle.days.proofs.rule.rule_holds.Reads as rule-holds-reads
 
--- src/lib.rt:36:9
 nurse-sheet-requires : tie.Need-nurse-sheet-requires
 nurse-sheet-requires c κs = search needs
 
--- src/lib.rt:39:5
 rule-holds-requires : tie.Need-rule-holds-requires
 rule-holds-requires c κs = let s = c .before .before .before .before .before .args in
     let t = c .before .before .before .nurse-sheet .result in
     sheet-small (block (s .w .now) (s .i)) (days (s .w .now)) (longestDays (s .w .now)) (s .p) (t .month) (t .row) (c .before .before .before .nurse-sheet .ensures) (c .before .before .before .before .before .pre .0 .days-most) (c .before .before .before .before .before .pre .0 .day-run-most)
 
--- src/lib.rt:31:1
 returns : tie.Need-returns
 returns c = let s = c .before .before .before .before .before .before .args in
     let t = c .before .before .before .before .nurse-sheet .result in

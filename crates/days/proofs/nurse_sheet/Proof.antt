@@ -1,5 +1,5 @@
 -- `days::nurse_sheet` meets its contract: her block is a part of the ward.
-use mathlib.Core.Path.{_≡_, sym, subst}
+use mathlib.Core.Path.{sym, subst}
 use mathlib.Core.List.{List}
 use Prim.Native.Nat.{ℕ}
 use native.Mathlib.Omega.{arith}
@@ -9,60 +9,44 @@ use Rattle.days.proofs.SheetLaws.{block-ends, block-part}
 use borrow.Author.Needs.{needs}
 use Rattle.days.proofs.nurse_sheet.Statement.{statement}
 use Rattle.days.proofs.nurse_sheet.Tie as tie
-use Rattle.days.proofs.nurse_sheet.Reads as reads
-use Rattle.days.proofs.nurse_sheet.Lts as lts
-use Rattle.days.proofs.month.sheet_of.Reads as sheet-of-reads
 
--- src/lib.rt:23:13
 shared-slice-read-n : tie.Need-shared-slice-read-n
 shared-slice-read-n c = search needs
 
--- src/lib.rt:24:19
 shared-slice-read-longest : tie.Need-shared-slice-read-longest
 shared-slice-read-longest c = search needs
 
--- src/lib.rt:25:24
 add-at : tie.Need-add-at
 add-at c = search needs
 
--- src/lib.rt:25:19
 mul-at : tie.Need-mul-at
 mul-at c = omega (arith, block-ends (c .before .before .before .args .w .now) (c .before .before .before .args .i) (c .before .before .before .pre .0) (c .before .before .before .pre .1) .0, c .before .before .before .pre .0 .bound)
 
--- src/lib.rt:25:14
 add-at-2 : tie.Need-add-at-2
 add-at-2 c = omega (arith, block-ends (c .before .before .before .args .w .now) (c .before .before .before .args .i) (c .before .before .before .pre .0) (c .before .before .before .pre .1) .0, c .before .before .before .pre .0 .bound)
 
--- src/lib.rt:26:21
 add-end : tie.Need-add-end
 add-end c = search needs
 
--- src/lib.rt:26:15
 add-end-2 : tie.Need-add-end-2
 add-end-2 c = omega (arith, block-ends (c .before .before .before .args .w .now) (c .before .before .before .args .i) (c .before .before .before .pre .0) (c .before .before .before .pre .1) .0, c .before .before .before .pre .0 .bound)
 
--- src/lib.rt:27:21
 mul-sheet-of : tie.Need-mul-sheet-of
 mul-sheet-of c = omega (arith, block-ends (c .before .before .before .args .w .now) (c .before .before .before .args .i) (c .before .before .before .pre .0) (c .before .before .before .pre .1) .0, c .before .before .before .pre .0 .bound)
 
--- src/lib.rt:27:21
 sub-sheet-of : tie.Need-sub-sheet-of
 sub-sheet-of c = omega arith
 
--- src/lib.rt:27:21
 part-sheet-of-start : tie.Need-part-sheet-of-start
 part-sheet-of-start c = omega arith
 
--- src/lib.rt:27:21
 part-sheet-of-end : tie.Need-part-sheet-of-end
 part-sheet-of-end c = omega (arith, block-ends (c .before .before .before .args .w .now) (c .before .before .before .args .i) (c .before .before .before .pre .0) (c .before .before .before .pre .1) .0, c .before .before .before .pre .0 .bound)
 
--- src/lib.rt:27:5
 sheet-of-requires : tie.Need-sheet-of-requires
 sheet-of-requires c κs = let s = c .before .before .before .before .args in
     (subst (λ (b : List ℕ). Block b (days (s .w .now))) (sym (block-part (s .w .now) (s .i))) (c .before .before .before .before .pre .0 .blocks (s .i) (c .before .before .before .before .pre .1)), c .before .before .before .before .pre .0 .days-most)
 
--- src/lib.rt:18:1
 returns : tie.Need-returns
 returns c = let s = c .before .before .before .before .before .args in
     subst (λ (b : List ℕ). IsSheet b (days (s .w .now)) (longestDays (s .w .now)) (s .p) (c .sheet-of .result .month) (c .sheet-of .result .row)) (block-part (s .w .now) (s .i)) (c .sheet-of .ensures)

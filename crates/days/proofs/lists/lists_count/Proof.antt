@@ -1,74 +1,71 @@
+-- `days::lists::lists_count` meets its contract. The loop's invariant: the lists so far end within the places.
+use mathlib.Core.Path.{refl}
+use Prim.Native.Nat.{_-_}
+use native.Mathlib.Omega.{arith}
+use Rattle.ward.specs.Fields.{nurses}
+use Rattle.days.specs.Lists.{dayLists}
+use Rattle.days.proofs.ListsLaws.{CountAt, count-start, count-turn, counted-over, counted-all}
+use borrow.Author.Needs.{needs}
 use Rattle.days.proofs.lists.lists_count.Statement.{statement}
 use Rattle.days.proofs.lists.lists_count.Tie as tie
-use Rattle.days.proofs.lists.lists_count.Reads as reads
-use Rattle.days.proofs.lists.lists_count.Lts as lts
-use Rattle.days.proofs.day_count.Reads as day-count-reads
 
 abbrev Inv-loop : tie.InvT-loop
-Inv-loop w nights places m ends₀ at₀ over₀ ends at over = ?
+Inv-loop w nights places m ends₀ at₀ over₀ ends at over = CountAt (dayLists w nights) (nurses w) places over at ends
 
 abbrev μ-loop : tie.MeasureT-loop
-μ-loop w nights places m ends₀ at₀ over₀ ends at over = ?
+μ-loop w nights places m ends₀ at₀ over₀ ends at over = nurses w - over
 
--- src/lists.rt:21:13
 shared-slice-read-m : tie.Need-shared-slice-read-m Inv-loop μ-loop
-shared-slice-read-m c = ?
+shared-slice-read-m c = search needs
 
--- src/lists.rt:25:5
 loop-holds : tie.Need-loop-holds Inv-loop μ-loop
-loop-holds c = ?
+loop-holds c = let s = c .before .before .args in
+    count-start (dayLists (s .w .now) (s .nights .now)) (nurses (s .w .now)) (s .places) _ refl refl
 
--- src/lists.rt:26:20
 sub-room : tie.Need-sub-room Inv-loop μ-loop
-sub-room c = ?
+sub-room c = search needs
 
--- src/lists.rt:27:47
 mul-day-count : tie.Need-mul-day-count Inv-loop μ-loop
-mul-day-count c = ?
+mul-day-count c = search needs
 
--- src/lists.rt:27:47
 element-copy-out-day-count : tie.Need-element-copy-out-day-count Inv-loop μ-loop
-element-copy-out-day-count c = ?
+element-copy-out-day-count c = search needs
 
--- src/lists.rt:27:61
 add-day-count : tie.Need-add-day-count Inv-loop μ-loop
-add-day-count c = ?
+add-day-count c = search needs
 
--- src/lists.rt:27:13
 day-count-requires : tie.Need-day-count-requires Inv-loop μ-loop
-day-count-requires c κs = ?
+day-count-requires c κs = (c .before .before .before .before .before .pre .0, c .before .loop-test .taken)
 
--- src/lists.rt:29:13
 returns : tie.Need-returns Inv-loop μ-loop
-returns c = ?
+returns c = let s = c .before .before .before .before .before .before .before .args in
+    let l = c .before .before .before .before .loop in
+    counted-over (dayLists (s .w .now) (s .nights .now)) (nurses (s .w .now)) (s .places) (l .over) (l .at) (l .ends) (l .inv) (c .before .before .before .loop-test .taken) (c .before .day-count .ensures) (c .if1 .taken)
 
--- src/lists.rt:31:14
 add-at : tie.Need-add-at Inv-loop μ-loop
-add-at c = ?
+add-at c = search needs
 
--- src/lists.rt:32:16
 add-over : tie.Need-add-over Inv-loop μ-loop
-add-over c = ?
+add-over c = search needs
 
--- src/lists.rt:33:9
 mul-ends : tie.Need-mul-ends Inv-loop μ-loop
-mul-ends c = ?
+mul-ends c = search needs
 
--- src/lists.rt:33:9
 array-write-ends : tie.Need-array-write-ends Inv-loop μ-loop
-array-write-ends c = ?
+array-write-ends c = omega (arith, c .before .before .before .before .loop .inv .ends-long, c .before .before .before .loop-test .taken, c .before .before .before .before .before .before .before .pre .0 .nurses-most)
 
--- src/lists.rt:25:5
 loop-less : tie.Need-loop-less Inv-loop μ-loop
-loop-less c = ?
+loop-less c = search needs
 
--- src/lists.rt:25:5
 loop-again : tie.Need-loop-again Inv-loop μ-loop
-loop-again c = ?
+loop-again c = let s = c .before .before .before .before .before .before .before .args in
+    let l = c .before .before .before .before .loop in
+    count-turn (dayLists (s .w .now) (s .nights .now)) (nurses (s .w .now)) (s .places) (l .over) (l .at) (l .ends) (l .inv) (c .before .before .before .before .before .before .before .pre .0 .nurses-most) (c .before .before .before .loop-test .taken) (c .before .day-count .ensures) (c .if1 .left)
 
--- src/lists.rt:16:1
 returns-2 : tie.Need-returns-2 Inv-loop μ-loop
-returns-2 c = ?
+returns-2 c = let s = c .before .before .before .before .args in
+    let l = c .before .loop in
+    counted-all (dayLists (s .w .now) (s .nights .now)) (nurses (s .w .now)) (s .places) (l .over) (l .at) (l .ends) (l .inv) (c .loop-test .left)
 
 pub lists-count-spec : {M : Type 1} → statement M
 lists-count-spec =

@@ -1,6 +1,6 @@
 -- `days::month::bounds` meets its contract. The loop's invariant: the set is that of the counts passed.
 use mathlib.Core.Path.{_≡_, sym, ap, _∙_}
-use Prim.Native.Nat.{ℕ, _+_, _-_, _≤_}
+use Prim.Native.Nat.{_-_, _≤_}
 use native.Mathlib.Omega.{arith}
 use Rattle.numbers.specs.Digits.{numberOf}
 use Rattle.numbers.proofs.DigitLaws.{number-zero}
@@ -9,10 +9,6 @@ use Rattle.days.proofs.MonthLaws.{next-fits, next-is}
 use borrow.Author.Needs.{needs}
 use Rattle.days.proofs.month.bounds.Statement.{statement}
 use Rattle.days.proofs.month.bounds.Tie as tie
-use Rattle.days.proofs.month.bounds.Reads as reads
-use Rattle.days.proofs.month.bounds.Lts as lts
-use Rattle.days.proofs.month.in_bounds.Reads as in-bounds-reads
-use Rattle.days.proofs.month.with_next.Reads as with-next-reads
 
 abbrev Inv-loop : tie.InvT-loop
 Inv-loop least most set₀ i₀ set i = (i ≤ 32) × (set ≡ numberOf (inBounds least most) i)
@@ -20,31 +16,24 @@ Inv-loop least most set₀ i₀ set i = (i ≤ 32) × (set ≡ numberOf (inBound
 abbrev μ-loop : tie.MeasureT-loop
 μ-loop least most set₀ i₀ set i = 32 - i
 
--- src/month.rt:54:5
 loop-holds : tie.Need-loop-holds Inv-loop μ-loop
 loop-holds c = (omega arith, sym (number-zero (inBounds (c .args .least) (c .args .most))))
 
--- src/month.rt:55:33
 in-bounds-requires : tie.Need-in-bounds-requires Inv-loop μ-loop
 in-bounds-requires c κs = search needs
 
--- src/month.rt:55:9
 with-next-requires : tie.Need-with-next-requires Inv-loop μ-loop
 with-next-requires c κs = (c .before .loop-test .taken, next-fits (inBounds (c .before .before .before .args .least) (c .before .before .before .args .most)) (c .before .before .loop .i) (c .before .before .loop .inv .1))
 
--- src/month.rt:56:13
 add-i : tie.Need-add-i Inv-loop μ-loop
 add-i c = search needs
 
--- src/month.rt:54:5
 loop-less : tie.Need-loop-less Inv-loop μ-loop
 loop-less c = search needs
 
--- src/month.rt:54:5
 loop-again : tie.Need-loop-again Inv-loop μ-loop
 loop-again c = (omega arith, next-is (inBounds (c .before .before .before .before .args .least) (c .before .before .before .before .args .most)) (c .before .before .before .loop .i) (c .before .before .before .loop .inv .1) (c .with-next .ensures) (c .before .in-bounds .ensures))
 
--- src/month.rt:49:1
 returns : tie.Need-returns Inv-loop μ-loop
 returns c = let e : c .before .loop .i ≡ 32 = omega arith in
     c .before .loop .inv .1 ∙ ap (numberOf (inBounds (c .before .before .args .least) (c .before .before .args .most))) e

@@ -1,16 +1,11 @@
 -- `days::month::in_bounds` meets its contract.
 use borrow.Author.Tests.{le-leb, lt-leb}
-use borrow.Author.Needs.{needs}
 use Rattle.days.proofs.month.in_bounds.Statement.{statement}
 use Rattle.days.proofs.month.in_bounds.Tie as tie
-use Rattle.days.proofs.month.in_bounds.Reads as reads
-use Rattle.days.proofs.month.in_bounds.Lts as lts
 
--- src/month.rt:42:1
 returns : tie.Need-returns
 returns c = simp (le-leb _ _ (c .if1 .taken))
 
--- src/month.rt:42:1
 returns-2 : tie.Need-returns-2
 returns-2 c = simp (lt-leb _ _ (c .if1 .left))
 

@@ -1,6 +1,6 @@
 -- `days::month::seven_days` meets its contract. The loop's invariant: the places passed hold her duties.
-use mathlib.Core.Path.{_≡_, refl, sym, _∙_}
-use Prim.Native.Nat.{ℕ, _+_, _-_, _≤_, _<_}
+use mathlib.Core.Path.{_≡_, refl, _∙_}
+use Prim.Native.Nat.{ℕ, _-_, _≤_, _<_}
 use native.Mathlib.Omega.{arith}
 use lib.ListN.{length, getD, length-set}
 use Rattle.ward.specs.Fields.{duty}
@@ -8,8 +8,6 @@ use Rattle.days.proofs.MonthLaws.{place-turn}
 use borrow.Author.Needs.{needs}
 use Rattle.days.proofs.month.seven_days.Statement.{statement}
 use Rattle.days.proofs.month.seven_days.Tie as tie
-use Rattle.days.proofs.month.seven_days.Reads as reads
-use Rattle.days.proofs.month.seven_days.Lts as lts
 
 abbrev Inv-loop : tie.InvT-loop
 Inv-loop b row₀ t₀ row t = (t ≤ 7) × (length row ≡ 38) × ((k : ℕ) → k < t → getD row k 0 ≡ duty b k)
@@ -17,40 +15,31 @@ Inv-loop b row₀ t₀ row t = (t ≤ 7) × (length row ≡ 38) × ((k : ℕ) �
 abbrev μ-loop : tie.MeasureT-loop
 μ-loop b row₀ t₀ row t = 7 - t
 
--- src/month.rt:61:5
 loop-holds : tie.Need-loop-holds Inv-loop μ-loop
 loop-holds c = (omega arith, refl, λ k h. absurd (omega arith))
 
--- src/month.rt:62:18
 mul-row : tie.Need-mul-row Inv-loop μ-loop
 mul-row c = search needs
 
--- src/month.rt:62:18
 shared-slice-read-row : tie.Need-shared-slice-read-row Inv-loop μ-loop
 shared-slice-read-row c = search needs
 
--- src/month.rt:62:9
 mul-row-2 : tie.Need-mul-row-2 Inv-loop μ-loop
 mul-row-2 c = search needs
 
--- src/month.rt:62:9
 array-write-row : tie.Need-array-write-row Inv-loop μ-loop
 array-write-row c = omega (arith, c .before .before .loop .inv .1)
 
--- src/month.rt:63:13
 add-t : tie.Need-add-t Inv-loop μ-loop
 add-t c = search needs
 
--- src/month.rt:61:5
 loop-less : tie.Need-loop-less Inv-loop μ-loop
 loop-less c = search needs
 
--- src/month.rt:61:5
 loop-again : tie.Need-loop-again Inv-loop μ-loop
 loop-again c = let l = c .before .before .loop in
     (omega arith, length-set (l .row) (l .t) _ ∙ l .inv .1, place-turn (duty (c .before .before .before .args .b .now)) (l .row) (l .t) _ (omega (arith, l .inv .1)) (l .inv .2) refl)
 
--- src/month.rt:55:1
 returns : tie.Need-returns Inv-loop μ-loop
 returns c = λ k h. c .before .loop .inv .2 k (omega arith)
 

@@ -1,24 +1,14 @@
 -- `days::month::sheet_of` meets its contract. The loop's invariant: the month is made for the days passed.
-use mathlib.Core.Path.{_≡_, refl, sym, ap, subst, _∙_}
-use Prim.Native.Nat.{ℕ, suc, _+_, _-_, _≤_, _<_}
+use mathlib.Core.Path.{_≡_, refl, ap, _∙_}
+use Prim.Native.Nat.{suc, _-_}
 use native.Mathlib.Omega.{arith}
-use lib.ListN.{length, getD}
+use lib.ListN.{length}
 use Rattle.numbers.specs.Digits.{numberOf}
 use Rattle.rows.specs.Rows.{availableOn, fixedDay}
 use Rattle.days.proofs.MonthLaws.{MonthAt, month-start, month-turn, free-fits, fixed-fits}
 use borrow.Author.Needs.{needs}
 use Rattle.days.proofs.month.sheet_of.Statement.{statement}
 use Rattle.days.proofs.month.sheet_of.Tie as tie
-use Rattle.days.proofs.month.sheet_of.Reads as reads
-use Rattle.days.proofs.month.sheet_of.Lts as lts
-use Rattle.days.proofs.month.bounds.Reads as bounds-reads
-use Rattle.days.proofs.month.seven_days.Reads as seven-days-reads
-use Rattle.days.proofs.month.with_next.Reads as with-next-reads
-use Rattle.numbers.proofs.has_bit.Reads as has-bit-reads
-use Rattle.rows.proofs.day_zero.Reads as day-zero-reads
-use Rattle.rows.proofs.duty_of.Reads as duty-of-reads
-use Rattle.rows.proofs.is_available.Reads as is-available-reads
-use Rattle.rows.proofs.state_after.Reads as state-after-reads
 
 abbrev Inv-loop : tie.InvT-loop
 Inv-loop b n longest p row₀ free₀ fixed₀ state₀ d₀ row free fixed state d = MonthAt b p n d state row free fixed
@@ -26,108 +16,83 @@ Inv-loop b n longest p row₀ free₀ fixed₀ state₀ d₀ row free fixed stat
 abbrev μ-loop : tie.MeasureT-loop
 μ-loop b n longest p row₀ free₀ fixed₀ state₀ d₀ row free fixed state d = n - d
 
--- src/month.rt:81:19
 seven-days-requires : tie.Need-seven-days-requires Inv-loop μ-loop
 seven-days-requires c κs = search needs
 
--- src/month.rt:84:36
 shared-slice-read-day-zero : tie.Need-shared-slice-read-day-zero Inv-loop μ-loop
 shared-slice-read-day-zero c = search needs
 
--- src/month.rt:84:9
 day-zero-requires : tie.Need-day-zero-requires Inv-loop μ-loop
 day-zero-requires c κs = search needs
 
--- src/month.rt:86:5
 loop-holds : tie.Need-loop-holds Inv-loop μ-loop
 loop-holds c = let s = c .before .before .before .before .args in
     let long : length (c .before .before .seven-days .result) ≡ 38 = search needs in
     month-start (s .b .now) (s .p) (s .n) (c .before .before .seven-days .result) (c .day-zero .ensures .0) long (c .before .before .seven-days .ensures)
 
--- src/month.rt:87:22
 add-mark : tie.Need-add-mark Inv-loop μ-loop
 add-mark c = search needs
 
--- src/month.rt:87:20
 mul-mark : tie.Need-mul-mark Inv-loop μ-loop
 mul-mark c = search needs
 
--- src/month.rt:87:20
 shared-slice-read-mark : tie.Need-shared-slice-read-mark Inv-loop μ-loop
 shared-slice-read-mark c = search needs
 
--- src/month.rt:88:42
 has-bit-requires : tie.Need-has-bit-requires Inv-loop μ-loop
 has-bit-requires c κs = search needs
 
--- src/month.rt:88:9
 state-after-requires : tie.Need-state-after-requires Inv-loop μ-loop
 state-after-requires c κs = search needs
 
--- src/month.rt:89:22
 duty-of-requires : tie.Need-duty-of-requires Inv-loop μ-loop
 duty-of-requires c κs = search needs
 
--- src/month.rt:89:13
 add-row : tie.Need-add-row Inv-loop μ-loop
 add-row c = search needs
 
--- src/month.rt:89:9
 mul-row : tie.Need-mul-row Inv-loop μ-loop
 mul-row c = search needs
 
--- src/month.rt:89:9
 array-write-row : tie.Need-array-write-row Inv-loop μ-loop
 array-write-row c = omega (arith, c .before .before .before .before .before .loop .inv .row-long, c .before .before .before .before .loop-test .taken, c .before .before .before .before .before .before .before .before .before .before .pre .1)
 
--- src/month.rt:90:42
 is-available-requires : tie.Need-is-available-requires Inv-loop μ-loop
 is-available-requires c κs = search needs
 
--- src/month.rt:90:9
 with-next-requires : tie.Need-with-next-requires Inv-loop μ-loop
 with-next-requires c κs = let s = c .before .before .before .before .before .before .before .before .before .before .before .args in
     (omega (arith, c .before .before .before .before .before .loop-test .taken, c .before .before .before .before .before .before .before .before .before .before .before .pre .1), free-fits (s .b .now) (s .p) (s .n) (c .before .before .before .before .before .before .loop .d) (c .before .before .before .before .before .before .loop .inv))
 
--- src/month.rt:91:9
 with-next-requires-2 : tie.Need-with-next-requires-2 Inv-loop μ-loop
 with-next-requires-2 c κs = let s = c .before .before .before .before .before .before .before .before .before .before .before .before .args in
     (omega (arith, c .before .before .before .before .before .before .loop-test .taken, c .before .before .before .before .before .before .before .before .before .before .before .before .pre .1), fixed-fits (s .b .now) (s .p) (s .n) (c .before .before .before .before .before .before .before .loop .d) (c .before .before .before .before .before .before .before .loop .inv))
 
--- src/month.rt:92:13
 add-d : tie.Need-add-d Inv-loop μ-loop
 add-d c = search needs
 
--- src/month.rt:86:5
 loop-less : tie.Need-loop-less Inv-loop μ-loop
 loop-less c = search needs
 
--- src/month.rt:86:5
 loop-again : tie.Need-loop-again Inv-loop μ-loop
 loop-again c = let s = c .before .before .before .before .before .before .before .before .before .before .before .before .before .args in
     month-turn (s .b .now) (s .p) (s .n) (c .before .before .before .before .before .before .before .before .loop .d) (c .before .before .before .before .before .before .before .before .loop .inv) (c .before .before .before .before .before .before .before .before .before .before .before .before .before .pre .1) (c .before .before .before .before .before .before .before .loop-test .taken) (c .before .before .before .before .before .has-bit .ensures) (c .before .before .before .before .state-after .ensures .0) (c .before .before .before .duty-of .ensures .0) (c .before .before .is-available .ensures) (c .before .with-next .ensures) refl (c .with-next2 .ensures)
 
--- src/month.rt:94:25
 shared-slice-read-bounds : tie.Need-shared-slice-read-bounds Inv-loop μ-loop
 shared-slice-read-bounds c = search needs
 
--- src/month.rt:94:31
 shared-slice-read-bounds-2 : tie.Need-shared-slice-read-bounds-2 Inv-loop μ-loop
 shared-slice-read-bounds-2 c = search needs
 
--- src/month.rt:94:9
 bounds-requires : tie.Need-bounds-requires Inv-loop μ-loop
 bounds-requires c κs = search needs
 
--- src/month.rt:98:16
 shared-slice-read-t15 : tie.Need-shared-slice-read-t15 Inv-loop μ-loop
 shared-slice-read-t15 c = search needs
 
--- src/month.rt:99:15
 shared-slice-read-t25 : tie.Need-shared-slice-read-t25 Inv-loop μ-loop
 shared-slice-read-t25 c = search needs
 
--- src/month.rt:76:1
 returns : tie.Need-returns Inv-loop μ-loop
 returns c = let s = c .before .before .before .before .before .before .before .before .before .before .before .args in
     let l = c .before .before .before .before .before .before .loop in

@@ -3,42 +3,29 @@ use Rattle.days.proofs.WalkLaws.{branch-yes, branch-no}
 use borrow.Author.Needs.{needs}
 use Rattle.days.proofs.reach.branch.Statement.{statement}
 use Rattle.days.proofs.reach.branch.Tie as tie
-use Rattle.days.proofs.reach.branch.Reads as reads
-use Rattle.days.proofs.reach.branch.Lts as lts
-use Rattle.days.proofs.reach.place.Reads as place-reads
-use Rattle.days.proofs.reach.step_holds.Reads as step-holds-reads
-use Rattle.days.proofs.rule.rest_on.Reads as rest-on-reads
 
--- src/reach.rt:39:8
 step-holds-requires : tie.Need-step-holds-requires
 step-holds-requires c κs = search needs
 
--- src/reach.rt:40:13
 place-requires : tie.Need-place-requires
 place-requires c κs = search needs
 
--- src/reach.rt:41:16
 mul-result : tie.Need-mul-result
 mul-result c = search needs
 
--- src/reach.rt:41:16
 element-copy-out-result : tie.Need-element-copy-out-result
 element-copy-out-result c = search needs
 
--- src/reach.rt:41:29
 rest-on-requires : tie.Need-rest-on-requires
 rest-on-requires c κs = search needs
 
--- src/reach.rt:41:16
 shr-result : tie.Need-shr-result
 shr-result c = search needs
 
--- src/reach.rt:41:9
 returns : tie.Need-returns
 returns c = let s = c .before .before .before .before .before .args in
     branch-yes (s .m) (s .row .now) (s .table .now) (s .d) (s .q) (c .before .before .before .before .before .pre .1 .1) (c .before .before .before .before .step-holds .ensures) (c .before .before .before .if1 .taken) (c .before .before .place .ensures) (c .rest-on .ensures .0)
 
--- src/reach.rt:33:1
 returns-2 : tie.Need-returns-2
 returns-2 c = let s = c .before .before .args in
     branch-no (s .m) (s .row .now) (s .table .now) (s .d) (s .q) (c .before .step-holds .ensures) (c .if1 .left)

@@ -3,38 +3,27 @@ use Rattle.days.proofs.WalkLaws.{step-late, step-window, step-no}
 use borrow.Author.Needs.{needs}
 use Rattle.days.proofs.reach.step_holds.Statement.{statement}
 use Rattle.days.proofs.reach.step_holds.Tie as tie
-use Rattle.days.proofs.reach.step_holds.Reads as reads
-use Rattle.days.proofs.reach.step_holds.Lts as lts
-use Rattle.days.proofs.rule.may_choose.Reads as may-choose-reads
-use Rattle.days.proofs.rule.windows_hold.Reads as windows-hold-reads
 
--- src/reach.rt:15:8
 may-choose-requires : tie.Need-may-choose-requires
 may-choose-requires c κs = search needs
 
--- src/reach.rt:16:21
 add-if2 : tie.Need-add-if2
 add-if2 c = search needs
 
--- src/reach.rt:17:13
 returns : tie.Need-returns
 returns c = let s = c .before .before .before .before .args in
     step-late (s .m) (s .row .now) (s .d) (s .q) (c .before .before .before .may-choose .ensures) (c .before .before .if1 .taken) (c .if2 .taken)
 
--- src/reach.rt:19:54
 add-windows-hold : tie.Need-add-windows-hold
 add-windows-hold c = search needs
 
--- src/reach.rt:19:9
 windows-hold-requires : tie.Need-windows-hold-requires
 windows-hold-requires c κs = search needs
 
--- src/reach.rt:19:9
 returns-2 : tie.Need-returns-2
 returns-2 c = let s = c .before .before .before .before .before .args in
     step-window (s .m) (s .row .now) (s .d) (s .q) (c .before .before .before .before .may-choose .ensures) (c .before .before .before .if1 .taken) (c .before .if2 .left) (c .windows-hold .ensures)
 
--- src/reach.rt:10:1
 returns-3 : tie.Need-returns-3
 returns-3 c = let s = c .before .before .args in
     step-no (s .m) (s .row .now) (s .d) (s .q) (c .before .may-choose .ensures) (c .if1 .left)

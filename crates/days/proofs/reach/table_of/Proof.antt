@@ -1,6 +1,6 @@
 -- `days::reach::table_of` meets its contract. The loop's invariant: the places passed are filled.
-use mathlib.Core.Path.{_≡_, refl, sym, _∙_}
-use Prim.Native.Nat.{ℕ, _+_, _-_, _*_, _≤_, _<_}
+use mathlib.Core.Path.{_≡_, refl, _∙_}
+use Prim.Native.Nat.{_+_, _-_, _*_, _≤_}
 use native.Mathlib.Omega.{arith}
 use lib.ListN.{length, length-set}
 use Rattle.days.specs.Walk.{Filled}
@@ -8,9 +8,6 @@ use Rattle.days.proofs.WalkLaws.{filled-turn, filled-less}
 use borrow.Author.Needs.{needs}
 use Rattle.days.proofs.reach.table_of.Statement.{statement}
 use Rattle.days.proofs.reach.table_of.Tie as tie
-use Rattle.days.proofs.reach.table_of.Reads as reads
-use Rattle.days.proofs.reach.table_of.Lts as lts
-use Rattle.days.proofs.reach.entry.Reads as entry-reads
 
 abbrev Inv-loop : tie.InvT-loop
 Inv-loop m row table₀ i₀ table i = (i ≤ 64 * m .days + 64) × (length table ≡ 2048) × Filled m row table i
@@ -18,45 +15,35 @@ Inv-loop m row table₀ i₀ table i = (i ≤ 64 * m .days + 64) × (length tabl
 abbrev μ-loop : tie.MeasureT-loop
 μ-loop m row table₀ i₀ table i = 64 * m .days + 64 - i
 
--- src/reach.rt:83:5
 loop-holds : tie.Need-loop-holds Inv-loop μ-loop
 loop-holds c = (omega arith, refl, record { entry = λ j h. absurd (omega arith) })
 
--- src/reach.rt:83:15
 mul-if1 : tie.Need-mul-if1 Inv-loop μ-loop
 mul-if1 c = search needs
 
--- src/reach.rt:83:15
 add-if1 : tie.Need-add-if1 Inv-loop μ-loop
 add-if1 c = search needs
 
--- src/reach.rt:84:13
 entry-requires : tie.Need-entry-requires Inv-loop μ-loop
 entry-requires c κs = (c .before .before .before .before .pre, (c .before .if1 .taken, c .before .before .before .loop .inv .2))
 
--- src/reach.rt:85:9
 mul-table : tie.Need-mul-table Inv-loop μ-loop
 mul-table c = search needs
 
--- src/reach.rt:85:9
 array-write-table : tie.Need-array-write-table Inv-loop μ-loop
 array-write-table c = omega (arith, c .before .before .before .before .loop .inv .1, c .before .before .if1 .taken, c .before .before .before .before .before .pre .few-days)
 
--- src/reach.rt:86:13
 add-i : tie.Need-add-i Inv-loop μ-loop
 add-i c = search needs
 
--- src/reach.rt:83:5
 loop-less : tie.Need-loop-less Inv-loop μ-loop
 loop-less c = search needs
 
--- src/reach.rt:83:5
 loop-again : tie.Need-loop-again Inv-loop μ-loop
 loop-again c = let l = c .before .before .before .before .loop in
     let s = c .before .before .before .before .before .args in
     (omega (arith, c .before .before .if1 .taken), length-set (l .table) (l .i) _ ∙ l .inv .1, filled-turn (s .m) (s .row .now) (l .table) (l .i) _ (l .inv .2) (omega (arith, l .inv .1, c .before .before .if1 .taken, c .before .before .before .before .before .pre .few-days)) (c .entry .ensures))
 
--- src/reach.rt:77:1
 returns : tie.Need-returns Inv-loop μ-loop
 returns c = let l = c .before .before .loop in
     let s = c .before .before .before .args in

@@ -1,6 +1,6 @@
 -- `days::rule::all_windows_hold` meets its contract. The loop's invariant: the answer is that of the days left.
 use mathlib.Core.Path.{_≡_, sym, _∙_}
-use Prim.Native.Nat.{ℕ, _+_, _-_, _≤_}
+use Prim.Native.Nat.{_-_, _≤_}
 use native.Mathlib.Omega.{arith}
 use Rattle.numbers.specs.Range.{upFrom, all}
 use Rattle.days.specs.Days.{windowsHold}
@@ -9,9 +9,6 @@ use Rattle.days.proofs.RuleLaws.{placesFrom, all-start, all-yes, all-no
 use borrow.Author.Needs.{needs}
 use Rattle.days.proofs.rule.all_windows_hold.Statement.{statement}
 use Rattle.days.proofs.rule.all_windows_hold.Tie as tie
-use Rattle.days.proofs.rule.all_windows_hold.Reads as reads
-use Rattle.days.proofs.rule.all_windows_hold.Lts as lts
-use Rattle.days.proofs.rule.windows_hold.Reads as windows-hold-reads
 
 abbrev Inv-loop : tie.InvT-loop
 Inv-loop row q longest count d₀ d = (d ≤ count) × (all (windowsHold (dutyAt row q) longest) (upFrom 7 count) ≡ all (windowsHold (dutyAt row q) longest) (placesFrom count d))
@@ -19,37 +16,29 @@ Inv-loop row q longest count d₀ d = (d ≤ count) × (all (windowsHold (dutyAt
 abbrev μ-loop : tie.MeasureT-loop
 μ-loop row q longest count d₀ d = count - d
 
--- src/rule.rt:123:5
 loop-holds : tie.Need-loop-holds Inv-loop μ-loop
 loop-holds c = let s = c .args in (omega arith, all-start (windowsHold (dutyAt (s .row .now) (s .q)) (s .longest)) (s .count))
 
--- src/rule.rt:124:42
 add-windows-hold : tie.Need-add-windows-hold Inv-loop μ-loop
 add-windows-hold c = search needs
 
--- src/rule.rt:124:12
 windows-hold-requires : tie.Need-windows-hold-requires Inv-loop μ-loop
 windows-hold-requires c κs = search needs
 
--- src/rule.rt:125:17
 add-d : tie.Need-add-d Inv-loop μ-loop
 add-d c = search needs
 
--- src/rule.rt:123:5
 loop-less : tie.Need-loop-less Inv-loop μ-loop
 loop-less c = search needs
 
--- src/rule.rt:123:5
 loop-again : tie.Need-loop-again Inv-loop μ-loop
 loop-again c = let s = c .before .before .before .before .args in
     (omega arith, c .before .before .before .loop .inv .1 ∙ all-yes (windowsHold (dutyAt (s .row .now) (s .q)) (s .longest)) (s .count) (c .before .before .before .loop .d) (c .before .before .loop-test .taken) (c .before .windows-hold .ensures) (c .if1 .taken))
 
--- src/rule.rt:127:13
 returns : tie.Need-returns Inv-loop μ-loop
 returns c = let s = c .before .before .before .before .args in
     sym (c .before .before .before .loop .inv .1 ∙ all-no (windowsHold (dutyAt (s .row .now) (s .q)) (s .longest)) (s .count) (c .before .before .before .loop .d) (c .before .before .loop-test .taken) (c .before .windows-hold .ensures) (c .if1 .left))
 
--- src/rule.rt:117:1
 returns-2 : tie.Need-returns-2 Inv-loop μ-loop
 returns-2 c = let s = c .before .before .args in
     sym (c .before .loop .inv .1 ∙ all-done (windowsHold (dutyAt (s .row .now) (s .q)) (s .longest)) (s .count) (c .before .loop .d) (c .loop-test .left))

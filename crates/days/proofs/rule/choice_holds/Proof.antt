@@ -1,16 +1,12 @@
 -- `days::rule::choice_holds` meets its contract. The loop's invariant: the answer is that of the days left.
 use mathlib.Core.Path.{_≡_, sym, _∙_}
-use Prim.Native.Nat.{ℕ, _+_, _-_, _≤_}
+use Prim.Native.Nat.{_-_, _≤_}
 use native.Mathlib.Omega.{arith}
 use Rattle.days.specs.Walk.{choiceOf}
 use Rattle.days.proofs.RuleLaws.{choiceFrom, choice-over, choice-start, choice-yes, choice-no, choice-done}
 use borrow.Author.Needs.{needs}
 use Rattle.days.proofs.rule.choice_holds.Statement.{statement}
 use Rattle.days.proofs.rule.choice_holds.Tie as tie
-use Rattle.days.proofs.rule.choice_holds.Reads as reads
-use Rattle.days.proofs.rule.choice_holds.Lts as lts
-use Rattle.days.proofs.rule.may_choose.Reads as may-choose-reads
-use Rattle.numbers.proofs.bit.Reads as bit-reads
 
 abbrev Inv-loop : tie.InvT-loop
 Inv-loop m q n most d₀ d = (d ≤ m .days) × (choiceOf m q ≡ choiceFrom m q d)
@@ -18,45 +14,35 @@ Inv-loop m q n most d₀ d = (d ≤ m .days) × (choiceOf m q ≡ choiceFrom m q
 abbrev μ-loop : tie.MeasureT-loop
 μ-loop m q n most d₀ d = m .days - d
 
--- src/rule.rt:176:16
 bit-requires : tie.Need-bit-requires Inv-loop μ-loop
 bit-requires c κs = search needs
 
--- src/rule.rt:176:16
 cast-most : tie.Need-cast-most Inv-loop μ-loop
 cast-most c = search needs
 
--- src/rule.rt:178:9
 returns : tie.Need-returns Inv-loop μ-loop
 returns c = sym (choice-over (c .before .before .args .m) (c .before .before .args .q) (c .before .bit .ensures) (c .if1 .taken))
 
--- src/rule.rt:181:5
 loop-holds : tie.Need-loop-holds Inv-loop μ-loop
 loop-holds c = (omega arith, choice-start (c .before .before .args .m) (c .before .before .args .q) (c .before .bit .ensures) (c .if1 .left))
 
--- src/rule.rt:182:12
 may-choose-requires : tie.Need-may-choose-requires Inv-loop μ-loop
 may-choose-requires c κs = search needs
 
--- src/rule.rt:183:17
 add-d : tie.Need-add-d Inv-loop μ-loop
 add-d c = search needs
 
--- src/rule.rt:181:5
 loop-less : tie.Need-loop-less Inv-loop μ-loop
 loop-less c = search needs
 
--- src/rule.rt:181:5
 loop-again : tie.Need-loop-again Inv-loop μ-loop
 loop-again c = let s = c .before .before .before .before .before .before .args in
     (omega arith, c .before .before .before .loop .inv .1 ∙ choice-yes (s .m) (s .q) (c .before .before .before .loop .d) (c .before .before .loop-test .taken) (c .before .may-choose .ensures) (c .if2 .taken))
 
--- src/rule.rt:185:13
 returns-2 : tie.Need-returns-2 Inv-loop μ-loop
 returns-2 c = let s = c .before .before .before .before .before .before .args in
     sym (c .before .before .before .loop .inv .1 ∙ choice-no (s .m) (s .q) (c .before .before .before .loop .d) (c .before .before .loop-test .taken) (c .before .may-choose .ensures) (c .if2 .left))
 
--- src/rule.rt:171:1
 returns-3 : tie.Need-returns-3 Inv-loop μ-loop
 returns-3 c = let s = c .before .before .before .before .args in
     sym (c .before .loop .inv .1 ∙ choice-done (s .m) (s .q) (c .before .loop .d) (c .loop-test .left))

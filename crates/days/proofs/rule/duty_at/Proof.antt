@@ -1,43 +1,32 @@
-
 -- `days::rule::duty_at` meets its contract.
+
 use mathlib.Core.Path.{sym, _∙_}
 use Rattle.days.proofs.RuleLaws.{duty-before, duty-worked, duty-idle}
 use borrow.Author.Needs.{needs}
 use Rattle.days.proofs.rule.duty_at.Statement.{statement}
 use Rattle.days.proofs.rule.duty_at.Tie as tie
-use Rattle.days.proofs.rule.duty_at.Reads as reads
-use Rattle.days.proofs.rule.duty_at.Lts as lts
-use Rattle.days.proofs.rule.has.Reads as has-reads
 
--- src/rule.rt:42:16
 mul-result : tie.Need-mul-result
 mul-result c = search needs
 
--- src/rule.rt:42:16
 element-copy-out-result : tie.Need-element-copy-out-result
 element-copy-out-result c = search needs
 
--- src/rule.rt:42:9
 returns : tie.Need-returns
 returns c = duty-before (c .before .before .args .row .now) (c .before .before .args .q) (c .before .before .args .t) (c .before .if1 .taken)
 
--- src/rule.rt:44:8
 has-requires : tie.Need-has-requires
 has-requires c κs = search needs
 
--- src/rule.rt:45:9
 returns-2 : tie.Need-returns-2
 returns-2 c = duty-worked (c .before .before .before .args .row .now) (c .before .before .before .args .q) (c .before .before .before .args .t) (c .before .before .if1 .left) (sym (c .before .has .ensures) ∙ c .if2 .taken)
 
--- src/rule.rt:47:5
 mul-result-2 : tie.Need-mul-result-2
 mul-result-2 c = search needs
 
--- src/rule.rt:47:5
 element-copy-out-result-2 : tie.Need-element-copy-out-result-2
 element-copy-out-result-2 c = search needs
 
--- src/rule.rt:37:1
 returns-3 : tie.Need-returns-3
 returns-3 c = duty-idle (c .before .before .before .before .args .row .now) (c .before .before .before .before .args .q) (c .before .before .before .before .args .t) (c .before .before .before .if1 .left) (sym (c .before .before .has .ensures) ∙ c .before .if2 .left)
 

@@ -1,7 +1,7 @@
 -- `days::rule::is_forbidden` meets its contract. The loop's invariant: the answer is that of the sequence from its j-th duty on.
 use mathlib.Core.Path.{_≡_, sym, _∙_}
 use mathlib.Core.List.{[], _∷_}
-use Prim.Native.Nat.{ℕ, suc, _+_, _-_, _≤_}
+use Prim.Native.Nat.{_-_, _≤_}
 use native.Mathlib.Omega.{arith}
 use Rattle.days.specs.Days.{same, window}
 use Rattle.days.specs.Walk.{dutyAt}
@@ -9,9 +9,6 @@ use Rattle.days.proofs.RuleLaws.{sameFrom, same-start, same-yes, same-n
 use borrow.Author.Needs.{needs}
 use Rattle.days.proofs.rule.is_forbidden.Statement.{statement}
 use Rattle.days.proofs.rule.is_forbidden.Tie as tie
-use Rattle.days.proofs.rule.is_forbidden.Reads as reads
-use Rattle.days.proofs.rule.is_forbidden.Lts as lts
-use Rattle.days.proofs.rule.duty_at.Reads as duty-at-reads
 
 abbrev Inv-loop : tie.InvT-loop
 Inv-loop row q t j₀ j = (j ≤ 5) × (same (0 ∷ 1 ∷ 0 ∷ 1 ∷ 0 ∷ []) (window (dutyAt row q) 5 t) ≡ sameFrom (dutyAt row q) (0 ∷ 1 ∷ 0 ∷ 1 ∷ 0 ∷ []) (t - 4) j)
@@ -19,49 +16,38 @@ Inv-loop row q t j₀ j = (j ≤ 5) × (same (0 ∷ 1 ∷ 0 ∷ 1 ∷ 0 ∷ []) 
 abbrev μ-loop : tie.MeasureT-loop
 μ-loop row q t j₀ j = 5 - j
 
--- src/rule.rt:90:5
 loop-holds : tie.Need-loop-holds Inv-loop μ-loop
 loop-holds c = (omega arith, same-start (dutyAt (c .args .row .now) (c .args .q)) (c .args .t) (c .pre .1))
 
--- src/rule.rt:91:12
 mul-if1 : tie.Need-mul-if1 Inv-loop μ-loop
 mul-if1 c = search needs
 
--- src/rule.rt:91:12
 array-read-if1 : tie.Need-array-read-if1 Inv-loop μ-loop
 array-read-if1 c = search needs
 
--- src/rule.rt:91:44
 sub-duty-at : tie.Need-sub-duty-at Inv-loop μ-loop
 sub-duty-at c = search needs
 
--- src/rule.rt:91:44
 add-duty-at : tie.Need-add-duty-at Inv-loop μ-loop
 add-duty-at c = search needs
 
--- src/rule.rt:91:28
 duty-at-requires : tie.Need-duty-at-requires Inv-loop μ-loop
 duty-at-requires c κs = search needs
 
--- src/rule.rt:92:17
 add-j : tie.Need-add-j Inv-loop μ-loop
 add-j c = search needs
 
--- src/rule.rt:90:5
 loop-less : tie.Need-loop-less Inv-loop μ-loop
 loop-less c = search needs
 
--- src/rule.rt:90:5
 loop-again : tie.Need-loop-again Inv-loop μ-loop
 loop-again c = let s = c .before .before .before .before .args in
     (omega arith, c .before .before .before .loop .inv .1 ∙ same-yes (dutyAt (s .row .now) (s .q)) (0 ∷ 1 ∷ 0 ∷ 1 ∷ 0 ∷ []) (s .t - 4) (c .before .before .before .loop .j) (c .before .before .loop-test .taken) (c .before .duty-at .ensures) (c .if1 .taken))
 
--- src/rule.rt:94:13
 returns : tie.Need-returns Inv-loop μ-loop
 returns c = let s = c .before .before .before .before .args in
     sym (c .before .before .before .loop .inv .1 ∙ same-no (dutyAt (s .row .now) (s .q)) (0 ∷ 1 ∷ 0 ∷ 1 ∷ 0 ∷ []) (s .t - 4) (c .before .before .before .loop .j) (c .before .before .loop-test .taken) (c .before .duty-at .ensures) (c .if1 .left))
 
--- src/rule.rt:84:1
 returns-2 : tie.Need-returns-2 Inv-loop μ-loop
 returns-2 c = let s = c .before .before .args in
     sym (c .before .loop .inv .1 ∙ same-done (dutyAt (s .row .now) (s .q)) (0 ∷ 1 ∷ 0 ∷ 1 ∷ 0 ∷ []) (s .t - 4) (c .before .loop .j) (c .loop-test .left))

@@ -1,6 +1,6 @@
 -- `days::rule::long_run` meets its contract. The loop's invariant: the answer is that of the places from u on.
 use mathlib.Core.Path.{_≡_, sym, _∙_}
-use Prim.Native.Nat.{ℕ, suc, _+_, _-_, _≤_}
+use Prim.Native.Nat.{suc, _-_, _≤_}
 use native.Mathlib.Omega.{arith}
 use Rattle.numbers.specs.Range.{all}
 use Rattle.days.specs.Days.{inRun, window}
@@ -9,10 +9,6 @@ use Rattle.days.proofs.RuleLaws.{runFrom, run-start, run-yes, run-no, r
 use borrow.Author.Needs.{needs}
 use Rattle.days.proofs.rule.long_run.Statement.{statement}
 use Rattle.days.proofs.rule.long_run.Tie as tie
-use Rattle.days.proofs.rule.long_run.Reads as reads
-use Rattle.days.proofs.rule.long_run.Lts as lts
-use Rattle.days.proofs.rule.duty_at.Reads as duty-at-reads
-use Rattle.days.proofs.rule.in_run.Reads as in-run-reads
 
 abbrev Inv-loop : tie.InvT-loop
 Inv-loop row q longest t u₀ u = (u ≤ suc t) × (all inRun (window (dutyAt row q) (suc longest) t) ≡ runFrom (dutyAt row q) t u)
@@ -20,41 +16,32 @@ Inv-loop row q longest t u₀ u = (u ≤ suc t) × (all inRun (window (dutyAt ro
 abbrev μ-loop : tie.MeasureT-loop
 μ-loop row q longest t u₀ u = suc t - u
 
--- src/rule.rt:56:17
 sub-u : tie.Need-sub-u Inv-loop μ-loop
 sub-u c = search needs
 
--- src/rule.rt:57:5
 loop-holds : tie.Need-loop-holds Inv-loop μ-loop
 loop-holds c = (omega arith, run-start (dutyAt (c .args .row .now) (c .args .q)) (c .args .t) (c .args .longest) (c .pre .1))
 
--- src/rule.rt:58:19
 duty-at-requires : tie.Need-duty-at-requires Inv-loop μ-loop
 duty-at-requires c κs = search needs
 
--- src/rule.rt:58:12
 in-run-requires : tie.Need-in-run-requires Inv-loop μ-loop
 in-run-requires c κs = search needs
 
--- src/rule.rt:59:17
 add-u : tie.Need-add-u Inv-loop μ-loop
 add-u c = search needs
 
--- src/rule.rt:57:5
 loop-less : tie.Need-loop-less Inv-loop μ-loop
 loop-less c = search needs
 
--- src/rule.rt:57:5
 loop-again : tie.Need-loop-again Inv-loop μ-loop
 loop-again c = let s = c .before .before .before .before .before .args in
     (omega arith, c .before .before .before .before .loop .inv .1 ∙ run-yes (dutyAt (s .row .now) (s .q)) (s .t) (c .before .before .before .before .loop .u) (c .before .before .before .loop-test .taken) (c .before .before .duty-at .ensures) (c .before .in-run .ensures) (c .if1 .taken))
 
--- src/rule.rt:61:13
 returns : tie.Need-returns Inv-loop μ-loop
 returns c = let s = c .before .before .before .before .before .args in
     sym (c .before .before .before .before .loop .inv .1 ∙ run-no (dutyAt (s .row .now) (s .q)) (s .t) (c .before .before .before .before .loop .u) (c .before .before .before .loop-test .taken) (c .before .before .duty-at .ensures) (c .before .in-run .ensures) (c .if1 .left))
 
--- src/rule.rt:51:1
 returns-2 : tie.Need-returns-2 Inv-loop μ-loop
 returns-2 c = let s = c .before .before .args in
     sym (c .before .loop .inv .1 ∙ run-done (dutyAt (s .row .now) (s .q)) (s .t) (c .before .loop .u) (c .loop-test .left))

@@ -1,31 +1,22 @@
-use mathlib.Core.Path.{sym, ap, _∙_}
 -- `days::rule::may_choose` meets its contract.
-use mathlib.Core.Path.{sym, _∙_}
+use mathlib.Core.Path.{sym, ap, _∙_}
 use mathlib.Core.Bool.{not}
 use borrow.Author.Needs.{needs}
 use Rattle.days.proofs.rule.may_choose.Statement.{statement}
 use Rattle.days.proofs.rule.may_choose.Tie as tie
-use Rattle.days.proofs.rule.may_choose.Reads as reads
-use Rattle.days.proofs.rule.may_choose.Lts as lts
-use Rattle.days.proofs.rule.has.Reads as has-reads
 
--- src/rule.rt:164:8
 has-requires : tie.Need-has-requires
 has-requires c κs = search needs
 
--- src/rule.rt:165:9
 has-requires-2 : tie.Need-has-requires-2
 has-requires-2 c κs = search needs
 
--- src/rule.rt:165:9
 returns : tie.Need-returns
 returns c = rw (sym (c .before .before .has .ensures) ∙ c .before .if1 .taken) (c .has2 .ensures)
 
--- src/rule.rt:167:6
 has-requires-3 : tie.Need-has-requires-3
 has-requires-3 c κs = search needs
 
--- src/rule.rt:160:1
 returns-2 : tie.Need-returns-2
 returns-2 c = rw (sym (c .before .before .has .ensures) ∙ c .before .if1 .left) (ap not (c .has3 .ensures))
 

@@ -1,6 +1,6 @@
 -- `days::rule::rested` meets its contract. The loop's invariant: the answer is that of the places from u on.
 use mathlib.Core.Path.{_≡_, sym, _∙_}
-use Prim.Native.Nat.{ℕ, suc, _+_, _-_, _≤_}
+use Prim.Native.Nat.{suc, _-_, _≤_}
 use native.Mathlib.Omega.{arith}
 use Rattle.days.specs.Days.{isRest, anyOf, window}
 use Rattle.days.specs.Walk.{dutyAt}
@@ -8,10 +8,6 @@ use Rattle.days.proofs.RuleLaws.{restFrom, rest-start, rest-yes, rest-n
 use borrow.Author.Needs.{needs}
 use Rattle.days.proofs.rule.rested.Statement.{statement}
 use Rattle.days.proofs.rule.rested.Tie as tie
-use Rattle.days.proofs.rule.rested.Reads as reads
-use Rattle.days.proofs.rule.rested.Lts as lts
-use Rattle.days.proofs.rule.duty_at.Reads as duty-at-reads
-use Rattle.days.proofs.rule.is_rest.Reads as is-rest-reads
 
 abbrev Inv-loop : tie.InvT-loop
 Inv-loop row q t u₀ u = (u ≤ suc t) × (anyOf isRest (window (dutyAt row q) 7 t) ≡ restFrom (dutyAt row q) t u)
@@ -19,41 +15,32 @@ Inv-loop row q t u₀ u = (u ≤ suc t) × (anyOf isRest (window (dutyAt row q) 
 abbrev μ-loop : tie.MeasureT-loop
 μ-loop row q t u₀ u = suc t - u
 
--- src/rule.rt:73:17
 sub-u : tie.Need-sub-u Inv-loop μ-loop
 sub-u c = search needs
 
--- src/rule.rt:74:5
 loop-holds : tie.Need-loop-holds Inv-loop μ-loop
 loop-holds c = (omega arith, rest-start (dutyAt (c .args .row .now) (c .args .q)) (c .args .t) (c .pre .1))
 
--- src/rule.rt:75:20
 duty-at-requires : tie.Need-duty-at-requires Inv-loop μ-loop
 duty-at-requires c κs = search needs
 
--- src/rule.rt:75:12
 is-rest-requires : tie.Need-is-rest-requires Inv-loop μ-loop
 is-rest-requires c κs = search needs
 
--- src/rule.rt:76:13
 returns : tie.Need-returns Inv-loop μ-loop
 returns c = let s = c .before .before .before .before .before .args in
     sym (c .before .before .before .before .loop .inv .1 ∙ rest-yes (dutyAt (s .row .now) (s .q)) (s .t) (c .before .before .before .before .loop .u) (c .before .before .before .loop-test .taken) (c .before .before .duty-at .ensures) (c .before .is-rest .ensures) (c .if1 .taken))
 
--- src/rule.rt:78:13
 add-u : tie.Need-add-u Inv-loop μ-loop
 add-u c = search needs
 
--- src/rule.rt:74:5
 loop-less : tie.Need-loop-less Inv-loop μ-loop
 loop-less c = search needs
 
--- src/rule.rt:74:5
 loop-again : tie.Need-loop-again Inv-loop μ-loop
 loop-again c = let s = c .before .before .before .before .before .args in
     (omega arith, c .before .before .before .before .loop .inv .1 ∙ rest-no (dutyAt (s .row .now) (s .q)) (s .t) (c .before .before .before .before .loop .u) (c .before .before .before .loop-test .taken) (c .before .before .duty-at .ensures) (c .before .is-rest .ensures) (c .if1 .left))
 
--- src/rule.rt:68:1
 returns-2 : tie.Need-returns-2 Inv-loop μ-loop
 returns-2 c = let s = c .before .before .args in
     sym (c .before .loop .inv .1 ∙ rest-done (dutyAt (s .row .now) (s .q)) (s .t) (c .before .loop .u) (c .loop-test .left))

@@ -1,6 +1,6 @@
 -- `days::rule::rests_of` meets its contract. The loop's invariant: the rests so far and those of the days left are all.
-use mathlib.Core.Path.{_≡_, sym, _∙_}
-use Prim.Native.Nat.{ℕ, _+_, _-_, _≤_}
+use mathlib.Core.Path.{_≡_}
+use Prim.Native.Nat.{_+_, _-_, _≤_}
 use native.Mathlib.Omega.{arith}
 use Rattle.days.specs.Days.{rests}
 use Rattle.days.specs.Walk.{dutyAt}
@@ -8,9 +8,6 @@ use Rattle.days.proofs.RuleLaws.{restsFrom, rests-start, rest-day, rest
 use borrow.Author.Needs.{needs}
 use Rattle.days.proofs.rule.rests_of.Statement.{statement}
 use Rattle.days.proofs.rule.rests_of.Tie as tie
-use Rattle.days.proofs.rule.rests_of.Reads as reads
-use Rattle.days.proofs.rule.rests_of.Lts as lts
-use Rattle.days.proofs.rule.rest_on.Reads as rest-on-reads
 
 abbrev Inv-loop : tie.InvT-loop
 Inv-loop row q n count₀ d₀ count d = (d ≤ n) × (count ≤ d) × (rests (dutyAt row q) n ≡ count + restsFrom (dutyAt row q) n d)
@@ -18,33 +15,26 @@ Inv-loop row q n count₀ d₀ count d = (d ≤ n) × (count ≤ d) × (rests (d
 abbrev μ-loop : tie.MeasureT-loop
 μ-loop row q n count₀ d₀ count d = n - d
 
--- src/rule.rt:152:5
 loop-holds : tie.Need-loop-holds Inv-loop μ-loop
 loop-holds c = let s = c .args in (omega arith, omega arith, omega (arith, rests-start (dutyAt (s .row .now) (s .q)) (s .n)))
 
--- src/rule.rt:153:25
 rest-on-requires : tie.Need-rest-on-requires Inv-loop μ-loop
 rest-on-requires c κs = search needs
 
--- src/rule.rt:153:17
 add-count : tie.Need-add-count Inv-loop μ-loop
 add-count c = search needs
 
--- src/rule.rt:154:13
 add-d : tie.Need-add-d Inv-loop μ-loop
 add-d c = search needs
 
--- src/rule.rt:152:5
 loop-less : tie.Need-loop-less Inv-loop μ-loop
 loop-less c = search needs
 
--- src/rule.rt:152:5
 loop-again : tie.Need-loop-again Inv-loop μ-loop
 loop-again c = let s = c .before .before .before .args in
     let l = c .before .before .loop in
     (omega arith, omega (arith, c .rest-on .ensures .1), omega (arith, l .inv .2, c .rest-on .ensures .0, rest-day (s .row .now) (s .q) (s .n) (l .d) (c .before .loop-test .taken)))
 
--- src/rule.rt:146:1
 returns : tie.Need-returns Inv-loop μ-loop
 returns c = let s = c .before .before .args in
     omega (arith, c .before .loop .inv .2, rests-done (dutyAt (s .row .now) (s .q)) (s .n) (c .before .loop .d) (c .loop-test .left))

@@ -3,40 +3,27 @@ use Rattle.days.proofs.RuleLaws.{rule-unchosen, rule-window, rule-rests
 use borrow.Author.Needs.{needs}
 use Rattle.days.proofs.rule.rule_holds.Statement.{statement}
 use Rattle.days.proofs.rule.rule_holds.Tie as tie
-use Rattle.days.proofs.rule.rule_holds.Reads as reads
-use Rattle.days.proofs.rule.rule_holds.Lts as lts
-use Rattle.days.proofs.month.in_bounds.Reads as in-bounds-reads
-use Rattle.days.proofs.rule.all_windows_hold.Reads as all-windows-hold-reads
-use Rattle.days.proofs.rule.choice_holds.Reads as choice-holds-reads
-use Rattle.days.proofs.rule.rests_of.Reads as rests-of-reads
 
--- src/rule.rt:196:8
 choice-holds-requires : tie.Need-choice-holds-requires
 choice-holds-requires c κs = search needs
 
--- src/rule.rt:197:12
 all-windows-hold-requires : tie.Need-all-windows-hold-requires
 all-windows-hold-requires c κs = search needs
 
--- src/rule.rt:198:47
 rests-of-requires : tie.Need-rests-of-requires
 rests-of-requires c κs = search needs
 
--- src/rule.rt:198:13
 in-bounds-requires : tie.Need-in-bounds-requires
 in-bounds-requires c κs = search needs
 
--- src/rule.rt:198:13
 returns : tie.Need-returns
 returns c = let s = c .before .before .before .before .before .before .args in
     rule-rests (s .m) (s .row .now) (s .q) (c .before .before .before .before .before .choice-holds .ensures) (c .before .before .before .before .if1 .taken) (c .before .before .before .all-windows-hold .ensures) (c .before .before .if2 .taken) (c .before .rests-of .ensures) (c .in-bounds .ensures)
 
--- src/rule.rt:200:9
 returns-2 : tie.Need-returns-2
 returns-2 c = let s = c .before .before .before .before .args in
     rule-window (s .m) (s .row .now) (s .q) (c .before .before .before .choice-holds .ensures) (c .before .before .if1 .taken) (c .before .all-windows-hold .ensures) (c .if2 .left)
 
--- src/rule.rt:192:1
 returns-3 : tie.Need-returns-3
 returns-3 c = let s = c .before .before .args in
     rule-unchosen (s .m) (s .row .now) (s .q) (c .before .choice-holds .ensures) (c .if1 .left)

@@ -4,35 +4,24 @@ use Rattle.days.proofs.RuleLaws.{hold-run, hold-unrested, hold-rested}
 use borrow.Author.Needs.{needs}
 use Rattle.days.proofs.rule.windows_hold.Statement.{statement}
 use Rattle.days.proofs.rule.windows_hold.Tie as tie
-use Rattle.days.proofs.rule.windows_hold.Reads as reads
-use Rattle.days.proofs.rule.windows_hold.Lts as lts
-use Rattle.days.proofs.rule.is_forbidden.Reads as is-forbidden-reads
-use Rattle.days.proofs.rule.long_run.Reads as long-run-reads
-use Rattle.days.proofs.rule.rested.Reads as rested-reads
 
--- src/rule.rt:107:8
 long-run-requires : tie.Need-long-run-requires
 long-run-requires c κs = search needs
 
--- src/rule.rt:108:9
 returns : tie.Need-returns
 returns c = let s = c .before .before .args in
     hold-run (dutyAt (s .row .now) (s .q)) (s .longest) (s .t) (c .before .long-run .ensures) (c .if1 .taken)
 
--- src/rule.rt:110:8
 rested-requires : tie.Need-rested-requires
 rested-requires c κs = search needs
 
--- src/rule.rt:111:17
 is-forbidden-requires : tie.Need-is-forbidden-requires
 is-forbidden-requires c κs = search needs
 
--- src/rule.rt:111:9
 returns-2 : tie.Need-returns-2
 returns-2 c = let s = c .before .before .before .before .before .args in
     hold-rested (dutyAt (s .row .now) (s .q)) (s .longest) (s .t) (c .before .before .before .before .long-run .ensures) (c .before .before .before .if1 .left) (c .before .before .rested .ensures) (c .before .if2 .taken) (c .is-forbidden .ensures)
 
--- src/rule.rt:101:1
 returns-3 : tie.Need-returns-3
 returns-3 c = let s = c .before .before .before .before .args in
     hold-unrested (dutyAt (s .row .now) (s .q)) (s .longest) (s .t) (c .before .before .before .long-run .ensures) (c .before .before .if1 .left) (c .before .rested .ensures) (c .if2 .left)

@@ -1,11 +1,10 @@
 -- The proof of the cycle of calls {count}. The measure is the number of undecided days.
 use native.Mathlib.Omega.{arith}
-use mathlib.Core.Path.{_≡_, sym, ap, _∙_}
-use Prim.Native.Nat.{_+_, _-_, _*_, _^_, _≤_}
+use mathlib.Core.Path.{ap}
+use Prim.Native.Nat.{_+_, ℕ, _<_}
 use lib.ListN.{length, length-append}
 use Rattle.days.proofs.WalkLaws.{leaf-yes, leaf-no, node-yes, node-no, pow-half}
 use borrow.Author.Needs.{needs}
-use Prim.Native.Nat.{ℕ, _<_}
 use borrow.Fn.Kinds.{In}
 use borrow.Fn.PlainCycle.{Measures, is, falls, and}
 use Rattle.days.proofs.walk.count.Reads as count
@@ -27,7 +26,6 @@ count-at t = and 2 count-kinds.ps (is 2 count-kinds.ps μ-count t) count.Pre
 abbrev count-below : ℕ → In 2 count-kinds.ps
 count-below t = and 2 count-kinds.ps (falls 2 count-kinds.ps _<_ μ-count t) count.Pre
 
--- src/walk.rt:35:9
 count-returns : (t : ℕ) → count-lts.Need-returns (
   rule-holds-reads.Asked,
   rule-holds-reads.Learnt,
@@ -42,7 +40,6 @@ count-returns : (t : ℕ) → count-lts.Need-returns (
 ) (count-at t) count.Post
 count-returns t c = omega arith
 
--- src/walk.rt:38:12
 count-rule-holds-requires : (t : ℕ) → count-lts.Need-rule-holds-requires (
   rule-holds-reads.Asked,
   rule-holds-reads.Learnt,
@@ -57,7 +54,6 @@ count-rule-holds-requires : (t : ℕ) → count-lts.Need-rule-holds-requires (
 ) (count-at t) count.Post
 count-rule-holds-requires t c κs = search needs
 
--- src/walk.rt:39:13
 count-returns-2 : (t : ℕ) → count-lts.Need-returns-2 (
   rule-holds-reads.Asked,
   rule-holds-reads.Learnt,
@@ -73,7 +69,6 @@ count-returns-2 : (t : ℕ) → count-lts.Need-returns-2 (
 count-returns-2 t c = let s = c .before .before .before .before .args in
     omega (arith, ap length (leaf-yes (s .m) (s .row .now) (s .left) (s .from) (s .rests) (c .before .before .if2 .taken) (c .before .rule-holds .ensures) (c .if3 .taken)))
 
--- src/walk.rt:41:9
 count-returns-3 : (t : ℕ) → count-lts.Need-returns-3 (
   rule-holds-reads.Asked,
   rule-holds-reads.Learnt,
@@ -89,7 +84,6 @@ count-returns-3 : (t : ℕ) → count-lts.Need-returns-3 (
 count-returns-3 t c = let s = c .before .before .before .before .args in
     omega (arith, ap length (leaf-no (s .m) (s .row .now) (s .left) (s .from) (s .rests) (c .before .before .if2 .taken) (c .before .rule-holds .ensures) (c .if3 .left)))
 
--- src/walk.rt:43:8
 count-goes-on-requires : (t : ℕ) → count-lts.Need-goes-on-requires (
   rule-holds-reads.Asked,
   rule-holds-reads.Learnt,
@@ -105,7 +99,6 @@ count-goes-on-requires : (t : ℕ) → count-lts.Need-goes-on-requires (
 count-goes-on-requires t c κs = let pre = c .before .before .pre in
     (pre .1 .0, (pre .1 .1 .0, (omega (arith, pre .1 .1 .1 .0), omega (arith, pre .1 .1 .1 .0, pre .1 .0 .few-days))))
 
--- src/walk.rt:44:19
 count-sub-day : (t : ℕ) → count-lts.Need-sub-day (
   rule-holds-reads.Asked,
   rule-holds-reads.Learnt,
@@ -120,7 +113,6 @@ count-sub-day : (t : ℕ) → count-lts.Need-sub-day (
 ) (count-at t) count.Post
 count-sub-day t c = search needs
 
--- src/walk.rt:45:28
 count-bit-requires : (t : ℕ) → count-lts.Need-bit-requires (
   rule-holds-reads.Asked,
   rule-holds-reads.Learnt,
@@ -135,7 +127,6 @@ count-bit-requires : (t : ℕ) → count-lts.Need-bit-requires (
 ) (count-at t) count.Post
 count-bit-requires t c κs = search needs
 
--- src/walk.rt:45:28
 count-cast-with : (t : ℕ) → count-lts.Need-cast-with (
   rule-holds-reads.Asked,
   rule-holds-reads.Learnt,
@@ -150,7 +141,6 @@ count-cast-with : (t : ℕ) → count-lts.Need-cast-with (
 ) (count-at t) count.Post
 count-cast-with t c = search needs
 
--- src/walk.rt:45:20
 count-add-with : (t : ℕ) → count-lts.Need-add-with (
   rule-holds-reads.Asked,
   rule-holds-reads.Learnt,
@@ -166,7 +156,6 @@ count-add-with : (t : ℕ) → count-lts.Need-add-with (
 count-add-with t c = let s = c .before .before .before .before .before .args in
     omega (arith, c .bit .ensures, pow-half (s .left) (c .before .before .before .if2 .left), c .before .before .before .before .before .pre .1 .1 .1 .1)
 
--- src/walk.rt:46:59
 count-rest-on-requires : (t : ℕ) → count-lts.Need-rest-on-requires (
   rule-holds-reads.Asked,
   rule-holds-reads.Learnt,
@@ -181,7 +170,6 @@ count-rest-on-requires : (t : ℕ) → count-lts.Need-rest-on-requires (
 ) (count-at t) count.Post
 count-rest-on-requires t c κs = search needs
 
--- src/walk.rt:46:51
 count-add-count : (t : ℕ) → count-lts.Need-add-count (
   rule-holds-reads.Asked,
   rule-holds-reads.Learnt,
@@ -196,7 +184,6 @@ count-add-count : (t : ℕ) → count-lts.Need-add-count (
 ) (count-at t) count.Post
 count-add-count t c = search needs
 
--- src/walk.rt:46:13
 count-count-requires : (t : ℕ) → count-lts.Need-count-requires (
   rule-holds-reads.Asked,
   rule-holds-reads.Learnt,
@@ -214,7 +201,6 @@ count-count-requires t c κs = let s = c .before .before .before .before .before
     let half = pow-half (s .left) (c .before .before .before .before .if2 .left) in
     (omega (arith, pre .0, c .before .before .before .before .if2 .left), (pre .1 .0, (pre .1 .1 .0, (omega (arith, pre .1 .1 .1 .0, c .rest-on .ensures .1, c .before .before .before .before .if2 .left), omega (arith, half, pre .1 .1 .1 .1)))))
 
--- src/walk.rt:47:62
 count-rest-on-requires-2 : (t : ℕ) → count-lts.Need-rest-on-requires-2 (
   rule-holds-reads.Asked,
   rule-holds-reads.Learnt,
@@ -229,7 +215,6 @@ count-rest-on-requires-2 : (t : ℕ) → count-lts.Need-rest-on-requires-2 (
 ) (count-at t) count.Post
 count-rest-on-requires-2 t c κs = search needs
 
--- src/walk.rt:47:54
 count-add-count-2 : (t : ℕ) → count-lts.Need-add-count-2 (
   rule-holds-reads.Asked,
   rule-holds-reads.Learnt,
@@ -244,7 +229,6 @@ count-add-count-2 : (t : ℕ) → count-lts.Need-add-count-2 (
 ) (count-at t) count.Post
 count-add-count-2 t c = search needs
 
--- src/walk.rt:47:93
 count-sub-count : (t : ℕ) → count-lts.Need-sub-count (
   rule-holds-reads.Asked,
   rule-holds-reads.Learnt,
@@ -259,7 +243,6 @@ count-sub-count : (t : ℕ) → count-lts.Need-sub-count (
 ) (count-at t) count.Post
 count-sub-count t c = omega (arith, c .before .count .ensures)
 
--- src/walk.rt:47:22
 count-count-requires-2 : (t : ℕ) → count-lts.Need-count-requires-2 (
   rule-holds-reads.Asked,
   rule-holds-reads.Learnt,
@@ -277,7 +260,6 @@ count-count-requires-2 t c κs = let s = c .before .before .before .before .befo
     let half = pow-half (s .left) (c .before .before .before .before .before .before .if2 .left) in
     (omega (arith, pre .0, c .before .before .before .before .before .before .if2 .left), (pre .1 .0, (pre .1 .1 .0, (omega (arith, pre .1 .1 .1 .0, c .rest-on2 .ensures .1, c .before .before .before .before .before .before .if2 .left), omega (arith, half, pre .1 .1 .1 .1, c .before .before .before .bit .ensures)))))
 
--- src/walk.rt:47:16
 count-add-result : (t : ℕ) → count-lts.Need-add-result (
   rule-holds-reads.Asked,
   rule-holds-reads.Learnt,
@@ -292,7 +274,6 @@ count-add-result : (t : ℕ) → count-lts.Need-add-result (
 ) (count-at t) count.Post
 count-add-result t c = omega (arith, c .before .before .count .ensures, c .count2 .ensures)
 
--- src/walk.rt:47:9
 count-returns-4 : (t : ℕ) → count-lts.Need-returns-4 (
   rule-holds-reads.Asked,
   rule-holds-reads.Learnt,
@@ -309,7 +290,6 @@ count-returns-4 t c = let s = c .before .before .before .before .before .before 
     let node = node-yes (s .m) (s .row .now) (s .left) (s .from) (s .rests) (c .before .before .before .before .before .before .before .if2 .left) (c .before .before .before .before .before .before .goes-on .ensures) (c .before .before .before .before .before .if4 .taken) (c .before .before .before .before .bit .ensures) (c .before .before .before .rest-on .ensures .0) (c .before .rest-on2 .ensures .0) in
     omega (arith, c .before .before .count .ensures, c .count2 .ensures, simp length-append at (ap length node))
 
--- src/walk.rt:27:1
 count-returns-5 : (t : ℕ) → count-lts.Need-returns-5 (
   rule-holds-reads.Asked,
   rule-holds-reads.Learnt,

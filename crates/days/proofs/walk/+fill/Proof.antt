@@ -1,15 +1,14 @@
-use lib.Pow.{pow-pos}
 -- The proof of the cycle of calls {fill}. The measure is the number of undecided days.
+use lib.Pow.{pow-pos}
 use native.Mathlib.Omega.{arith}
-use mathlib.Core.Path.{_≡_, sym, ap, _∙_}
+use mathlib.Core.Path.{sym, ap}
 use mathlib.Core.List.{_++_}
-use Prim.Native.Nat.{_+_, _-_, _*_, _^_, _≤_}
-use lib.ListN.{length, length-append, length-set, length-take, length-drop}
+use Prim.Native.Nat.{_+_, _-_, ℕ, _<_}
+use lib.ListN.{length, length-append, length-set, length-drop}
 use Rattle.numbers.proofs.BufferLaws.{part-is, both-written, one-written, none-written, as-long}
 use Rattle.days.specs.Walk.{listed}
 use Rattle.days.proofs.WalkLaws.{leaf-yes, leaf-no, node-yes, node-no, half-fits, pow-half}
 use borrow.Author.Needs.{needs}
-use Prim.Native.Nat.{ℕ, _<_}
 use borrow.Fn.Kinds.{In}
 use borrow.Fn.PlainCycle.{Measures, is, falls, and}
 use Rattle.days.proofs.walk.fill.Reads as fill
@@ -31,7 +30,6 @@ fill-at t = and 3 fill-kinds.ps (is 3 fill-kinds.ps μ-fill t) fill.Pre
 abbrev fill-below : ℕ → In 3 fill-kinds.ps
 fill-below t = and 3 fill-kinds.ps (falls 3 fill-kinds.ps _<_ μ-fill t) fill.Pre
 
--- src/walk.rt:63:12
 fill-rule-holds-requires : (t : ℕ) → fill-lts.Need-rule-holds-requires (
   rule-holds-reads.Asked,
   rule-holds-reads.Learnt,
@@ -46,7 +44,6 @@ fill-rule-holds-requires : (t : ℕ) → fill-lts.Need-rule-holds-requires (
 ) (fill-at t) fill.Post
 fill-rule-holds-requires t c κs = search needs
 
--- src/walk.rt:64:22
 fill-cast-buf : (t : ℕ) → fill-lts.Need-cast-buf (
   rule-holds-reads.Asked,
   rule-holds-reads.Learnt,
@@ -61,7 +58,6 @@ fill-cast-buf : (t : ℕ) → fill-lts.Need-cast-buf (
 ) (fill-at t) fill.Post
 fill-cast-buf t c = omega (arith, c .before .before .before .before .pre .1 .1 .1 .1 .0, pow-pos (c .before .before .before .before .args .left))
 
--- src/walk.rt:64:13
 fill-slice-write-buf : (t : ℕ) → fill-lts.Need-slice-write-buf (
   rule-holds-reads.Asked,
   rule-holds-reads.Learnt,
@@ -77,7 +73,6 @@ fill-slice-write-buf : (t : ℕ) → fill-lts.Need-slice-write-buf (
 fill-slice-write-buf t c = let s = c .before .before .before .before .args in
     omega (arith, ap length (leaf-yes (s .m) (s .row .now) (s .left) (s .from) (s .rests) (c .before .before .if1 .taken) (c .before .rule-holds .ensures) (c .if2 .taken)), c .before .before .before .before .pre .1 .1 .1 .1 .1)
 
--- src/walk.rt:65:13
 fill-same-length : (t : ℕ) → fill-lts.Need-same-length (
   rule-holds-reads.Asked,
   rule-holds-reads.Learnt,
@@ -92,7 +87,6 @@ fill-same-length : (t : ℕ) → fill-lts.Need-same-length (
 ) (fill-at t) fill.Post
 fill-same-length t c = simp length-set
 
--- src/walk.rt:65:13
 fill-returns : (t : ℕ) → fill-lts.Need-returns (
   rule-holds-reads.Asked,
   rule-holds-reads.Learnt,
@@ -109,7 +103,6 @@ fill-returns t c = let s = c .before .before .before .before .args in
     let leaf = leaf-yes (s .m) (s .row .now) (s .left) (s .from) (s .rests) (c .before .before .if1 .taken) (c .before .rule-holds .ensures) (c .if2 .taken) in
     (sym (ap length leaf), one-written _ (s .buf .now) (s .from) leaf (c .before .before .before .before .pre .1 .1 .1 .1 .1))
 
--- src/walk.rt:67:9
 fill-returns-2 : (t : ℕ) → fill-lts.Need-returns-2 (
   rule-holds-reads.Asked,
   rule-holds-reads.Learnt,
@@ -126,7 +119,6 @@ fill-returns-2 t c = let s = c .before .before .before .before .args in
     let leaf = leaf-no (s .m) (s .row .now) (s .left) (s .from) (s .rests) (c .before .before .if1 .taken) (c .before .rule-holds .ensures) (c .if2 .left) in
     (sym (ap length leaf), none-written _ (s .buf .now) leaf)
 
--- src/walk.rt:69:8
 fill-goes-on-requires : (t : ℕ) → fill-lts.Need-goes-on-requires (
   rule-holds-reads.Asked,
   rule-holds-reads.Learnt,
@@ -142,7 +134,6 @@ fill-goes-on-requires : (t : ℕ) → fill-lts.Need-goes-on-requires (
 fill-goes-on-requires t c κs = let pre = c .before .before .pre in
     (pre .1 .0, (pre .1 .1 .0, (omega (arith, pre .1 .1 .1 .0), omega (arith, pre .1 .1 .1 .0, pre .1 .0 .few-days))))
 
--- src/walk.rt:70:19
 fill-sub-day : (t : ℕ) → fill-lts.Need-sub-day (
   rule-holds-reads.Asked,
   rule-holds-reads.Learnt,
@@ -157,7 +148,6 @@ fill-sub-day : (t : ℕ) → fill-lts.Need-sub-day (
 ) (fill-at t) fill.Post
 fill-sub-day t c = search needs
 
--- src/walk.rt:71:28
 fill-bit-requires : (t : ℕ) → fill-lts.Need-bit-requires (
   rule-holds-reads.Asked,
   rule-holds-reads.Learnt,
@@ -172,7 +162,6 @@ fill-bit-requires : (t : ℕ) → fill-lts.Need-bit-requires (
 ) (fill-at t) fill.Post
 fill-bit-requires t c κs = search needs
 
--- src/walk.rt:71:28
 fill-cast-with : (t : ℕ) → fill-lts.Need-cast-with (
   rule-holds-reads.Asked,
   rule-holds-reads.Learnt,
@@ -187,7 +176,6 @@ fill-cast-with : (t : ℕ) → fill-lts.Need-cast-with (
 ) (fill-at t) fill.Post
 fill-cast-with t c = search needs
 
--- src/walk.rt:71:20
 fill-add-with : (t : ℕ) → fill-lts.Need-add-with (
   rule-holds-reads.Asked,
   rule-holds-reads.Learnt,
@@ -203,7 +191,6 @@ fill-add-with : (t : ℕ) → fill-lts.Need-add-with (
 fill-add-with t c = let s = c .before .before .before .before .before .args in
     omega (arith, c .bit .ensures, pow-half (s .left) (c .before .before .before .if1 .left), c .before .before .before .before .before .pre .1 .1 .1 .1 .0)
 
--- src/walk.rt:72:58
 fill-rest-on-requires : (t : ℕ) → fill-lts.Need-rest-on-requires (
   rule-holds-reads.Asked,
   rule-holds-reads.Learnt,
@@ -218,7 +205,6 @@ fill-rest-on-requires : (t : ℕ) → fill-lts.Need-rest-on-requires (
 ) (fill-at t) fill.Post
 fill-rest-on-requires t c κs = search needs
 
--- src/walk.rt:72:50
 fill-add-fill : (t : ℕ) → fill-lts.Need-add-fill (
   rule-holds-reads.Asked,
   rule-holds-reads.Learnt,
@@ -233,7 +219,6 @@ fill-add-fill : (t : ℕ) → fill-lts.Need-add-fill (
 ) (fill-at t) fill.Post
 fill-add-fill t c = search needs
 
--- src/walk.rt:72:13
 fill-fill-requires : (t : ℕ) → fill-lts.Need-fill-requires (
   rule-holds-reads.Asked,
   rule-holds-reads.Learnt,
@@ -252,7 +237,6 @@ fill-fill-requires t c κs = let s = c .before .before .before .before .before .
     let low = half-fits (s .m) (s .row .now) (s .left) (s .from) (s .rests) (c .before .before .before .before .before .if1 .left) (c .before .before .before .before .goes-on .ensures) (c .before .before .before .if3 .taken) (c .before .rest-on .ensures .0) in
     (omega (arith, pre .0, c .before .before .before .before .before .if1 .left), (pre .1 .0, (pre .1 .1 .0, (omega (arith, pre .1 .1 .1 .0, c .before .rest-on .ensures .1, c .before .before .before .before .before .if1 .left), (omega (arith, half, pre .1 .1 .1 .1 .0), omega (arith, low, pre .1 .1 .1 .1 .1))))))
 
--- src/walk.rt:73:61
 fill-rest-on-requires-2 : (t : ℕ) → fill-lts.Need-rest-on-requires-2 (
   rule-holds-reads.Asked,
   rule-holds-reads.Learnt,
@@ -267,7 +251,6 @@ fill-rest-on-requires-2 : (t : ℕ) → fill-lts.Need-rest-on-requires-2 (
 ) (fill-at t) fill.Post
 fill-rest-on-requires-2 t c κs = search needs
 
--- src/walk.rt:73:53
 fill-add-fill-2 : (t : ℕ) → fill-lts.Need-add-fill-2 (
   rule-holds-reads.Asked,
   rule-holds-reads.Learnt,
@@ -282,7 +265,6 @@ fill-add-fill-2 : (t : ℕ) → fill-lts.Need-add-fill-2 (
 ) (fill-at t) fill.Post
 fill-add-fill-2 t c = search needs
 
--- src/walk.rt:73:92
 fill-mul-fill : (t : ℕ) → fill-lts.Need-mul-fill (
   rule-holds-reads.Asked,
   rule-holds-reads.Learnt,
@@ -299,7 +281,6 @@ fill-mul-fill t c = let s = c .before .before .before .before .before .before .b
     let low = half-fits (s .m) (s .row .now) (s .left) (s .from) (s .rests) (c .before .before .before .before .before .before .before .before .before .if1 .left) (c .before .before .before .before .before .before .before .before .goes-on .ensures) (c .before .before .before .before .before .before .before .if3 .taken) (c .before .before .before .before .before .rest-on .ensures .0) in
     omega (arith, c .before .before .before .fill .ensures .0, low, c .before .before .before .before .before .before .before .before .before .before .before .pre .1 .1 .1 .1 .1, c .before .before .before .before .before .before .before .before .before .before .before .good .1 .1 .1 .1 .1 .1 .0 .1)
 
--- src/walk.rt:73:92
 fill-sub-fill : (t : ℕ) → fill-lts.Need-sub-fill (
   rule-holds-reads.Asked,
   rule-holds-reads.Learnt,
@@ -316,7 +297,6 @@ fill-sub-fill t c = let s = c .before .before .before .before .before .before .b
     let low = half-fits (s .m) (s .row .now) (s .left) (s .from) (s .rests) (c .before .before .before .before .before .before .before .before .before .if1 .left) (c .before .before .before .before .before .before .before .before .goes-on .ensures) (c .before .before .before .before .before .before .before .if3 .taken) (c .before .before .before .before .before .rest-on .ensures .0) in
     omega (arith, c .before .before .before .fill .ensures .0, low, c .before .before .before .before .before .before .before .before .before .before .before .pre .1 .1 .1 .1 .1, c .before .before .before .fill .kept .1 .1 .1 .1 .1 .1 .0)
 
--- src/walk.rt:73:92
 fill-part-fill-start : (t : ℕ) → fill-lts.Need-part-fill-start (
   rule-holds-reads.Asked,
   rule-holds-reads.Learnt,
@@ -333,7 +313,6 @@ fill-part-fill-start t c = let s = c .before .before .before .before .before .be
     let low = half-fits (s .m) (s .row .now) (s .left) (s .from) (s .rests) (c .before .before .before .before .before .before .before .before .before .if1 .left) (c .before .before .before .before .before .before .before .before .goes-on .ensures) (c .before .before .before .before .before .before .before .if3 .taken) (c .before .before .before .before .before .rest-on .ensures .0) in
     omega (arith, c .before .before .before .fill .ensures .0, low, c .before .before .before .before .before .before .before .before .before .before .before .pre .1 .1 .1 .1 .1, c .before .before .before .fill .kept .1 .1 .1 .1 .1 .1 .0)
 
--- src/walk.rt:73:92
 fill-part-fill-end : (t : ℕ) → fill-lts.Need-part-fill-end (
   rule-holds-reads.Asked,
   rule-holds-reads.Learnt,
@@ -348,7 +327,6 @@ fill-part-fill-end : (t : ℕ) → fill-lts.Need-part-fill-end (
 ) (fill-at t) fill.Post
 fill-part-fill-end t c = search needs
 
--- src/walk.rt:73:22
 fill-fill-requires-2 : (t : ℕ) → fill-lts.Need-fill-requires-2 (
   rule-holds-reads.Asked,
   rule-holds-reads.Learnt,
@@ -371,7 +349,6 @@ fill-fill-requires-2 t c κs = let s = c .before .before .before .before .before
     rw (part-is A (s .buf .now) (c .before .before .before .before .fill .last .1 .1 .1 .1 .1 .1 .0) (c .before .before .before .before .fill .result) (c .before .before .before .before .fill .ensures .0) (c .before .before .before .before .fill .ensures .1) (omega (arith, low, pre .1 .1 .1 .1 .1)), length-drop)
     (omega (arith, simp length-append at (ap length node), pre .1 .1 .1 .1 .1)))))))
 
--- src/walk.rt:73:16
 fill-add-result : (t : ℕ) → fill-lts.Need-add-result (
   rule-holds-reads.Asked,
   rule-holds-reads.Learnt,
@@ -388,7 +365,6 @@ fill-add-result t c = let s = c .before .before .before .before .before .before 
     let node = node-yes (s .m) (s .row .now) (s .left) (s .from) (s .rests) (c .before .before .before .before .before .before .before .before .before .before .before .before .before .if1 .left) (c .before .before .before .before .before .before .before .before .before .before .before .before .goes-on .ensures) (c .before .before .before .before .before .before .before .before .before .before .before .if3 .taken) (c .before .before .before .before .before .before .before .before .before .before .bit .ensures) (c .before .before .before .before .before .before .before .before .before .rest-on .ensures .0) (c .before .before .before .before .rest-on2 .ensures .0) in
     omega (arith, simp length-append at (ap length node), c .before .before .before .before .before .before .before .fill .ensures .0, c .before .before .fill2 .ensures .0, c .before .before .before .before .before .before .before .before .before .before .before .before .before .before .before .pre .1 .1 .1 .1 .1, c .before .before .before .before .before .before .before .before .before .before .before .before .before .before .before .good .1 .1 .1 .1 .1 .1 .0 .0)
 
--- src/walk.rt:73:9
 fill-same-length-2 : (t : ℕ) → fill-lts.Need-same-length-2 (
   rule-holds-reads.Asked,
   rule-holds-reads.Learnt,
@@ -410,7 +386,6 @@ fill-same-length-2 t c = let s = c .before .before .before .before .before .befo
     (both-written A (s .buf .now) (c .before .before .before .before .before .before .before .fill .last .1 .1 .1 .1 .1 .1 .0) (c .before .before .before .before .before .before .before .fill .result) (c .before .before .before .before .before .before .before .fill .ensures .0) (c .before .before .before .before .before .before .before .fill .ensures .1) (omega (arith, low, c .before .before .before .before .before .before .before .before .before .before .before .before .before .before .before .pre .1 .1 .1 .1 .1)) B (c .before .before .fill2 .last .1 .1 .1 .1 .1 .1 .0) (c .before .before .fill2 .ensures .1))
     (omega (arith, ap length node, c .before .before .before .before .before .before .before .before .before .before .before .before .before .before .before .pre .1 .1 .1 .1 .1))
 
--- src/walk.rt:73:9
 fill-returns-3 : (t : ℕ) → fill-lts.Need-returns-3 (
   rule-holds-reads.Asked,
   rule-holds-reads.Learnt,
@@ -432,7 +407,6 @@ fill-returns-3 t c = let s = c .before .before .before .before .before .before .
       rw node (both-written A (s .buf .now) (c .before .before .before .before .before .before .before .fill .last .1 .1 .1 .1 .1 .1 .0) (c .before .before .before .before .before .before .before .fill .result) (c .before .before .before .before .before .before .before .fill .ensures .0) (c .before .before .before .before .before .before .before .fill .ensures .1) (omega (arith, low, c .before .before .before .before .before .before .before .before .before .before .before .before .before .before .before .pre .1 .1 .1 .1 .1)) B (c .before .before .fill2 .last .1 .1 .1 .1 .1 .1 .0) (c .before .before .fill2 .ensures .1)),
     )
 
--- src/walk.rt:53:1
 fill-returns-4 : (t : ℕ) → fill-lts.Need-returns-4 (
   rule-holds-reads.Asked,
   rule-holds-reads.Learnt,

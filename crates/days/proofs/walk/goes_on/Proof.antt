@@ -5,38 +5,26 @@ use Rattle.days.proofs.WalkLaws.{goes-yes, goes-no}
 use borrow.Author.Needs.{needs}
 use Rattle.days.proofs.walk.goes_on.Statement.{statement}
 use Rattle.days.proofs.walk.goes_on.Tie as tie
-use Rattle.days.proofs.walk.goes_on.Reads as reads
-use Rattle.days.proofs.walk.goes_on.Lts as lts
-use Rattle.days.proofs.reach.place.Reads as place-reads
-use Rattle.days.proofs.reach.step_holds.Reads as step-holds-reads
-use Rattle.days.proofs.rule.has.Reads as has-reads
 
--- src/walk.rt:19:8
 step-holds-requires : tie.Need-step-holds-requires
 step-holds-requires c κs = search needs
 
--- src/walk.rt:20:13
 place-requires : tie.Need-place-requires
 place-requires c κs = search needs
 
--- src/walk.rt:21:26
 mul-has : tie.Need-mul-has
 mul-has c = search needs
 
--- src/walk.rt:21:26
 element-copy-out-has : tie.Need-element-copy-out-has
 element-copy-out-has c = search needs
 
--- src/walk.rt:21:9
 has-requires : tie.Need-has-requires
 has-requires c κs = search needs
 
--- src/walk.rt:21:9
 returns : tie.Need-returns
 returns c = let s = c .before .before .before .before .before .args in
     goes-yes (s .m) (s .row .now) (s .table .now) (s .d) (s .from) (64 * s .m .days + 64) (s .rests) (c .before .before .before .before .before .pre .1 .0) (omega (arith, c .before .before .before .before .before .pre .1 .1 .0)) (c .before .before .before .before .step-holds .ensures) (c .before .before .before .if1 .taken) (c .before .before .place .ensures) (c .has .ensures)
 
--- src/walk.rt:12:1
 returns-2 : tie.Need-returns-2
 returns-2 c = let s = c .before .before .args in
     goes-no (s .m) (s .row .now) (s .table .now) (s .d) (s .from) (s .rests) (c .before .step-holds .ensures) (c .if1 .left)
