@@ -195,7 +195,7 @@ bit-test true = refl
 bit-test false = refl
 
 -- a digit below the d-th is that of the number's d last digits
-low-digit : (x d b : ℕ) → b < d → x % 2 ^ d / 2 ^ b % 2 ≡ x / 2 ^ b % 2
+pub low-digit : (x d b : ℕ) → b < d → x % 2 ^ d / 2 ^ b % 2 ≡ x / 2 ^ b % 2
 low-digit x d b h =
     let j = d - b - 1 in
     let e : d ≡ (j + 1) + b = omega arith in
@@ -251,3 +251,7 @@ count-put-all n i f l =
 
 pub bit-is : (x i : ℕ) → bit x i ≡ oneIf (has x i)
 bit-is x i = bit-one-if (bit x i) (bit-lt x i)
+
+-- digit j of the d digits from s on
+pub part-digit : (x s d j : ℕ) → j < d → has (x / 2 ^ s % 2 ^ d) j ≡ has x (s + j)
+part-digit x s d j h = ap (λ (y : ℕ). eqb y 1) (low-digit (x / 2 ^ s) d j h ∙ ap (λ (y : ℕ). y % 2) (shr-shr x s j))

@@ -1,19 +1,17 @@
 -- How large a penalty can be, and what it is made of.
-use mathlib.Core.Path.{_≡_, refl, sym, ap, ap₂, _∙_}
-use mathlib.Core.Bool.{Bool, true, false, cond, _&&_}
+use mathlib.Core.Path.{_≡_, sym, ap, _∙_}
+use mathlib.Core.Bool.{Bool, _&&_}
 use mathlib.Core.List.{List}
-use mathlib.Core.Option.{none, some}
-use Prim.Native.Nat.{ℕ, zero, suc, _+_, _-_, _*_, _≤_, _<_}
+use Prim.Native.Nat.{ℕ, _+_, _-_, _*_, _≤_, _<_}
 use native.Mathlib.Nat.{mul-le-mul, le-trans}
 use native.Mathlib.Omega.{arith}
 use native.Mathlib.Decide.{decLt}
 use lib.ListN.{getD}
-use lib.Dec.{eqb}
-use Rattle.numbers.specs.Sum.{sumTo, countTo, oneIf}
+use Rattle.numbers.specs.Sum.{oneIf}
 use Rattle.numbers.specs.Digits.{has}
 use Rattle.numbers.proofs.SumLaws.{sum-add, sum-le, sum-change, count-le}
 use Rattle.ward.specs.Fields.{Accepted, nurses, days, groups, weight, masks, needs, need, low, high}
-use Rattle.penalty.specs.Penalty.{Slot, Parts, rest, total, isNone, exchanged, onDuty, members, shortOn, overOn, unplacedIn, atNight, free, atDay, nightParts, nightPenalty, dayParts, dayPenalty}
+use Rattle.penalty.specs.Penalty.{Slot, rest, isNone, exchanged, onDuty, members, shortOn, overOn, unplacedIn, atNight, free, atDay, nightParts, nightPenalty, dayParts, dayPenalty}
 use Rattle.penalty.proofs.ColumnLaws.{exchanged-here, exchanged-there}
 
 -- ---- one duty of one day

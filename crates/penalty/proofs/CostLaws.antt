@@ -1,13 +1,13 @@
 -- A nurse's table: how it is filled, and that a trial by it is the penalty counted afresh after the exchange.
-use mathlib.Core.Path.{_≡_, refl, sym, ap, ap₂, _∙_, subst}
-use mathlib.Core.Bool.{Bool, true, false, cond, _&&_}
+use mathlib.Core.Path.{_≡_, refl, sym, ap, ap₂, _∙_}
+use mathlib.Core.Bool.{Bool, true, false, cond}
 use mathlib.Core.List.{List}
 use mathlib.Core.Logic.{⊎-elim}
-use Prim.Native.Nat.{ℕ, zero, suc, _+_, _-_, _*_, _≤_, _<_}
+use Prim.Native.Nat.{ℕ, suc, _+_, _-_, _*_, _≤_, _<_}
 use native.Mathlib.Nat.{not-suc-le-zero, eq-or-lt-of-le, le-of-suc-le-suc}
 use native.Mathlib.Numerals.{add-one}
 use native.Mathlib.Omega.{arith}
-use lib.ListN.{length, getD, set, length-set, replicate}
+use lib.ListN.{getD, set, length-set, replicate}
 use native.Mathlib.Decide.{decLt}
 use lib.Seq.{getD-set-same, getD-set-other}
 use Rattle.numbers.specs.Sum.{sumTo, Is}
@@ -22,10 +22,10 @@ use Rattle.penalty.specs.declared.duty.Weights.{Weights}
 use Rattle.penalty.specs.declared.duty.Pair.{Pair}
 use Rattle.penalty.specs.declared.costs.Costs.{Costs}
 use Rattle.penalty.specs.declared.costs.Three.{Three}
-use Rattle.penalty.specs.Penalty.{Slot, Parts, rest, shortOn, overOn, exchanged, atNight, free, atDay, nightParts, dayParts}
-use Rattle.penalty.specs.Columns.{Same, ShowsNight, ShowsDay, Frees}
+use Rattle.penalty.specs.Penalty.{Slot, shortOn, overOn, exchanged, atNight, free, atDay, nightParts, dayParts}
+use Rattle.penalty.specs.Columns.{ShowsNight, ShowsDay}
 use Rattle.penalty.specs.Costs.{trialAt, trialOf, Small, TrialsNight, TrialsDay}
-use Rattle.penalty.specs.Walk.{weightsOf, noHigh, Tells, dutyCost, dutyShort, dutyOver, shortIn, overIn, nightWith, dayWith, NightDay, DayDay, Filled}
+use Rattle.penalty.specs.Walk.{weightsOf, noHigh, Tells, dutyCost, nightWith, dayWith, NightDay, DayDay, Filled}
 use Rattle.penalty.proofs.ColumnLaws.{zeros, night-after, free-after, day-after}
 use Rattle.penalty.proofs.CountLaws.{short-same, over-same, cost-both, cost-low}
 

@@ -1,22 +1,21 @@
 -- What is counted on columns is what the ward says: sums over 64 places are counts over the nurses.
-use mathlib.Core.Path.{_≡_, refl, sym, ap, ap₂, _∙_, subst}
-use mathlib.Core.Bool.{Bool, true, false, cond, _&&_}
+use mathlib.Core.Path.{_≡_, refl, ap, ap₂, _∙_}
+use mathlib.Core.Bool.{Bool}
 use mathlib.Core.List.{List}
-use Prim.Native.Nat.{ℕ, zero, suc, _+_, _-_, _*_, _≤_, _<_}
+use Prim.Native.Nat.{ℕ, _+_, _-_, _*_, _≤_, _<_}
 use native.Mathlib.Nat.{zero-mul, zero-add}
 use native.Mathlib.Omega.{arith}
 use lib.ListN.{length, getD}
-use Rattle.numbers.specs.Sum.{sumTo, countTo, Is}
-use Rattle.numbers.specs.Digits.{has, put}
+use Rattle.numbers.specs.Sum.{sumTo, Is}
+use Rattle.numbers.specs.Digits.{has}
 use Rattle.numbers.proofs.SumLaws.{sum-ext, sum-add, sum-none, loop-start, loop-turn}
 use Rattle.ward.specs.Fields.{Accepted, nurses, days, groups, weight, masks, needs, need, low, high}
-use Rattle.penalty.specs.declared.Penalty.{Penalty}
 use Rattle.penalty.specs.declared.columns.Columns.{Columns}
 use Rattle.penalty.specs.declared.duty.Weights.{Weights}
 use Rattle.penalty.specs.declared.duty.Duty.{Duty}
-use Rattle.penalty.specs.Penalty.{Slot, Parts, partsOf, onDuty, members, shortOn, overOn, unplacedIn, atNight, free, atDay, nightParts, dayParts}
+use Rattle.penalty.specs.Penalty.{Slot, Bounded, partsOf, onDuty, members, shortOn, overOn, unplacedIn, atNight, free, atDay, nightParts, dayParts}
 use Rattle.penalty.specs.Columns.{Same, ShowsNight, ShowsDay}
-use Rattle.penalty.specs.Walk.{weightsOf, noHigh, Counts, Bounded, membersIn, needTerm, lowTerm, highTerm, groupTerm, dutyShort, dutyOver, dutyCost, shortIn, overIn, NightParts, DayParts, nightShortAt, nightOverAt, dayShortAt, dayOverAt}
+use Rattle.penalty.specs.Walk.{weightsOf, noHigh, Counts, membersIn, needTerm, lowTerm, highTerm, groupTerm, dutyShort, dutyOver, dutyCost, shortIn, overIn, NightParts, DayParts, nightShortAt, nightOverAt, dayShortAt, dayOverAt}
 use Rattle.penalty.proofs.FieldLaws.{length-masks}
 use Rattle.penalty.proofs.ColumnLaws.{count-same, all-same}
 

@@ -1,20 +1,20 @@
 -- One duty of one day: its terms' bounds, and what the loops over the groups add up.
 use mathlib.Core.Path.{_≡_, refl, sym, ap, ap₂, _∙_}
-use mathlib.Core.Bool.{Bool, true, false, cond, _&&_}
+use mathlib.Core.Bool.{Bool, true, false, _&&_}
 use mathlib.Core.List.{List}
-use Prim.Native.Nat.{ℕ, zero, suc, _+_, _-_, _*_, _≤_, _<_}
+use Prim.Native.Nat.{ℕ, _+_, _-_, _*_, _≤_, _<_}
 use native.Mathlib.Nat.{mul-le-mul, zero-add}
 use native.Mathlib.Omega.{arith}
 use lib.ListN.{length, getD}
 use Rattle.numbers.specs.Sum.{sumTo, countTo, oneIf, Is}
 use Rattle.numbers.specs.Digits.{has, put}
-use Rattle.numbers.proofs.SumLaws.{loop-start, loop-turn, loop-end}
+use Rattle.numbers.proofs.SumLaws.{loop-start, loop-turn}
 use Rattle.numbers.proofs.DigitLaws.{count-put, count-put-all}
 use Rattle.ward.specs.Fields.{need, low, high}
 use Rattle.penalty.specs.declared.duty.Weights.{Weights}
 use Rattle.penalty.specs.declared.duty.Duty.{Duty}
 use Rattle.penalty.specs.declared.duty.Pair.{Pair}
-use Rattle.penalty.specs.Walk.{Light, Row, Counts, Tells, membersIn, needTerm, lowTerm, highTerm, groupTerm, dutyShort, dutyOver, dutyCost}
+use Rattle.penalty.specs.Walk.{Light, Counts, Tells, membersIn, needTerm, lowTerm, highTerm, groupTerm, dutyShort, dutyOver, dutyCost}
 
 -- products of small numbers
 pub w-le : {wt : Weights} {a : ℕ} → Light wt → a ≤ 48 → wt .w * a ≤ 4800

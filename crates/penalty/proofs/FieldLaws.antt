@@ -1,12 +1,12 @@
 -- What an accepted ward says of the numbers that the penalty reads: where they stand, and how large they are.
-use mathlib.Core.Path.{_≡_, refl, sym, ap, _∙_}
+use mathlib.Core.Path.{_≡_}
 use mathlib.Core.List.{List}
-use Prim.Native.Nat.{ℕ, zero, suc, _+_, _-_, _*_, _≤_, _<_}
+use Prim.Native.Nat.{ℕ, _+_, _-_, _*_, _≤_, _<_}
 use native.Mathlib.Nat.{mul-le-mul}
 use native.Mathlib.Omega.{arith}
-use lib.ListN.{length, getD, take, drop, length-take, length-drop}
+use lib.ListN.{length, drop, length-drop}
 use lib.Seq.{length-take-le}
-use Rattle.ward.specs.Fields.{Accepted, nurses, days, groups, weight, groupsAt, masks, needsAt, needsSize, needs}
+use Rattle.ward.specs.Fields.{Accepted, nurses, days, groups, groupsAt, masks, needsAt, needsSize, needs}
 use Rattle.penalty.specs.declared.duty.Weights.{Weights}
 use Rattle.penalty.specs.Walk.{weightsOf, noHigh, Light, Row}
 

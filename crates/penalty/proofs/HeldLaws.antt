@@ -1,14 +1,14 @@
 -- A penalty of zero means that nothing is broken, and nothing broken means a penalty of zero.
-use mathlib.Core.Path.{_≡_, refl, sym, ap, ap₂, _∙_}
-use mathlib.Core.Bool.{Bool, true, false, cond}
+use mathlib.Core.Path.{_≡_, refl, ap, _∙_}
+use mathlib.Core.Bool.{Bool, true, false}
 use mathlib.Core.List.{List}
-use Prim.Native.Nat.{ℕ, zero, suc, _+_, _-_, _*_, _≤_, _<_}
+use Prim.Native.Nat.{ℕ, _+_, _-_, _*_, _≤_, _<_}
 use native.Mathlib.Nat.{mul-le-mul, le-refl, mul-zero}
 use native.Mathlib.Omega.{arith}
-use Rattle.numbers.specs.Sum.{sumTo, countTo, oneIf}
+use Rattle.numbers.specs.Sum.{sumTo, oneIf}
 use Rattle.numbers.proofs.SumLaws.{sum-none, sum-none-at}
 use Rattle.ward.specs.Fields.{Accepted, nurses, days, groups, weight, needs, need, low, high}
-use Rattle.penalty.specs.Penalty.{Slot, Parts, rest, total, isNone, onDuty, members, shortOn, overOn, unplacedIn, atNight, free, atDay, nightParts, nightPenalty, dayParts, dayPenalty}
+use Rattle.penalty.specs.Penalty.{Slot, isNone, onDuty, members, shortOn, overOn, unplacedIn, atNight, free, atDay, nightParts, nightPenalty, dayParts, dayPenalty}
 use Rattle.penalty.specs.Held.{LowsHeld, HighsHeld, AllPlaced, NightHeld, DayHeld}
 
 -- a weight is not zero

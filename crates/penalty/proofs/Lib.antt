@@ -5,3 +5,4 @@ pub mod CountLaws
 pub mod CostLaws
 pub mod BoundLaws
 pub mod HeldLaws
+pub mod ChunkLaws

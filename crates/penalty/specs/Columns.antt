@@ -1,14 +1,14 @@
 -- A day's column: nurse i as bit i, from 0. The columns show a choice of slots when each bit says whether the nurse counts.
 use mathlib.Core.Path.{_≡_}
-use mathlib.Core.Bool.{Bool, true, false}
+use mathlib.Core.Bool.{Bool, false}
 use mathlib.Core.List.{List}
-use Prim.Native.Nat.{ℕ, zero, suc, _+_, _≤_, _<_}
-use lib.ListN.{length, getD}
+use Prim.Native.Nat.{ℕ, suc, _≤_, _<_}
+use lib.ListN.{getD}
 use Rattle.numbers.specs.Digits.{has, put}
 use Rattle.ward.specs.Fields.{nurses, days, block}
 use Rattle.rows.specs.Rows.{availableOn}
 use Rattle.penalty.specs.declared.columns.Columns.{Columns}
-use Rattle.penalty.specs.Penalty.{Slot, startsIn, atNight, free, atDay}
+use Rattle.penalty.specs.Penalty.{Slot, atNight, free, atDay}
 
 -- f is `on` below m, and false from m on
 pub record Same (m : ℕ) (f on : ℕ → Bool) : Type 0 where

@@ -1,19 +1,15 @@
 -- A nurse's table: what each day costs with her at night, available, or neither, all others as they are.
 use mathlib.Core.Path.{_≡_}
-use mathlib.Core.Bool.{Bool, true, false, cond}
+use mathlib.Core.Bool.{cond}
 use mathlib.Core.List.{List}
-use Prim.Native.Nat.{ℕ, zero, suc, _+_, _*_, _/_, _%_, _≤_, _<_}
-use lib.ListN.{length, getD}
+use Prim.Native.Nat.{ℕ, _+_, _*_, _/_, _%_, _≤_, _<_}
+use lib.ListN.{getD}
 use Rattle.numbers.specs.Sum.{sumTo, Is}
 use Rattle.numbers.specs.Digits.{has}
 use Rattle.ward.specs.Fields.{days}
 use Rattle.penalty.specs.declared.costs.Costs.{Costs}
-use Rattle.penalty.specs.Penalty.{Slot, Parts, rest, exchanged, nightParts, dayParts}
+use Rattle.penalty.specs.Penalty.{Slot, rest, exchanged, nightParts, dayParts}
 use Rattle.penalty.specs.Columns.{Frees}
-
--- day d + j in the state that bit j of two sets says
-abbrev pub stateAt : Costs → ℕ → ℕ → ℕ → ℕ → ℕ
-stateAt c d nights free j = cond (has nights j) (getD (c .night) (d + j) 0) (cond (has free j) (getD (c .free) (d + j) 0) (getD (c .none) (d + j) 0))
 
 -- a day of a trial: N if in nights, else available if in free, else neither
 unfoldable pub trialAt : Costs → ℕ → ℕ → ℕ → ℕ
@@ -39,12 +35,23 @@ pub record TrialsNight (w : List ℕ) (slots : ℕ → Slot) (i : ℕ) (c : Cost
 pub record TrialsDay (w : List ℕ) (slots : ℕ → Slot) (i : ℕ) (c : Costs) : Type 0 where
   pub afresh : (q : ℕ) → trialOf c (days w) 0 q ≡ rest (dayParts w (exchanged slots i q))
 
--- ---- sums over three days
+-- ---- sums over three days at a time
 
--- the three days from 3 * b on, in the states that two sets of three say: nights from bit 3, free from bit 0 of e
-unfoldable pub chunkAt : Costs → ℕ → ℕ
-chunkAt c e = stateAt c (3 * (e / 64)) (e / 8 % 8) (e % 8) 0 + stateAt c (3 * (e / 64)) (e / 8 % 8) (e % 8) 1 + stateAt c (3 * (e / 64)) (e / 8 % 8) (e % 8) 2
+-- day d in the state that bit j of two sets says
+abbrev pub stateAt : Costs → ℕ → ℕ → ℕ → ℕ → ℕ
+stateAt c nights free j d = cond (has nights j) (getD (c .night) d 0) (cond (has free j) (getD (c .free) d 0) (getD (c .none) d 0))
 
+-- the three days from 3 * b on, by two sets of three
+unfoldable pub chunkOf : Costs → ℕ → ℕ → ℕ → ℕ
+chunkOf c b nights free = stateAt c nights free 0 (3 * b) + stateAt c nights free 1 (3 * b + 1) + stateAt c nights free 2 (3 * b + 2)
+
+-- their place in the list of all of them
+abbrev pub chunkPlace : ℕ → ℕ → ℕ → ℕ
+chunkPlace b nights free = 64 * b + 8 * nights + free
+
+-- the list t holds them all: place e is that of e / 64, e / 8 % 8 and e % 8
 pub record Chunks (c : Costs) (t : List ℕ) : Type 0 where
-  pub long : length t ≡ 704
-  pub chunk : (e : ℕ) → e < 704 → Is (getD t e 0) (chunkAt c e) 1113600
+  pub chunk : (e : ℕ) → e < 704 → Is (getD t e 0) (chunkOf c (e / 64) (e / 8 % 8) (e % 8)) 1113600
+
+pub record ChunksSmall (t : List ℕ) : Type 0 where
+  pub small : (e : ℕ) → e < 704 → getD t e 0 ≤ 1113600

@@ -1,11 +1,11 @@
 -- The penalty: what is short of the needs and lows, what is above the highs, and the nurses not yet placed.
 -- Nurses, groups and days count from 0 here; k is 0 for night and 1 for day.
-use mathlib.Core.Bool.{Bool, true, false, cond, not, _&&_}
-use mathlib.Core.List.{List, [], _∷_}
+use mathlib.Core.Bool.{Bool, true, false, cond, _&&_}
+use mathlib.Core.List.{List}
 use mathlib.Core.Option.{Option, none, some}
-use Prim.Native.Nat.{ℕ, zero, suc, _+_, _-_, _*_}
+use Prim.Native.Nat.{ℕ, suc, _+_, _-_, _*_, _≤_}
 use lib.Dec.{eqb}
-use lib.ListN.{length, getD}
+use lib.ListN.{getD}
 use Rattle.numbers.specs.Sum.{sumTo, countTo}
 use Rattle.numbers.specs.Digits.{has, numberOf}
 use Rattle.ward.specs.Fields.{nurses, days, groups, weight, block, masks, needs, need, low, high}
@@ -52,6 +52,12 @@ partsOf p = record { short = p .short; over = p .over; unplaced = p .unplaced }
 
 abbrev pub total : Parts → ℕ
 total x = x .short + x .over + unplacedCost * x .unplaced
+
+-- a penalty's bounds, from which its total fits
+pub record Bounded (p : Penalty) : Type 0 where
+  pub short-most : p .short ≤ 5059200
+  pub over-most : p .over ≤ 3224000
+  pub unplaced-most : p .unplaced ≤ 48
 
 -- without the unplaced
 abbrev pub rest : Parts → ℕ

@@ -2,12 +2,11 @@
 use mathlib.Core.Path.{_≡_}
 use mathlib.Core.Bool.{Bool, true, false, _&&_}
 use mathlib.Core.List.{List}
-use Prim.Native.Nat.{ℕ, zero, suc, _+_, _-_, _*_, _≤_, _<_}
+use Prim.Native.Nat.{ℕ, _+_, _-_, _*_, _≤_, _<_}
 use lib.ListN.{length, getD}
 use Rattle.numbers.specs.Sum.{sumTo, countTo, Is}
 use Rattle.numbers.specs.Digits.{has, put}
-use Rattle.ward.specs.Fields.{days, weight, masks, needs, need, low, high}
-use Rattle.penalty.specs.declared.Penalty.{Penalty}
+use Rattle.ward.specs.Fields.{weight, masks, needs, need, low, high}
 use Rattle.penalty.specs.declared.duty.Weights.{Weights}
 use Rattle.penalty.specs.declared.duty.Duty.{Duty}
 use Rattle.penalty.specs.declared.duty.Pair.{Pair}
@@ -95,12 +94,6 @@ dayShortAt w day d = shortIn w 1 d (has (getD day d 0))
 
 unfoldable pub dayOverAt : List ℕ → List ℕ → ℕ → ℕ
 dayOverAt w day d = overIn w 1 d (has (getD day d 0))
-
--- a penalty's bounds, from which its total fits
-pub record Bounded (p : Penalty) : Type 0 where
-  pub short-most : p .short ≤ 5059200
-  pub over-most : p .over ≤ 3224000
-  pub unplaced-most : p .unplaced ≤ 48
 
 -- ---- a nurse's table
 

@@ -1,6 +1,5 @@
 // The columns of a month: who counts at night and by day, nurse i as bit i.
-ghost use mathlib.Core.Path.{_≡_};
-ghost use Prim.Native.Nat.{ℕ, _<_, _≤_};
+ghost use Prim.Native.Nat.{_<_, _≤_};
 ghost use Rattle.penalty.specs.Columns.{Empty, NursePut};
 
 pub struct Columns {

@@ -1,9 +1,9 @@
 // The parts of an accepted ward that the penalty reads.
 use crate::duty::Weights;
 ghost use mathlib.Core.Path.{_≡_};
-ghost use Prim.Native.Nat.{ℕ, _<_, _≤_};
+ghost use Prim.Native.Nat.{_<_};
 ghost use Rattle.ward.specs.Fields.{Accepted, days, groupsAt, masks, needsAt, needs};
-ghost use Rattle.penalty.specs.Walk.{weightsOf, noHigh, Light};
+ghost use Rattle.penalty.specs.Walk.{weightsOf, noHigh};
 
 pub fn days(w: &[u64]) -> usize
     requires { ⌜ Accepted (now w) ⌝ }

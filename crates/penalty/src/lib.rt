@@ -1,7 +1,8 @@
 // The penalty of a choice of patterns: what is short, what is over, and who is unplaced.
+pub mod chunks;
 pub mod columns;
 pub mod costs;
-pub mod duty;
+mod duty;
 mod fields;
 
 use columns::Columns;
@@ -9,9 +10,9 @@ use duty::Duty;
 ghost use mathlib.Core.Path.{_≡_};
 ghost use Prim.Native.Nat.{ℕ, _<_, _≤_};
 ghost use Rattle.ward.specs.Fields.{Accepted, days};
-ghost use Rattle.penalty.specs.Penalty.{Slot, partsOf, total, unplacedIn, nightParts, dayParts};
+ghost use Rattle.penalty.specs.Penalty.{Slot, Bounded, partsOf, total, unplacedIn, nightParts, dayParts};
 ghost use Rattle.penalty.specs.Columns.{ShowsNight, ShowsDay};
-ghost use Rattle.penalty.specs.Walk.{Bounded, NightParts, DayParts};
+ghost use Rattle.penalty.specs.Walk.{NightParts, DayParts};
 
 pub struct Penalty {
     pub short: u64,
