@@ -1,3 +1,4 @@
 pub mod Letters
 pub mod Check
 pub mod Walk
+pub mod Written

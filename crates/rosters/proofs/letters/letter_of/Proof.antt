@@ -1,3 +1,5 @@
+use mathlib.Core.Path.{_≡_, refl}
+use Rattle.rosters.specs.Letters.{letter}
 use borrow.Author.Needs.{needs}
 use Rattle.rosters.proofs.letters.letter_of.Statement.{statement}
 use Rattle.rosters.proofs.letters.letter_of.Tie as tie
@@ -10,7 +12,8 @@ array-read-result c = search needs
 
 -- src/letters.rt:12:1
 returns : tie.Need-returns
-returns c = ?
+unfolding letter
+returns c = refl
 
 pub letter-of-spec : {M : Type 1} → statement M
 letter-of-spec = tie.close (tie.spec array-read-result returns)

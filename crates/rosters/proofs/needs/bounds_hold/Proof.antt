@@ -1,3 +1,4 @@
+use Rattle.rosters.specs.Walk.{boundsHold}
 use borrow.Author.Needs.{needs}
 use Rattle.rosters.proofs.needs.bounds_hold.Statement.{statement}
 use Rattle.rosters.proofs.needs.bounds_hold.Tie as tie
@@ -67,11 +68,11 @@ members-requires c κs = search needs
 
 -- src/needs.rt:27:1
 returns : tie.Need-returns
-returns c = ?
+returns c = search needs
 
 -- src/needs.rt:27:1
 returns-2 : tie.Need-returns-2
-returns-2 c = ?
+returns-2 c = search needs
 
 pub bounds-hold-spec : {M : Type 1} → statement M
 bounds-hold-spec =

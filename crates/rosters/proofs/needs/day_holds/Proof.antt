@@ -1,0 +1,25 @@
+use borrow.Author.Needs.{needs}
+use Rattle.rosters.proofs.needs.day_holds.Statement.{statement}
+use Rattle.rosters.proofs.needs.day_holds.Tie as tie
+use Rattle.rosters.proofs.needs.day_holds.Reads as reads
+use Rattle.rosters.proofs.needs.day_holds.Lts as lts
+use Rattle.rosters.proofs.needs.duty_holds.Reads as duty-holds-reads
+
+-- src/needs.rt:81:8
+duty-holds-requires : tie.Need-duty-holds-requires
+duty-holds-requires c κs = search needs
+
+-- src/needs.rt:82:9
+duty-holds-requires-2 : tie.Need-duty-holds-requires-2
+duty-holds-requires-2 c κs = search needs
+
+-- src/needs.rt:82:9
+returns : tie.Need-returns
+returns c = ?
+
+-- src/needs.rt:77:1
+returns-2 : tie.Need-returns-2
+returns-2 c = ?
+
+pub day-holds-spec : {M : Type 1} → statement M
+day-holds-spec = tie.close (tie.spec duty-holds-requires duty-holds-requires-2 returns returns-2)

@@ -1,0 +1,59 @@
+use Rattle.rosters.proofs.rows_of.rows_hold.Statement.{statement}
+use Rattle.rosters.proofs.rows_of.rows_hold.Tie as tie
+use Rattle.rosters.proofs.rows_of.rows_hold.Reads as reads
+use Rattle.rosters.proofs.rows_of.rows_hold.Lts as lts
+use Rattle.rosters.proofs.rows_of.row_holds.Reads as row-holds-reads
+use Rattle.ward.proofs.fields.nurses.Reads as nurses-reads
+
+abbrev Inv-loop : tie.InvT-loop
+Inv-loop w roster m i₀ i = ?
+
+abbrev μ-loop : tie.MeasureT-loop
+μ-loop w roster m i₀ i = ?
+
+-- src/rows_of.rt:68:9
+nurses-requires : tie.Need-nurses-requires Inv-loop μ-loop
+nurses-requires c κs = ?
+
+-- src/rows_of.rt:70:5
+loop-holds : tie.Need-loop-holds Inv-loop μ-loop
+loop-holds c = ?
+
+-- src/rows_of.rt:71:12
+row-holds-requires : tie.Need-row-holds-requires Inv-loop μ-loop
+row-holds-requires c κs = ?
+
+-- src/rows_of.rt:72:13
+add-i : tie.Need-add-i Inv-loop μ-loop
+add-i c = ?
+
+-- src/rows_of.rt:70:5
+loop-less : tie.Need-loop-less Inv-loop μ-loop
+loop-less c = ?
+
+-- src/rows_of.rt:70:5
+loop-again : tie.Need-loop-again Inv-loop μ-loop
+loop-again c = ?
+
+-- src/rows_of.rt:74:13
+returns : tie.Need-returns Inv-loop μ-loop
+returns c = ?
+
+-- src/rows_of.rt:64:1
+returns-2 : tie.Need-returns-2 Inv-loop μ-loop
+returns-2 c = ?
+
+pub rows-hold-spec : {M : Type 1} → statement M
+rows-hold-spec =
+    tie.close
+    (tie.spec
+    Inv-loop
+    μ-loop
+    nurses-requires
+    loop-holds
+    row-holds-requires
+    add-i
+    loop-less
+    loop-again
+    returns
+    returns-2)
