@@ -9,16 +9,55 @@ use lib.Dec.{leb}
 use lib.ListN.{length, getD}
 use Rattle.numbers.specs.Range.{upFrom, all}
 use Rattle.numbers.proofs.RangeLaws.{and-parts, range-all, range-each}
-use Rattle.ward.specs.Fields.{nurses, days, groups, block, needs, need, low, high}
+use Rattle.ward.specs.Fields.{Accepted, Block, nurses, days, groups, block, needs, need, low, high}
 use Rattle.nights.specs.Hers.{hersOf}
 use Rattle.days.specs.Days.{dayRuleOf}
 use Rattle.penalty.specs.Penalty.{onDuty, members}
 use Rattle.rosters.specs.Letters.{letter}
-use Rattle.rosters.specs.Check.{Follows, Holds, atDuty, lettersAt, sameRow, rowHolds, rowsHold, groupHolds, dutyHolds, dayHolds, daysHold, holds}
+use Rattle.rosters.specs.Check.{Follows, Holds, atDuty, lettersIn, lettersAt, sameRow, rowHolds, rowsHold, groupHolds, dutyHolds, dayHolds, daysHold, holds}
 use Rattle.rosters.proofs.RowLaws.{row-fits, hers-below, worked-below, worked-available, each-of-row, row-of-each, same-each, each-same, starts-read, worked-read}
 
 both : (a b : Bool) → a ≡ true → b ≡ true → (a && b) ≡ true
 both a b e f = rw (e, f)
+
+-- a row's test by its patterns
+row-is : (w roster : List ℕ) (i p q : ℕ) → p ≡ lettersAt w roster i (letter 2) → q ≡ lettersAt w roster i (letter 1)
+    → rowHolds w roster i ≡ (hersOf w i p && (dayRuleOf w i p q && sameRow (block w i) (days w) roster (i * days w) p q))
+unfolding rowHolds
+row-is w roster i p q ep eq = sym (ap₂ (λ (x y : ℕ). hersOf w i x && (dayRuleOf w i x y && sameRow (block w i) (days w) roster (i * days w) x y)) ep eq)
+
+-- as the code asks it, the days and the letters being n, N and `-`
+module _ (w roster : List ℕ) (i n : ℕ) {p q : ℕ} (en : n ≡ days w) (ep : p ≡ lettersIn roster (i * n) 78 n) (eq : q ≡ lettersIn roster (i * n) 45 n) where
+  asked : rowHolds w roster i ≡ (hersOf w i p && (dayRuleOf w i p q && sameRow (block w i) n roster (i * n) p q))
+  unfolding letter
+  asked =
+      row-is w roster i p q (ep ∙ ap (λ (k : ℕ). lettersIn roster (i * k) 78 k) en) (eq ∙ ap (λ (k : ℕ). lettersIn roster (i * k) 45 k) en)
+      ∙ ap (λ (k : ℕ). hersOf w i p && (dayRuleOf w i p q && sameRow (block w i) k roster (i * k) p q)) (sym en)
+
+  pub row-not-hers : hersOf w i p ≡ false → false ≡ rowHolds w roster i
+  row-not-hers h = sym (asked ∙ rw h)
+
+  pub row-no-days : hersOf w i p ≡ true → dayRuleOf w i p q ≡ false → false ≡ rowHolds w roster i
+  row-no-days h d = sym (asked ∙ rw (h, d))
+
+  pub row-compared : {b : List ℕ} {r : Bool} → hersOf w i p ≡ true → dayRuleOf w i p q ≡ true → b ≡ block w i → r ≡ sameRow b n roster (i * n) p q → r ≡ rowHolds w roster i
+  row-compared h d e s = s ∙ ap (λ (y : List ℕ). sameRow y n roster (i * n) p q) e ∙ sym (asked ∙ rw (h, d))
+
+-- what its parts ask: the row ends within the roster, and the block is hers
+pub row-ends : (w roster : List ℕ) (i : ℕ) {n : ℕ} → length roster ≡ nurses w * days w → i < nurses w → n ≡ days w → i * n + n ≤ length roster
+row-ends w roster i {n} l h e = rw e (omega (arith, row-fits (nurses w) (days w) i h))
+
+pub block-as : (w : List ℕ) (i : ℕ) {b : List ℕ} {n : ℕ} → Accepted w → i < nurses w → b ≡ block w i → n ≡ days w → Block b n
+block-as w i {b} {n} a h e en = subst (λ (x : List ℕ). Block x n) (sym e) (subst (λ (k : ℕ). Block (block w i) k) (sym en) (a .blocks i h))
+
+-- rows and days together
+pub rows-and-days : (w roster : List ℕ) {r : Bool} → rowsHold w roster ≡ true → r ≡ daysHold w roster → r ≡ holds w roster
+unfolding holds
+rows-and-days w roster e f = f ∙ rw e
+
+pub rows-fail : (w roster : List ℕ) → rowsHold w roster ≡ false → false ≡ holds w roster
+unfolding holds
+rows-fail w roster e = rw e
 
 module _ (w roster : List ℕ) (long : length roster ≡ nurses w * days w) where
   -- ---- rows
@@ -44,11 +83,7 @@ module _ (w roster : List ℕ) (long : length roster ≡ nurses w * days w) wher
   -- a row that follows from some patterns follows from those read off its letters
   row-read : (i p q : ℕ) → p ≡ lettersAt w roster i (letter 2) → q ≡ lettersAt w roster i (letter 1)
       → hersOf w i p ≡ true → dayRuleOf w i p q ≡ true → sameRow (block w i) (days w) roster (i * days w) p q ≡ true → rowHolds w roster i ≡ true
-  unfolding rowHolds
-  row-read i p q ep eq h d s =
-      subst (λ (x : ℕ). (hersOf w i x && (dayRuleOf w i x (lettersAt w roster i (letter 1)) && sameRow (block w i) (days w) roster (i * days w) x (lettersAt w roster i (letter 1)))) ≡ true) ep
-      (subst (λ (y : ℕ). (hersOf w i p && (dayRuleOf w i p y && sameRow (block w i) (days w) roster (i * days w) p y)) ≡ true) eq
-      (both _ _ h (both _ _ d s)))
+  row-read i p q ep eq h d s = row-is w roster i p q ep eq ∙ both _ _ h (both _ _ d s)
 
   pub row-complete : (i : ℕ) → i < nurses w → Follows w roster i → rowHolds w roster i ≡ true
   row-complete i h f =

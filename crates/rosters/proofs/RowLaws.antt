@@ -181,19 +181,23 @@ module _ (roster : List ℕ) (at c : ℕ) where
   read-start = sym (number-zero (λ e. eqb (getD roster (at + e) 0) c))
 
   module _ (d : ℕ) {x : ℕ} (e : x ≡ lettersIn roster at c d) where
-    pub read-more : {y : ℕ} → getD roster (at + d) 0 ≡ c → y ≡ 2 ^ d → x + y ≡ lettersIn roster at c (d + 1)
+    pub read-more : {y : ℕ} → y ≡ cond (eqb (getD roster (at + d) 0) c) (2 ^ d) 0 → x + y ≡ lettersIn roster at c (d + 1)
     unfolding lettersIn
-    read-more h p =
-        ap₂ (λ (a b : ℕ). a + b) e p
-        ∙ sym (number-suc (λ j. eqb (getD roster (at + j) 0) c) d ∙ rw (eq-eqb (getD roster (at + d) 0) c h))
+    read-more h = ap₂ (λ (a b : ℕ). a + b) e h ∙ sym (number-suc (λ j. eqb (getD roster (at + j) 0) c) d)
 
-    pub read-same : (getD roster (at + d) 0 ≡ c → ⊥) → x ≡ lettersIn roster at c (d + 1)
+    pub read-fits : {y : ℕ} → d < 31 → y ≡ cond (eqb (getD roster (at + d) 0) c) (2 ^ d) 0 → x + y < 4294967296
     unfolding lettersIn
-    read-same h = e ∙ sym (number-suc (λ j. eqb (getD roster (at + j) 0) c) d ∙ rw (ne-eqb (getD roster (at + d) 0) c h) (omega arith))
-
-    pub read-fits : {y : ℕ} → d < 31 → y ≡ 2 ^ d → x + y < 4294967296
-    unfolding lettersIn
-    read-fits h p =
+    read-fits {y} h p =
         let a : 2 ^ d < 2 ^ 31 = pow-lt h in
         let b : x < 2 ^ d = rw e (number-lt (λ j. eqb (getD roster (at + j) 0) c) d) in
+        let l : y ≤ 2 ^ d = rw p (at-most (eqb (getD roster (at + d) 0) c) (2 ^ d)) in
         omega arith
+      where
+        at-most : (b : Bool) (z : ℕ) → cond b z 0 ≤ z
+        at-most true z = omega arith
+        at-most false z = omega arith
+
+    pub read-end : {n : ℕ} → d ≤ n → n ≤ d → x ≡ lettersIn roster at c n
+    read-end {n} l g =
+        let same : d ≡ n = omega arith in
+        e ∙ ap (lettersIn roster at c) same

@@ -2,15 +2,17 @@
 use mathlib.Core.Path.{_≡_, refl, sym, ap, ap₂, _∙_}
 use mathlib.Core.List.{List, [], _∷_, _++_}
 use Prim.Native.Nat.{ℕ, zero, suc, _+_, _-_, _*_, _≤_, _<_}
-use native.Mathlib.Nat.{suc-mul, zero-mul}
+use native.Mathlib.Nat.{suc-mul, zero-mul, mul-le-mul}
 use native.Mathlib.Numerals.{add-one}
 use native.Mathlib.Omega.{arith}
 use lib.ListN.{length, getD, take, drop, set as setAt, replicate, length-append, length-replicate, replicate-append-replicate}
 use lib.Seq.{paste, paste-suc, take-at, drop-at, take-all, drop-append-add}
-use Rattle.ward.specs.Fields.{nurses, days, block}
+use Rattle.ward.specs.Fields.{Accepted, nurses, days, block}
 use Rattle.rows.specs.Rows.{dutyOn}
 use Rattle.rosters.specs.Letters.{letter, rowLettersOf, rowLetters, letters}
 use Rattle.rosters.proofs.RowLaws.{row-length, row-at, row-fits}
+use Rattle.rosters.specs.Written.{Written}
+use Rattle.rosters.specs.declared.written.Roster.{Roster}
 use Rattle.rosters.proofs.GivenLaws.{letters-length}
 
 -- ---- a row, put in over what stood at its places
@@ -75,3 +77,35 @@ module _ (w : List ℕ) (ps qs : ℕ → ℕ) where
   rows-end i e l g =
       let same : i ≡ nurses w = omega arith in
       e ∙ ap (λ (k : ℕ). letters w ps qs k ++ replicate (1488 - k * days w) 0) same
+
+-- ---- the loop over the nurses
+
+pub record WrittenTo (w : List ℕ) (ps qs : ℕ → ℕ) (i : ℕ) (r : Roster) : Type 0 where
+  pub rows-in : r .letters ≡ letters w ps qs i ++ replicate (1488 - i * days w) 0
+  pub count-is : r .count ≡ i * days w
+
+all-room : (w : List ℕ) → Accepted w → nurses w * days w ≤ 1488
+all-room w a = mul-le-mul (a .nurses-most) (a .days-most)
+
+module _ (w : List ℕ) (ps qs : ℕ → ℕ) where
+  pub written-start : (r : Roster) → r .letters ≡ replicate 1488 0 → r .count ≡ 0 → WrittenTo w ps qs 0 r
+  written-start r e c = record { rows-in = e ∙ rows-start w ps qs; count-is = c ∙ sym (zero-mul (days w)) }
+
+  module _ (i : ℕ) {r : Roster} (t : WrittenTo w ps qs i r) where
+    pub row-room : {n : ℕ} → Accepted w → i < nurses w → n ≡ days w → r .count + n ≤ 1488
+    row-room a h e = omega (arith, t .count-is, row-fits (nurses w) (days w) i h, all-room w a)
+
+    pub written-turn : (next : Roster) (b : List ℕ) (n : ℕ) → Accepted w → i < nurses w → b ≡ block w i → n ≡ days w
+        → next .letters ≡ paste (r .letters) (r .count) (rowLettersOf b n (ps i) (qs i)) n → next .count ≡ r .count + n → WrittenTo w ps qs (i + 1) next
+    written-turn next b n a h eb en l c = record {
+      rows-in = rows-turn w ps qs i (t .rows-in) h (all-room w a)
+          (l ∙ ap (λ (x : List ℕ). paste (r .letters) (r .count) (rowLettersOf x n (ps i) (qs i)) n) eb
+          ∙ ap (λ (k : ℕ). paste (r .letters) (r .count) (rowLettersOf (block w i) k (ps i) (qs i)) k) en
+          ∙ ap (λ (k : ℕ). paste (r .letters) k (rowLetters w i (ps i) (qs i)) (days w)) (t .count-is));
+      count-is = (let s : suc i * days w ≡ i * days w + days w = suc-mul i (days w) in rw (add-one i) (omega (arith, c, t .count-is, en, s)));
+    }
+
+    pub written-end : {m : ℕ} → m ≡ nurses w → i ≤ m → m ≤ i → Written w ps qs r
+    written-end e l g =
+        let same : i ≡ nurses w = omega arith in
+        record { given = rows-end w ps qs i (t .rows-in) (omega arith) (omega arith); counted = t .count-is ∙ ap (λ (k : ℕ). k * days w) same }

@@ -1,10 +1,21 @@
 // Whether each row of a roster follows from patterns.
 ghost use mathlib.Core.Path.{_≡_};
-ghost use mathlib.Core.Bool.{Bool, _&&_};
-ghost use Prim.Native.Nat.{ℕ, _+_, _*_, _<_, _≤_};
+ghost use mathlib.Core.Bool.{cond};
+ghost use Prim.Native.Nat.{ℕ, _+_, _*_, _^_, _<_, _≤_};
 ghost use lib.ListN.{length};
 ghost use Rattle.ward.specs.Fields.{Accepted, Block, nurses, days};
 ghost use Rattle.rosters.specs.Check.{lettersIn, sameRow, rowHolds, rowsHold};
+
+// The day's own set, or none.
+fn day_if(on: bool, d: u64) -> u32
+    requires { ⌜ d < 32 ⌝ }
+    ensures { λ r. ⌜ r ≡ cond on (2 ^ d) 0 ⌝ }
+{
+    if on {
+        return numbers::bit(d);
+    }
+    0
+}
 
 // The days with this letter in the row that begins at `at`.
 fn days_with(roster: &[u8], at: usize, n: u64, c: u8) -> u32
@@ -14,9 +25,7 @@ fn days_with(roster: &[u8], at: usize, n: u64, c: u8) -> u32
     let mut set: u32 = 0;
     let mut d: u64 = 0;
     while d < n {
-        if roster[at + d as usize] == c {
-            set = set + numbers::bit(d);
-        }
+        set = set + day_if(roster[at + d as usize] == c, d);
         d += 1;
     }
     set

@@ -1,3 +1,4 @@
+
 use mathlib.Core.Path.{_≡_, refl, sym, ap, _∙_}
 use borrow.Author.Tests.{eq-eqb, ne-eqb}
 use Rattle.rosters.specs.Letters.{isLetter}
@@ -9,23 +10,28 @@ use Rattle.rosters.proofs.letters.is_letter.Lts as lts
 
 -- src/letters.rt:20:1
 returns : tie.Need-returns
-returns c = search needs
+unfolding isLetter
+returns c = simp (eq-eqb _ _ (c .if1 .taken))
 
 -- src/letters.rt:20:1
 returns-2 : tie.Need-returns-2
-returns-2 c = search needs
+unfolding isLetter
+returns-2 c = simp (ne-eqb _ _ (c .before .if1 .left), eq-eqb _ _ (c .if2 .taken))
 
 -- src/letters.rt:20:1
 returns-3 : tie.Need-returns-3
-returns-3 c = search needs
+unfolding isLetter
+returns-3 c = simp (ne-eqb _ _ (c .before .before .if1 .left), ne-eqb _ _ (c .before .if2 .left), eq-eqb _ _ (c .if3 .taken))
 
 -- src/letters.rt:20:1
 returns-4 : tie.Need-returns-4
-returns-4 c = search needs
+unfolding isLetter
+returns-4 c = simp (ne-eqb _ _ (c .before .before .before .if1 .left), ne-eqb _ _ (c .before .before .if2 .left), ne-eqb _ _ (c .before .if3 .left), eq-eqb _ _ (c .if4 .taken))
 
 -- src/letters.rt:20:1
 returns-5 : tie.Need-returns-5
-returns-5 c = search needs
+unfolding isLetter
+returns-5 c = simp (ne-eqb _ _ (c .before .before .before .if1 .left), ne-eqb _ _ (c .before .before .if2 .left), ne-eqb _ _ (c .before .if3 .left), ne-eqb _ _ (c .if4 .left))
 
 pub is-letter-spec : {M : Type 1} → statement M
 is-letter-spec = tie.close (tie.spec returns returns-2 returns-3 returns-4 returns-5)

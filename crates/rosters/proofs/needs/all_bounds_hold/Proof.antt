@@ -22,7 +22,7 @@ abbrev μ-loop : tie.MeasureT-loop
 -- src/needs.rt:43:5
 loop-holds : tie.Need-loop-holds Inv-loop μ-loop
 unfolding allBoundsHold
-loop-holds c = (omega arith, all-start _ _)
+loop-holds c = (omega arith, all-start _ refl)
 
 -- src/needs.rt:44:12
 bounds-hold-requires : tie.Need-bounds-hold-requires Inv-loop μ-loop

@@ -1,3 +1,5 @@
+use mathlib.Core.Path.{_≡_, sym, _∙_}
+use borrow.Author.Tests.{le-leb, lt-leb}
 use Rattle.rosters.specs.Walk.{boundsHold}
 use borrow.Author.Needs.{needs}
 use Rattle.rosters.proofs.needs.bounds_hold.Statement.{statement}
@@ -68,11 +70,13 @@ members-requires c κs = search needs
 
 -- src/needs.rt:27:1
 returns : tie.Need-returns
-returns c = search needs
+unfolding boundsHold
+returns c = rw (← c .before .members .ensures .is) (simp (le-leb _ _ (c .if1 .taken)))
 
 -- src/needs.rt:27:1
 returns-2 : tie.Need-returns-2
-returns-2 c = search needs
+unfolding boundsHold
+returns-2 c = rw (← c .before .members .ensures .is) (simp (lt-leb _ _ (c .if1 .left)))
 
 pub bounds-hold-spec : {M : Type 1} → statement M
 bounds-hold-spec =

@@ -1,3 +1,5 @@
+
+use Rattle.rosters.proofs.NeedLaws.{column-end}
 use Prim.Native.Nat.{ℕ, _≤_, _-_, _*_}
 use mathlib.Core.Path.{_≡_, refl, sym, ap, _∙_}
 use native.Mathlib.Nat.{mul-le-mul}
@@ -27,15 +29,15 @@ loop-holds c = (omega arith, same-none _ _ refl)
 
 -- src/needs.rt:20:47
 mul-put-bit : tie.Need-mul-put-bit Inv-loop μ-loop
-mul-put-bit c = omega (arith, mul-le-mul (c .before .before .pre .0) (c .before .before .pre .1 .0))
+mul-put-bit c = let l : c .before .loop .i ≤ 48 = omega arith in omega (arith, mul-le-mul l (c .before .before .before .pre .1))
 
 -- src/needs.rt:20:47
 add-put-bit : tie.Need-add-put-bit Inv-loop μ-loop
-add-put-bit c = search needs
+add-put-bit c = omega (arith, in-row _ _ _ _ (c .loop-test .taken) (c .before .before .before .pre .2), mul-le-mul (c .before .before .before .pre .0) (c .before .before .before .pre .1))
 
 -- src/needs.rt:20:40
 shared-slice-read-put-bit : tie.Need-shared-slice-read-put-bit Inv-loop μ-loop
-shared-slice-read-put-bit c = search needs
+shared-slice-read-put-bit c = omega (arith, in-row _ _ _ _ (c .before .loop-test .taken) (c .before .before .before .before .pre .2), c .before .before .before .before .pre .3)
 
 -- src/needs.rt:20:9
 put-bit-requires : tie.Need-put-bit-requires Inv-loop μ-loop
@@ -56,7 +58,7 @@ loop-again c = (omega arith, same-more _ _ _ _ (c .before .before .before .loop 
 
 -- src/needs.rt:13:1
 returns : tie.Need-returns Inv-loop μ-loop
-returns c = search needs
+returns c = column-end (c .before .loop .inv .1) (c .before .loop .inv .0) (c .loop-test .left)
 
 pub column-spec : {M : Type 1} → statement M
 column-spec =
