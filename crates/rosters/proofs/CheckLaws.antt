@@ -1,12 +1,13 @@
 -- The test says yes exactly when the roster's rules hold: every row follows from patterns, and every day's needs, lows and highs hold.
-use mathlib.Core.Path.{_≡_, refl, sym, ap, ap₂, _∙_, subst}
+use mathlib.Core.Path.{_≡_, sym, ap, ap₂, _∙_, subst}
 use mathlib.Core.Bool.{Bool, true, false, _&&_}
 use mathlib.Core.List.{List}
+use mathlib.Core.Logic.{_↔_}
 use Prim.Native.Nat.{ℕ, zero, suc, _+_, _*_, _≤_, _<_}
 use native.Mathlib.Omega.{arith}
 use borrow.Author.Tests.{leb-true, le-leb}
 use lib.Dec.{leb}
-use lib.ListN.{length, getD}
+use lib.ListN.{length}
 use Rattle.numbers.specs.Range.{upFrom, all}
 use Rattle.numbers.proofs.RangeLaws.{and-parts, range-all, range-each}
 use Rattle.ward.specs.Fields.{Accepted, Block, nurses, days, groups, block, needs, need, low, high}
@@ -119,7 +120,7 @@ module _ (w roster : List ℕ) (long : length roster ≡ nurses w * days w) wher
   duty-sound k d e =
       let a = and-parts (leb (need (needs w d) k) (onDuty w (atDuty w roster k d))) (all (groupHolds w roster k d) (upFrom 0 (groups w))) e in
       let each : (g : ℕ) → g < groups w → (low (needs w d) k g ≤ members w (atDuty w roster k d) g) × (members w (atDuty w roster k d) g ≤ high (needs w d) k g) =
-          λ g h. group-sound k d g (range-each (groupHolds w roster k d) 0 (groups w) (a .1) g (omega arith) (omega arith)) in
+      λ g h. group-sound k d g (range-each (groupHolds w roster k d) 0 (groups w) (a .1) g (omega arith) (omega arith)) in
       record { need-met = leb-true _ _ (a .0); low-met = λ g h. each g h .0; high-met = λ g h. each g h .1 }
 
   duty-complete : (k d : ℕ) → Met k d → dutyHolds w roster k d ≡ true
@@ -161,3 +162,7 @@ module _ (w roster : List ℕ) (long : length roster ≡ nurses w * days w) wher
       both _ _
       (range-all (rowHolds w roster) 0 (nurses w) (λ i a h. (let l : i < nurses w = omega arith in row-complete i l (o .rows i l))))
       (range-all (dayHolds w roster) 0 (days w) (λ d a h. (let l : d < days w = omega arith in day-complete d (met o 0 d (omega arith) l) (met o 1 d (omega arith) l))))
+
+  -- yes exactly when every row follows from patterns and every day's needs, lows and highs hold
+  pub holds-exactly : (holds w roster ≡ true) ↔ Holds w roster
+  holds-exactly = (holds-sound, holds-complete)

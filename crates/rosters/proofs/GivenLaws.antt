@@ -1,5 +1,5 @@
 -- The roster that a day advance at penalty zero gives out: its length, its letters, and that the check says yes to it.
-use mathlib.Core.Path.{_≡_, refl, sym, ap, ap₂, _∙_, subst}
+use mathlib.Core.Path.{_≡_, refl, sym, ap, ap₂, _∙_}
 use mathlib.Core.Bool.{Bool, true, false, cond, _&&_}
 use mathlib.Core.List.{List, [], _∷_, _++_, map}
 use mathlib.Core.Option.{Option, none, some}
@@ -12,9 +12,8 @@ use lib.Dec.{eqb}
 use lib.ListN.{length, getD, length-append, List·getD-append}
 use lib.Seq.{getD-append-add}
 use Rattle.numbers.specs.Range.{upFrom, all}
-use Rattle.numbers.specs.Sum.{countTo, oneIf}
+use Rattle.numbers.specs.Sum.{oneIf}
 use Rattle.numbers.specs.Digits.{has}
-use Rattle.numbers.proofs.RangeLaws.{all-of, all-at}
 use Rattle.numbers.proofs.SumLaws.{sum-ext}
 use Rattle.ward.specs.Fields.{Accepted, nurses, days, groups, block, masks, needs, need, low, high}
 use Rattle.rows.specs.Rows.{dutyOn}
@@ -24,7 +23,7 @@ use Rattle.penalty.specs.Penalty.{Slot, onDuty, members, atNight, atDay, nightP
 use Rattle.penalty.specs.Held.{LowsHeld, HighsHeld, NightHeld, DayHeld}
 use Rattle.penalty.proofs.HeldLaws.{night-zero, day-zero}
 use Rattle.rosters.specs.Letters.{letter, rowLettersOf, rowLetters, letters, isLetter}
-use Rattle.rosters.specs.Check.{firstBad, orCount, misplaced, rowOf, Follows, dutyLetter, lettered, atDuty, Holds, holds}
+use Rattle.rosters.specs.Check.{firstBad, orCount, misplaced, Follows, lettered, atDuty, Holds, holds}
 use Rattle.rosters.proofs.RowLaws.{row-fits, in-row, row-length, row-at, duty-five, starts-letter, worked-letter, worked-available, row-of-each}
 use Rattle.rosters.proofs.CheckLaws.{holds-complete}
 

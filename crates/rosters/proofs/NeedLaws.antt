@@ -1,19 +1,18 @@
 -- The loops over nurses, groups and days that judge a roster's needs: counts over a column are counts over the nurses.
-use mathlib.Core.Path.{_≡_, refl, sym, ap, ap₂, _∙_, subst}
-use mathlib.Core.Bool.{Bool, true, false, cond, _&&_}
+use mathlib.Core.Path.{_≡_, ap, ap₂, _∙_, subst}
+use mathlib.Core.Bool.{Bool, true, false, _&&_}
 use mathlib.Core.List.{List}
-use Prim.Native.Nat.{ℕ, zero, suc, _+_, _-_, _*_, _≤_, _<_}
+use Prim.Native.Nat.{ℕ, _+_, _-_, _*_, _≤_, _<_}
 use native.Mathlib.Nat.{sub-zero}
 use native.Mathlib.Omega.{arith}
 use borrow.Author.Tests.{lt-leb, le-leb}
-use lib.Dec.{leb}
-use lib.ListN.{length, getD, take, drop, length-drop}
+use lib.ListN.{length, getD, drop, length-drop}
 use lib.Seq.{length-take-le}
 use Rattle.numbers.specs.Range.{upFrom, all}
 use Rattle.numbers.specs.Sum.{countTo, Is}
 use Rattle.numbers.specs.Digits.{has}
 use Rattle.numbers.proofs.AgreeLaws.{all-agree}
-use Rattle.ward.specs.Fields.{Accepted, nurses, days, groups, groupsAt, needsAt, masks, needs, need, low, high}
+use Rattle.ward.specs.Fields.{Accepted, nurses, days, groups, groupsAt, needsAt, masks, needs, need}
 use Rattle.penalty.specs.Penalty.{onDuty, members}
 use Rattle.penalty.specs.Columns.{Same}
 use Rattle.penalty.proofs.ColumnLaws.{count-same, all-same}

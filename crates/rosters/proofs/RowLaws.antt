@@ -1,7 +1,7 @@
 -- A row of letters: its length, each of its letters, and the patterns that are read off it.
 use mathlib.Core.Path.{_≡_, refl, sym, ap, ap₂, _∙_}
-use mathlib.Core.Bool.{Bool, true, false, cond, not, _&&_}
-use mathlib.Core.List.{List, [], _∷_, _++_, map}
+use mathlib.Core.Bool.{Bool, true, false, cond, not}
+use mathlib.Core.List.{List, [], _∷_, map}
 use Prim.Native.Nat.{ℕ, zero, suc, _+_, _-_, _*_, _^_, _≤_, _<_}
 use native.Mathlib.Nat.{mul-le-mul-right, suc-mul, sub-zero}
 use native.Mathlib.Numerals.{add-one, one-add}
@@ -9,19 +9,19 @@ use native.Mathlib.Omega.{arith}
 use borrow.Author.Tests.{ltb-true, eqb-true, eq-eqb, ne-eqb}
 use lib.Dec.{eqb, ltb}
 use lib.Pow.{pow-lt}
-use lib.ListN.{length, getD, take, drop, length-map, length-take, length-drop, List·getD-map}
+use lib.ListN.{length, getD, take, drop, length-map, length-drop, List·getD-map}
 use lib.Seq.{length-take-le, getD-take, getD-drop, ext-getD}
 use Rattle.numbers.specs.Range.{upFrom, all}
-use Rattle.numbers.specs.Digits.{has, numberOf}
+use Rattle.numbers.specs.Digits.{has}
 use Rattle.numbers.proofs.RangeLaws.{and-parts, length-range, range-at, range-all, range-each, all-more, all-stop, all-end}
 use Rattle.numbers.proofs.DigitLaws.{number-lt, number-zero, number-suc}
 use Rattle.numbers.proofs.SetLaws.{number-is}
-use Rattle.ward.specs.Fields.{nurses, days, block, markOn}
+use Rattle.ward.specs.Fields.{days, block, markOn}
 use Rattle.rows.specs.Rows.{started, rowState, stateAfter, availableOn, dutyOf, dutyOn}
 use Rattle.nights.specs.Hers.{hers, hersOf}
 use Rattle.days.specs.Days.{choice, dayRule, dayRuleOf}
 use Rattle.rosters.specs.Letters.{letter, rowLettersOf, isLetter}
-use Rattle.rosters.specs.Check.{lettersIn, sameRow, rowOf}
+use Rattle.rosters.specs.Check.{lettersIn, sameRow}
 use Rattle.rosters.proofs.LetterLaws.{five, night-letter, day-letter}
 
 -- row i of m rows of n letters ends within them

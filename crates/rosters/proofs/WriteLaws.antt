@@ -1,11 +1,11 @@
 -- The loops that write a roster: a row letter by letter, and the rows one after the other.
-use mathlib.Core.Path.{_≡_, refl, sym, ap, ap₂, _∙_}
-use mathlib.Core.List.{List, [], _∷_, _++_}
-use Prim.Native.Nat.{ℕ, zero, suc, _+_, _-_, _*_, _≤_, _<_}
+use mathlib.Core.Path.{_≡_, sym, ap, ap₂, _∙_}
+use mathlib.Core.List.{List, _++_}
+use Prim.Native.Nat.{ℕ, suc, _+_, _-_, _*_, _≤_, _<_}
 use native.Mathlib.Nat.{suc-mul, zero-mul, mul-le-mul}
 use native.Mathlib.Numerals.{add-one}
 use native.Mathlib.Omega.{arith}
-use lib.ListN.{length, getD, take, drop, set as setAt, replicate, length-append, length-replicate, replicate-append-replicate}
+use lib.ListN.{length, take, drop, set as setAt, replicate, length-replicate, replicate-append-replicate}
 use lib.Seq.{paste, paste-suc, take-at, drop-at, take-all, drop-append-add}
 use Rattle.ward.specs.Fields.{Accepted, nurses, days, block}
 use Rattle.rows.specs.Rows.{dutyOn}

@@ -2,3 +2,4 @@ pub mod Letters
 pub mod Check
 pub mod Walk
 pub mod Written
+pub mod Shown

@@ -1,26 +1,19 @@
+-- `roster_holds` meets its contract.
 use borrow.Author.Needs.{needs}
 use mathlib.Core.Path.{sym, _∙_}
 use Rattle.rosters.proofs.CheckLaws.{rows-and-days, rows-fail}
 use Rattle.rosters.proofs.roster_holds.Statement.{statement}
 use Rattle.rosters.proofs.roster_holds.Tie as tie
-use Rattle.rosters.proofs.roster_holds.Reads as reads
-use Rattle.rosters.proofs.roster_holds.Lts as lts
-use Rattle.rosters.proofs.needs.days_hold.Reads as days-hold-reads
-use Rattle.rosters.proofs.rows_of.rows_hold.Reads as rows-hold-reads
 
--- src/lib.rt:19:8
 rows-hold-requires : tie.Need-rows-hold-requires
 rows-hold-requires c κs = search needs
 
--- src/lib.rt:20:9
 days-hold-requires : tie.Need-days-hold-requires
 days-hold-requires c κs = search needs
 
--- src/lib.rt:20:9
 returns : tie.Need-returns
 returns c = rows-and-days (c .before .before .before .before .before .args .w .now) (c .before .before .before .before .before .args .roster .now) (sym (c .before .before .rows-hold .ensures) ∙ c .before .if1 .taken) (c .days-hold .ensures)
 
--- src/lib.rt:15:1
 returns-2 : tie.Need-returns-2
 returns-2 c = rows-fail (c .before .before .before .before .args .w .now) (c .before .before .before .before .args .roster .now) (sym (c .before .rows-hold .ensures) ∙ c .if1 .left)
 

@@ -1,16 +1,13 @@
-use mathlib.Core.Path.{_≡_, refl}
+-- `letters::letter_of` meets its contract: the table is the definition's list.
+use mathlib.Core.Path.{refl}
 use Rattle.rosters.specs.Letters.{letter}
 use borrow.Author.Needs.{needs}
 use Rattle.rosters.proofs.letters.letter_of.Statement.{statement}
 use Rattle.rosters.proofs.letters.letter_of.Tie as tie
-use Rattle.rosters.proofs.letters.letter_of.Reads as reads
-use Rattle.rosters.proofs.letters.letter_of.Lts as lts
 
--- src/letters.rt:16:5
 array-read-result : tie.Need-array-read-result
 array-read-result c = search needs
 
--- src/letters.rt:12:1
 returns : tie.Need-returns
 unfolding letter
 returns c = refl

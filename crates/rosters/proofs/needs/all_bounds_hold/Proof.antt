@@ -1,5 +1,6 @@
-use Prim.Native.Nat.{ℕ, _≤_, _-_}
-use mathlib.Core.Path.{_≡_, refl, sym, ap, _∙_}
+-- `needs::all_bounds_hold` meets its contract. The loop's invariant: the groups from g on decide.
+use Prim.Native.Nat.{_≤_, _-_}
+use mathlib.Core.Path.{_≡_, refl, sym, _∙_}
 use native.Mathlib.Omega.{arith}
 use lib.ListN.{length}
 use Rattle.numbers.specs.Range.{upFrom, all}
@@ -9,9 +10,6 @@ use Rattle.rosters.proofs.NeedLaws.{all-start}
 use borrow.Author.Needs.{needs}
 use Rattle.rosters.proofs.needs.all_bounds_hold.Statement.{statement}
 use Rattle.rosters.proofs.needs.all_bounds_hold.Tie as tie
-use Rattle.rosters.proofs.needs.all_bounds_hold.Reads as reads
-use Rattle.rosters.proofs.needs.all_bounds_hold.Lts as lts
-use Rattle.rosters.proofs.needs.bounds_hold.Reads as bounds-hold-reads
 
 abbrev Inv-loop : tie.InvT-loop
 Inv-loop masks row k col g₀ g = (g ≤ length masks) × (allBoundsHold masks row k col ≡ all (boundsHold masks row k col) (upFrom g (length masks - g)))
@@ -19,32 +17,25 @@ Inv-loop masks row k col g₀ g = (g ≤ length masks) × (allBoundsHold masks r
 abbrev μ-loop : tie.MeasureT-loop
 μ-loop masks row k col g₀ g = length masks - g
 
--- src/needs.rt:43:5
 loop-holds : tie.Need-loop-holds Inv-loop μ-loop
 unfolding allBoundsHold
 loop-holds c = (omega arith, all-start _ refl)
 
--- src/needs.rt:44:12
 bounds-hold-requires : tie.Need-bounds-hold-requires Inv-loop μ-loop
 bounds-hold-requires c κs = search needs
 
--- src/needs.rt:45:13
 add-g : tie.Need-add-g Inv-loop μ-loop
 add-g c = search needs
 
--- src/needs.rt:43:5
 loop-less : tie.Need-loop-less Inv-loop μ-loop
 loop-less c = search needs
 
--- src/needs.rt:43:5
 loop-again : tie.Need-loop-again Inv-loop μ-loop
 loop-again c = (omega arith, all-more _ _ _ (c .before .before .before .loop .inv .1) (c .before .before .loop-test .taken) (sym (c .before .bounds-hold .ensures) ∙ c .if1 .taken))
 
--- src/needs.rt:47:13
 returns : tie.Need-returns Inv-loop μ-loop
 returns c = all-stop _ _ _ (c .before .before .before .loop .inv .1) (c .before .before .loop-test .taken) (sym (c .before .bounds-hold .ensures) ∙ c .if1 .left)
 
--- src/needs.rt:38:1
 returns-2 : tie.Need-returns-2 Inv-loop μ-loop
 returns-2 c = all-end _ _ _ (c .before .loop .inv .1) (c .loop-test .left)
 

@@ -1,21 +1,18 @@
+-- `needs::column` meets its contract. The loop's invariant: the column has the first i nurses.
 
 use Rattle.rosters.proofs.NeedLaws.{column-end}
-use Prim.Native.Nat.{ℕ, _≤_, _-_, _*_}
-use mathlib.Core.Path.{_≡_, refl, sym, ap, _∙_}
+use Prim.Native.Nat.{_≤_, _-_}
+use mathlib.Core.Path.{refl}
 use native.Mathlib.Nat.{mul-le-mul}
 use native.Mathlib.Omega.{arith}
-use lib.ListN.{length}
 use Rattle.numbers.specs.Digits.{has}
 use Rattle.penalty.specs.Columns.{Same}
 use Rattle.penalty.proofs.ColumnLaws.{same-none, same-more}
 use Rattle.rosters.specs.Check.{lettered}
-use Rattle.rosters.proofs.RowLaws.{in-row, row-fits}
+use Rattle.rosters.proofs.RowLaws.{in-row}
 use borrow.Author.Needs.{needs}
 use Rattle.rosters.proofs.needs.column.Statement.{statement}
 use Rattle.rosters.proofs.needs.column.Tie as tie
-use Rattle.rosters.proofs.needs.column.Reads as reads
-use Rattle.rosters.proofs.needs.column.Lts as lts
-use Rattle.numbers.proofs.put_bit.Reads as put-bit-reads
 
 abbrev Inv-loop : tie.InvT-loop
 Inv-loop roster m n d c col₀ i₀ col i = (i ≤ m) × Same i (has col) (lettered roster n d c)
@@ -23,40 +20,31 @@ Inv-loop roster m n d c col₀ i₀ col i = (i ≤ m) × Same i (has col) (lette
 abbrev μ-loop : tie.MeasureT-loop
 μ-loop roster m n d c col₀ i₀ col i = m - i
 
--- src/needs.rt:19:5
 loop-holds : tie.Need-loop-holds Inv-loop μ-loop
 loop-holds c = (omega arith, same-none _ _ refl)
 
--- src/needs.rt:20:47
 mul-put-bit : tie.Need-mul-put-bit Inv-loop μ-loop
 mul-put-bit c = let l : c .before .loop .i ≤ 48 = omega arith in omega (arith, mul-le-mul l (c .before .before .before .pre .1))
 
--- src/needs.rt:20:47
 add-put-bit : tie.Need-add-put-bit Inv-loop μ-loop
 add-put-bit c = omega (arith, in-row _ _ _ _ (c .loop-test .taken) (c .before .before .before .pre .2), mul-le-mul (c .before .before .before .pre .0) (c .before .before .before .pre .1))
 
--- src/needs.rt:20:40
 shared-slice-read-put-bit : tie.Need-shared-slice-read-put-bit Inv-loop μ-loop
 shared-slice-read-put-bit c = omega (arith, in-row _ _ _ _ (c .before .loop-test .taken) (c .before .before .before .before .pre .2), c .before .before .before .before .pre .3)
 
--- src/needs.rt:20:9
 put-bit-requires : tie.Need-put-bit-requires Inv-loop μ-loop
 put-bit-requires c κs = search needs
 
--- src/needs.rt:21:9
 add-i : tie.Need-add-i Inv-loop μ-loop
 add-i c = search needs
 
--- src/needs.rt:19:5
 loop-less : tie.Need-loop-less Inv-loop μ-loop
 loop-less c = search needs
 
--- src/needs.rt:19:5
 loop-again : tie.Need-loop-again Inv-loop μ-loop
 unfolding lettered
 loop-again c = (omega arith, same-more _ _ _ _ (c .before .before .before .loop .inv .1) (c .put-bit .ensures))
 
--- src/needs.rt:13:1
 returns : tie.Need-returns Inv-loop μ-loop
 returns c = column-end (c .before .loop .inv .1) (c .before .loop .inv .0) (c .loop-test .left)
 

@@ -1,25 +1,19 @@
+-- `needs::day_holds` meets its contract.
 use mathlib.Core.Path.{sym, _∙_}
 use Rattle.rosters.proofs.NeedLaws.{both-duties, night-fails}
 use borrow.Author.Needs.{needs}
 use Rattle.rosters.proofs.needs.day_holds.Statement.{statement}
 use Rattle.rosters.proofs.needs.day_holds.Tie as tie
-use Rattle.rosters.proofs.needs.day_holds.Reads as reads
-use Rattle.rosters.proofs.needs.day_holds.Lts as lts
-use Rattle.rosters.proofs.needs.duty_holds.Reads as duty-holds-reads
 
--- src/needs.rt:81:8
 duty-holds-requires : tie.Need-duty-holds-requires
 duty-holds-requires c κs = search needs
 
--- src/needs.rt:82:9
 duty-holds-requires-2 : tie.Need-duty-holds-requires-2
 duty-holds-requires-2 c κs = search needs
 
--- src/needs.rt:82:9
 returns : tie.Need-returns
 returns c = both-duties (c .before .before .before .before .before .args .w .now) (c .before .before .before .before .before .args .roster .now) (c .before .before .before .before .before .args .d) (sym (c .before .before .duty-holds .ensures) ∙ c .before .if1 .taken) (c .duty-holds2 .ensures)
 
--- src/needs.rt:77:1
 returns-2 : tie.Need-returns-2
 returns-2 c = night-fails (c .before .before .before .before .args .w .now) (c .before .before .before .before .args .roster .now) (c .before .before .before .before .args .d) (sym (c .before .duty-holds .ensures) ∙ c .if1 .left)
 

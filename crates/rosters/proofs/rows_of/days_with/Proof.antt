@@ -1,14 +1,12 @@
+-- `rows_of::days_with` meets its contract. The loop's invariant: the set has the first d days' letters.
 use borrow.Author.Needs.{needs}
-use Prim.Native.Nat.{ℕ, _≤_, _<_, _-_}
-use mathlib.Core.Path.{_≡_, refl, sym, ap, _∙_}
+use Prim.Native.Nat.{_≤_, _<_, _-_}
+use mathlib.Core.Path.{_≡_}
 use native.Mathlib.Omega.{arith}
 use Rattle.rosters.specs.Check.{lettersIn}
 use Rattle.rosters.proofs.RowLaws.{read-start, read-more, read-fits, read-end}
 use Rattle.rosters.proofs.rows_of.days_with.Statement.{statement}
 use Rattle.rosters.proofs.rows_of.days_with.Tie as tie
-use Rattle.rosters.proofs.rows_of.days_with.Reads as reads
-use Rattle.rosters.proofs.rows_of.days_with.Lts as lts
-use Rattle.rosters.proofs.rows_of.day_if.Reads as day-if-reads
 
 abbrev Inv-loop : tie.InvT-loop
 Inv-loop roster at n c set₀ d₀ set d = (d ≤ n) × (set ≡ lettersIn roster at c d)
@@ -16,39 +14,30 @@ Inv-loop roster at n c set₀ d₀ set d = (d ≤ n) × (set ≡ lettersIn roste
 abbrev μ-loop : tie.MeasureT-loop
 μ-loop roster at n c set₀ d₀ set d = n - d
 
--- src/rows_of.rt:27:5
 loop-holds : tie.Need-loop-holds Inv-loop μ-loop
 loop-holds c = (omega arith, read-start _ _ _)
 
--- src/rows_of.rt:28:35
 add-day-if : tie.Need-add-day-if Inv-loop μ-loop
 add-day-if c = search needs
 
--- src/rows_of.rt:28:28
 shared-slice-read-day-if : tie.Need-shared-slice-read-day-if Inv-loop μ-loop
 shared-slice-read-day-if c = search needs
 
--- src/rows_of.rt:28:21
 day-if-requires : tie.Need-day-if-requires Inv-loop μ-loop
 day-if-requires c κs = search needs
 
--- src/rows_of.rt:28:15
 add-set : tie.Need-add-set Inv-loop μ-loop
 add-set c = let l : c .before .before .before .loop .d < 31 = omega arith in omega (arith, read-fits _ _ _ _ (c .before .before .before .loop .inv .1) l (c .day-if .ensures))
 
--- src/rows_of.rt:29:9
 add-d : tie.Need-add-d Inv-loop μ-loop
 add-d c = search needs
 
--- src/rows_of.rt:27:5
 loop-less : tie.Need-loop-less Inv-loop μ-loop
 loop-less c = search needs
 
--- src/rows_of.rt:27:5
 loop-again : tie.Need-loop-again Inv-loop μ-loop
 loop-again c = (omega arith, read-more _ _ _ _ (c .before .before .before .loop .inv .1) (c .day-if .ensures))
 
--- src/rows_of.rt:21:1
 returns : tie.Need-returns Inv-loop μ-loop
 returns c = read-end _ _ _ _ (c .before .loop .inv .1) (c .before .loop .inv .0) (c .loop-test .left)
 

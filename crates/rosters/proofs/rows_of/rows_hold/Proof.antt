@@ -1,5 +1,6 @@
+-- `rows_of::rows_hold` meets its contract. The loop's invariant: the nurses from i on decide.
 use borrow.Author.Needs.{needs}
-use Prim.Native.Nat.{ℕ, _≤_, _-_}
+use Prim.Native.Nat.{_≤_, _-_}
 use mathlib.Core.Path.{_≡_, sym, _∙_}
 use native.Mathlib.Omega.{arith}
 use Rattle.numbers.specs.Range.{upFrom, all}
@@ -8,10 +9,6 @@ use Rattle.rosters.specs.Check.{rowHolds, rowsHold}
 use Rattle.rosters.proofs.NeedLaws.{all-start}
 use Rattle.rosters.proofs.rows_of.rows_hold.Statement.{statement}
 use Rattle.rosters.proofs.rows_of.rows_hold.Tie as tie
-use Rattle.rosters.proofs.rows_of.rows_hold.Reads as reads
-use Rattle.rosters.proofs.rows_of.rows_hold.Lts as lts
-use Rattle.rosters.proofs.rows_of.row_holds.Reads as row-holds-reads
-use Rattle.ward.proofs.fields.nurses.Reads as nurses-reads
 
 abbrev Inv-loop : tie.InvT-loop
 Inv-loop w roster m i₀ i = (i ≤ m) × (rowsHold w roster ≡ all (rowHolds w roster) (upFrom i (m - i)))
@@ -19,36 +16,28 @@ Inv-loop w roster m i₀ i = (i ≤ m) × (rowsHold w roster ≡ all (rowHolds w
 abbrev μ-loop : tie.MeasureT-loop
 μ-loop w roster m i₀ i = m - i
 
--- src/rows_of.rt:68:9
 nurses-requires : tie.Need-nurses-requires Inv-loop μ-loop
 nurses-requires c κs = search needs
 
--- src/rows_of.rt:70:5
 loop-holds : tie.Need-loop-holds Inv-loop μ-loop
 unfolding rowsHold
 loop-holds c = (omega arith, all-start _ (c .nurses .ensures .0))
 
--- src/rows_of.rt:71:12
 row-holds-requires : tie.Need-row-holds-requires Inv-loop μ-loop
 row-holds-requires c κs = search needs
 
--- src/rows_of.rt:72:13
 add-i : tie.Need-add-i Inv-loop μ-loop
 add-i c = search needs
 
--- src/rows_of.rt:70:5
 loop-less : tie.Need-loop-less Inv-loop μ-loop
 loop-less c = search needs
 
--- src/rows_of.rt:70:5
 loop-again : tie.Need-loop-again Inv-loop μ-loop
 loop-again c = (omega arith, all-more _ _ _ (c .before .before .before .loop .inv .1) (c .before .before .loop-test .taken) (sym (c .before .row-holds .ensures) ∙ c .if1 .taken))
 
--- src/rows_of.rt:74:13
 returns : tie.Need-returns Inv-loop μ-loop
 returns c = all-stop _ _ _ (c .before .before .before .loop .inv .1) (c .before .before .loop-test .taken) (sym (c .before .row-holds .ensures) ∙ c .if1 .left)
 
--- src/rows_of.rt:64:1
 returns-2 : tie.Need-returns-2 Inv-loop μ-loop
 returns-2 c = all-end _ _ _ (c .before .loop .inv .1) (c .loop-test .left)
 

@@ -1,5 +1,6 @@
-use Prim.Native.Nat.{ℕ, _≤_, _-_}
-use mathlib.Core.Path.{_≡_, refl, sym, ap, _∙_}
+-- `rows_of::same_row` meets its contract. The loop's invariant: the days from d on decide, and `state` is the row's on the day before them.
+use Prim.Native.Nat.{_≤_, _-_}
+use mathlib.Core.Path.{_≡_, sym, _∙_}
 use native.Mathlib.Omega.{arith}
 use Rattle.rows.specs.Rows.{rowState}
 use Rattle.rows.proofs.RowLaws.{row-zero}
@@ -8,13 +9,6 @@ use Rattle.rosters.proofs.RowLaws.{rowFrom, row-start, row-more, row-st
 use borrow.Author.Needs.{needs}
 use Rattle.rosters.proofs.rows_of.same_row.Statement.{statement}
 use Rattle.rosters.proofs.rows_of.same_row.Tie as tie
-use Rattle.rosters.proofs.rows_of.same_row.Reads as reads
-use Rattle.rosters.proofs.rows_of.same_row.Lts as lts
-use Rattle.numbers.proofs.has_bit.Reads as has-bit-reads
-use Rattle.rosters.proofs.letters.letter_of.Reads as letter-of-reads
-use Rattle.rows.proofs.day_zero.Reads as day-zero-reads
-use Rattle.rows.proofs.duty_of.Reads as duty-of-reads
-use Rattle.rows.proofs.state_after.Reads as state-after-reads
 
 abbrev Inv-loop : tie.InvT-loop
 Inv-loop b n roster at p q state₀ d₀ state d = (d ≤ n) × (state ≡ rowState b p d) × (sameRow b n roster at p q ≡ rowFrom b n roster at p q d)
@@ -22,81 +16,63 @@ Inv-loop b n roster at p q state₀ d₀ state d = (d ≤ n) × (state ≡ rowSt
 abbrev μ-loop : tie.MeasureT-loop
 μ-loop b n roster at p q state₀ d₀ state d = n - d
 
--- src/rows_of.rt:30:36
 shared-slice-read-day-zero : tie.Need-shared-slice-read-day-zero Inv-loop μ-loop
 shared-slice-read-day-zero c = search needs
 
--- src/rows_of.rt:30:9
 day-zero-requires : tie.Need-day-zero-requires Inv-loop μ-loop
 day-zero-requires c κs = search needs
 
--- src/rows_of.rt:32:5
 loop-holds : tie.Need-loop-holds Inv-loop μ-loop
 loop-holds c = let s = c .before .before .before .before .args in (omega arith, c .day-zero .ensures .0 ∙ sym (row-zero (s .b .now) (s .p)), row-start _ _ _ _ _ _)
 
--- src/rows_of.rt:34:42
 has-bit-requires : tie.Need-has-bit-requires Inv-loop μ-loop
 has-bit-requires c κs = search needs
 
--- src/rows_of.rt:34:9
 state-after-requires : tie.Need-state-after-requires Inv-loop μ-loop
 state-after-requires c κs = search needs
 
--- src/rows_of.rt:35:36
 add-duty-of : tie.Need-add-duty-of Inv-loop μ-loop
 add-duty-of c = search needs
 
--- src/rows_of.rt:35:34
 mul-duty-of : tie.Need-mul-duty-of Inv-loop μ-loop
 mul-duty-of c = search needs
 
--- src/rows_of.rt:35:34
 shared-slice-read-duty-of : tie.Need-shared-slice-read-duty-of Inv-loop μ-loop
 shared-slice-read-duty-of c = search needs
 
--- src/rows_of.rt:35:52
 has-bit-requires-2 : tie.Need-has-bit-requires-2 Inv-loop μ-loop
 has-bit-requires-2 c κs = search needs
 
--- src/rows_of.rt:35:13
 duty-of-requires : tie.Need-duty-of-requires Inv-loop μ-loop
 duty-of-requires c κs = search needs
 
--- src/rows_of.rt:36:13
 letter-of-requires : tie.Need-letter-of-requires Inv-loop μ-loop
 letter-of-requires c κs = search needs
 
--- src/rows_of.rt:37:19
 add-if1 : tie.Need-add-if1 Inv-loop μ-loop
 add-if1 c = search needs
 
--- src/rows_of.rt:37:12
 shared-slice-read-if1 : tie.Need-shared-slice-read-if1 Inv-loop μ-loop
 shared-slice-read-if1 c = search needs
 
--- src/rows_of.rt:38:13
 add-d : tie.Need-add-d Inv-loop μ-loop
 add-d c = search needs
 
--- src/rows_of.rt:32:5
 loop-less : tie.Need-loop-less Inv-loop μ-loop
 loop-less c = search needs
 
--- src/rows_of.rt:32:5
 loop-again : tie.Need-loop-again Inv-loop μ-loop
 loop-again c = let s = c .before .before .before .before .before .before .before .before .before .before .before .before .before .before .args in
     let d = c .before .before .before .before .before .before .before .before .before .loop .d in
     let row = state-step (s .b .now) (s .p) d (c .before .before .before .before .before .before .before .before .before .loop .inv .1) (c .before .before .before .before .before .before .before .has-bit .ensures) (c .before .before .before .before .before .before .state-after .ensures .0) in
     (omega arith, row, row-more (s .b .now) (s .n) (s .roster .now) (s .at) (s .p) (s .q) d (c .before .before .before .before .before .before .before .before .before .loop .inv .2) (c .before .before .before .before .before .before .before .before .loop-test .taken) (duty-step (s .b .now) (s .p) (s .q) d row (c .before .before .before .before .has-bit2 .ensures) (c .before .before .before .duty-of .ensures .0)) (c .before .before .letter-of .ensures) (c .if1 .taken))
 
--- src/rows_of.rt:40:13
 returns : tie.Need-returns Inv-loop μ-loop
 returns c = let s = c .before .before .before .before .before .before .before .before .before .before .before .before .before .before .args in
     let d = c .before .before .before .before .before .before .before .before .before .loop .d in
     let row = state-step (s .b .now) (s .p) d (c .before .before .before .before .before .before .before .before .before .loop .inv .1) (c .before .before .before .before .before .before .before .has-bit .ensures) (c .before .before .before .before .before .before .state-after .ensures .0) in
     row-stop (s .b .now) (s .n) (s .roster .now) (s .at) (s .p) (s .q) d (c .before .before .before .before .before .before .before .before .before .loop .inv .2) (c .before .before .before .before .before .before .before .before .loop-test .taken) (duty-step (s .b .now) (s .p) (s .q) d row (c .before .before .before .before .has-bit2 .ensures) (c .before .before .before .duty-of .ensures .0)) (c .before .before .letter-of .ensures) (c .if1 .left)
 
--- src/rows_of.rt:26:1
 returns-2 : tie.Need-returns-2 Inv-loop μ-loop
 returns-2 c = let s = c .before .before .before .before .before .before .args in row-end (s .b .now) (s .n) (s .roster .now) (s .at) (s .p) (s .q) _ (c .before .loop .inv .2) (c .loop-test .left)
 

@@ -1,7 +1,8 @@
+-- `Roster::with_row` meets its contract. The loop's invariant: the first d letters of the row are in.
 
 use borrow.Author.Needs.{needs}
 use Rattle.rosters.specs.Letters.{letter, rowLettersOf}
-use Prim.Native.Nat.{ℕ, _≤_, _-_}
+use Prim.Native.Nat.{_≤_, _-_}
 use mathlib.Core.Path.{_≡_, refl, sym, ap, _∙_}
 use native.Mathlib.Omega.{arith}
 use lib.ListN.{length}
@@ -13,13 +14,6 @@ use Rattle.rosters.proofs.RowLaws.{state-step, duty-step}
 use Rattle.rosters.proofs.WriteLaws.{letter-put, row-put}
 use Rattle.rosters.proofs.written.Roster.with_row.Statement.{statement}
 use Rattle.rosters.proofs.written.Roster.with_row.Tie as tie
-use Rattle.rosters.proofs.written.Roster.with_row.Reads as reads
-use Rattle.rosters.proofs.written.Roster.with_row.Lts as lts
-use Rattle.numbers.proofs.has_bit.Reads as has-bit-reads
-use Rattle.rosters.proofs.letters.letter_of.Reads as letter-of-reads
-use Rattle.rows.proofs.day_zero.Reads as day-zero-reads
-use Rattle.rows.proofs.duty_of.Reads as duty-of-reads
-use Rattle.rows.proofs.state_after.Reads as state-after-reads
 
 abbrev Inv-loop : tie.InvT-loop
 Inv-loop b n p q next₀ at state₀ d₀ next state d = (d ≤ n) × (state ≡ rowState b p d) × (next .letters ≡ paste (next₀ .letters) at (rowLettersOf b n p q) d)
@@ -27,67 +21,51 @@ Inv-loop b n p q next₀ at state₀ d₀ next state d = (d ≤ n) × (state ≡
 abbrev μ-loop : tie.MeasureT-loop
 μ-loop b n p q next₀ at state₀ d₀ next state d = n - d
 
--- src/written.rt:24:40
 shared-slice-read-day-zero : tie.Need-shared-slice-read-day-zero Inv-loop μ-loop
 shared-slice-read-day-zero c = search needs
 
--- src/written.rt:24:13
 day-zero-requires : tie.Need-day-zero-requires Inv-loop μ-loop
 day-zero-requires c κs = search needs
 
--- src/written.rt:26:9
 loop-holds : tie.Need-loop-holds Inv-loop μ-loop
 loop-holds c = let s = c .before .before .before .args in (omega arith, c .day-zero .ensures .0 ∙ sym (row-zero (s .b .now) (s .p)), paste-zero (s .self .letters) (s .self .count) (rowLettersOf (s .b .now) (s .n) (s .p) (s .q)))
 
--- src/written.rt:27:46
 has-bit-requires : tie.Need-has-bit-requires Inv-loop μ-loop
 has-bit-requires c κs = search needs
 
--- src/written.rt:27:13
 state-after-requires : tie.Need-state-after-requires Inv-loop μ-loop
 state-after-requires c κs = search needs
 
--- src/written.rt:28:40
 add-duty-of : tie.Need-add-duty-of Inv-loop μ-loop
 add-duty-of c = search needs
 
--- src/written.rt:28:38
 mul-duty-of : tie.Need-mul-duty-of Inv-loop μ-loop
 mul-duty-of c = search needs
 
--- src/written.rt:28:38
 shared-slice-read-duty-of : tie.Need-shared-slice-read-duty-of Inv-loop μ-loop
 shared-slice-read-duty-of c = search needs
 
--- src/written.rt:28:56
 has-bit-requires-2 : tie.Need-has-bit-requires-2 Inv-loop μ-loop
 has-bit-requires-2 c κs = search needs
 
--- src/written.rt:28:17
 duty-of-requires : tie.Need-duty-of-requires Inv-loop μ-loop
 duty-of-requires c κs = search needs
 
--- src/written.rt:29:17
 letter-of-requires : tie.Need-letter-of-requires Inv-loop μ-loop
 letter-of-requires c κs = search needs
 
--- src/written.rt:30:26
 add-next : tie.Need-add-next Inv-loop μ-loop
 add-next c = search needs
 
--- src/written.rt:30:13
 element-write-next : tie.Need-element-write-next Inv-loop μ-loop
 element-write-next c = search needs
 
--- src/written.rt:31:13
 add-d : tie.Need-add-d Inv-loop μ-loop
 add-d c = search needs
 
--- src/written.rt:26:9
 loop-less : tie.Need-loop-less Inv-loop μ-loop
 loop-less c = search needs
 
--- src/written.rt:26:9
 loop-again : tie.Need-loop-again Inv-loop μ-loop
 loop-again c = let s = c .before .before .before .before .before .before .before .before .before .before .before .args in
     let d = c .before .before .before .before .before .before .before .loop .d in
@@ -96,11 +74,9 @@ loop-again c = let s = c .before .before .before .before .before .before .before
     let duty = duty-step (s .b .now) (s .p) (s .q) d row (c .before .before .has-bit2 .ensures) (c .before .duty-of .ensures .0) in
     (omega arith, row, letter-put (s .self .letters) (s .self .count) (s .b .now) (s .n) (s .p) (s .q) d (c .before .before .before .before .before .before .before .loop .inv .2) long (c .before .before .before .before .before .before .before .before .before .before .before .pre .2) (c .before .before .before .before .before .before .loop-test .taken) (c .letter-of .ensures ∙ ap letter duty))
 
--- src/written.rt:33:22
 add-next-2 : tie.Need-add-next-2 Inv-loop μ-loop
 add-next-2 c = search needs
 
--- src/written.rt:18:5
 returns : tie.Need-returns Inv-loop μ-loop
 returns c = let s = c .before .before .before .before .before .args in
     (row-put (s .self .letters) (s .self .count) (s .b .now) (s .n) (s .p) (s .q) (c .before .loop .d) (c .before .loop .inv .2) (c .before .loop .inv .0) (c .loop-test .left), refl)
