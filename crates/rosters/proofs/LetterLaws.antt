@@ -6,7 +6,7 @@ use mathlib.Core.Option.{Option, none, some}
 use Prim.Native.Nat.{ℕ, suc, _+_, _≤_, _<_}
 use native.Mathlib.Numerals.{add-one}
 use native.Mathlib.Omega.{arith}
-use borrow.Author.Tests.{eq-eqb, ne-eqb}
+use borrow.Author.Tests.{eqb-true, eq-eqb, ne-eqb}
 use lib.Dec.{eqb}
 use lib.ListN.{length, getD, drop, drop-of-length-le}
 use lib.Seq.{drop-cons}
@@ -80,6 +80,19 @@ module _ (size : ℕ) (r : List ℕ) {b : ℕ} (e : b ≡ badFrom 0 r) where
       let q : firstBad 0 r ≡ none = bad-none 0 r (omega arith) in
       let t : b ≡ length r = omega (arith, bad-most 0 r) in
       ap some t ∙ sym (ap (λ (f : Option ℕ). orCount f (length r) size) q ∙ ap (λ (x : Bool). cond x none (some (length r))) (ne-eqb (length r) size (λ u. s (t ∙ u))))
+
+-- letters that question 12 lets through are as many as it asks
+no-place : (f : Option ℕ) (count size : ℕ) → orCount f count size ≡ none → count ≡ size
+no-place (some at) count size e = let z : _≡_ {A = ℕ} 0 1 = cc in absurd (omega arith)
+no-place none count size e = go (eqb count size) refl e
+  where
+    go : (b : Bool) → eqb count size ≡ b → cond b none (some count) ≡ none → count ≡ size
+    go true q h = eqb-true count size q
+    go false q h = let z : _≡_ {A = ℕ} 0 1 = cc in absurd (omega arith)
+
+pub placed-long : (size : ℕ) (r : List ℕ) → misplaced size r ≡ none → length r ≡ size
+unfolding misplaced
+placed-long size r e = no-place (firstBad 0 r) (length r) size e
 
 -- ---- the letter of a duty
 
