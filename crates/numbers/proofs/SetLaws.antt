@@ -8,9 +8,9 @@ use lib.Arith.{lt-one}
 use lib.Bits.{bitAnd, bitOr}
 use lib.Dec.{eqb}
 use lib.Pow.{shr-lt}
-use borrow.Author.Tests.{eqb-false}
-use Rattle.numbers.specs.Digits.{bit, has}
-use Rattle.numbers.proofs.DigitLaws.{bit-lt, bit-zero, bit-suc, bit-and, bit-or, bit-not, bit-above}
+use borrow.Author.Tests.{eqb-true, eqb-false}
+use Rattle.numbers.specs.Digits.{bit, has, numberOf}
+use Rattle.numbers.proofs.DigitLaws.{bit-lt, bit-zero, bit-suc, bit-and, bit-or, bit-not, bit-above, number-lt, number-has}
 
 min-one : (a b : ℕ) → a < 2 → b < 2 → eqb (min a b) 1 ≡ (eqb a 1 && eqb b 1)
 min-one zero zero h k = refl
@@ -76,3 +76,30 @@ none-zero (suc k) x h f =
     let half : x / 2 < 2 ^ k = shr-lt k 1 (rw (add-one k) h) in
     let rest : x / 2 ≡ 0 = none-zero k (x / 2) half (λ j l. has-back x j ∙ f (suc j) (suc-le-suc l)) in
     omega (arith, no-odd x (f 0 (omega arith)))
+
+-- ---- a set is known by its members
+
+same-odd : (x y : ℕ) → has x 0 ≡ has y 0 → x % 2 ≡ y % 2
+same-odd x y e = go (has y 0) refl
+  where
+    low : (z : ℕ) (b : Bool) → has z 0 ≡ b → eqb (z % 2) 1 ≡ b
+    low z b q = ap (λ (v : ℕ). eqb v 1) (sym (bit-zero z)) ∙ q
+
+    go : (b : Bool) → has y 0 ≡ b → x % 2 ≡ y % 2
+    go true q = eqb-true (x % 2) 1 (low x true (e ∙ q)) ∙ sym (eqb-true (y % 2) 1 (low y true q))
+    go false q =
+        let f = eqb-false (x % 2) 1 (low x false (e ∙ q)) in
+        let g = eqb-false (y % 2) 1 (low y false q) in
+        omega (arith, f, g)
+
+pub members-same : (k x y : ℕ) → x < 2 ^ k → y < 2 ^ k → ((j : ℕ) → j < k → has x j ≡ has y j) → x ≡ y
+members-same zero x y h l e = lt-one h ∙ sym (lt-one l)
+members-same (suc k) x y h l e =
+    let halfx : x / 2 < 2 ^ k = shr-lt k 1 (rw (add-one k) h) in
+    let halfy : y / 2 < 2 ^ k = shr-lt k 1 (rw (add-one k) l) in
+    let rest : x / 2 ≡ y / 2 = members-same k (x / 2) (y / 2) halfx halfy (λ j m. has-back x j ∙ e (suc j) (suc-le-suc m) ∙ sym (has-back y j)) in
+    omega (arith, same-odd x y (e 0 (omega arith)))
+
+-- the number of the set of those that pass a test
+pub number-is : (t : ℕ → Bool) (n x : ℕ) → x < 2 ^ n → ((j : ℕ) → j < n → has x j ≡ t j) → x ≡ numberOf t n
+number-is t n x h e = members-same n x (numberOf t n) h (number-lt t n) (λ j l. e j l ∙ sym (number-has t n j l))

@@ -50,11 +50,11 @@ module _ (m : ℕ) (f on : ℕ → Bool) (s : Same m f on) where
   same-as on′ e = record { above = s .above; bits = λ i l. s .bits i l ∙ e i l }
 
 -- nobody yet
-same-none : (x : ℕ) (on : ℕ → Bool) → x ≡ 0 → Same 0 (has x) on
+pub same-none : (x : ℕ) (on : ℕ → Bool) → x ≡ 0 → Same 0 (has x) on
 same-none x on e = record { above = λ i l. rw (e, bit-of-zero i); bits = λ i l. absurd (not-suc-le-zero l) }
 
 -- nurse i too
-same-more : (i : ℕ) (f g on : ℕ → Bool) → Same i f on → g ≡ put f i (on i) → Same (i + 1) g on
+pub same-more : (i : ℕ) (f g on : ℕ → Bool) → Same i f on → g ≡ put f i (on i) → Same (i + 1) g on
 same-more i f g on s e = record {
   above = λ j l. ap (λ (h : ℕ → Bool). h j) e ∙ put-there f i (on i) j (λ q. omega arith) ∙ s .above j (omega arith);
   bits = λ j l. ap (λ (h : ℕ → Bool). h j) e ∙ ⊎-elim

@@ -1,0 +1,203 @@
+-- A row of letters: its length, each of its letters, and the patterns that are read off it.
+use mathlib.Core.Path.{_≡_, refl, sym, ap, ap₂, _∙_}
+use mathlib.Core.Bool.{Bool, true, false, cond, not}
+use mathlib.Core.List.{List, [], _∷_, map}
+use Prim.Native.Nat.{ℕ, zero, suc, _+_, _-_, _*_, _^_, _≤_, _<_}
+use native.Mathlib.Nat.{mul-le-mul-right, suc-mul, sub-zero}
+use native.Mathlib.Numerals.{add-one, one-add}
+use native.Mathlib.Omega.{arith}
+use borrow.Author.Tests.{ltb-true, eqb-true, eq-eqb, ne-eqb}
+use lib.Dec.{eqb, ltb}
+use lib.Pow.{pow-lt}
+use lib.ListN.{length, getD, take, drop, length-map, length-drop, List·getD-map}
+use lib.Seq.{length-take-le, getD-take, getD-drop, ext-getD}
+use Rattle.numbers.specs.Range.{upFrom, all}
+use Rattle.numbers.specs.Digits.{has}
+use Rattle.numbers.proofs.RangeLaws.{and-parts, length-range, range-at, range-all, range-each, all-more, all-stop, all-end}
+use Rattle.numbers.proofs.DigitLaws.{number-lt, number-zero, number-suc}
+use Rattle.numbers.proofs.SetLaws.{number-is}
+use Rattle.ward.specs.Fields.{days, block, markOn}
+use Rattle.rows.specs.Rows.{started, rowState, stateAfter, availableOn, dutyOf, dutyOn}
+use Rattle.nights.specs.Hers.{hers, hersOf}
+use Rattle.days.specs.Days.{choice, dayRule, dayRuleOf}
+use Rattle.rosters.specs.Letters.{letter, rowLettersOf, isLetter}
+use Rattle.rosters.specs.Check.{lettersIn, sameRow}
+use Rattle.rosters.proofs.LetterLaws.{five, night-letter, day-letter}
+
+-- row i of m rows of n letters ends within them
+pub row-fits : (m n i : ℕ) → i < m → i * n + n ≤ m * n
+row-fits m n i h = let most : suc i * n ≤ m * n = mul-le-mul-right n h in omega (arith, rw suc-mul at most)
+
+pub in-row : (m n i d : ℕ) → i < m → d < n → i * n + d < m * n
+in-row m n i d h l = omega (arith, row-fits m n i h)
+
+-- ---- the letters that patterns make
+
+module _ (b : List ℕ) (n p q : ℕ) where
+  pub row-length : length (rowLettersOf b n p q) ≡ n
+  unfolding rowLettersOf
+  row-length = length-map (upFrom 1 n) (λ d. letter (dutyOn b p q d)) ∙ length-range 1 n
+
+  pub row-at : (d : ℕ) → d < n → getD (rowLettersOf b n p q) d 0 ≡ letter (dutyOn b p q (suc d))
+  unfolding rowLettersOf
+  row-at d h =
+      let f : ℕ → ℕ = λ e. letter (dutyOn b p q e) in
+      getD-any (map f (upFrom 1 n)) d 0 (f 0) (rw (length-map (upFrom 1 n) f, length-range 1 n) h)
+      ∙ List·getD-map f (upFrom 1 n) d 0
+      ∙ ap f (range-at 1 n d h ∙ one-add d)
+    where
+      getD-any : (l : List ℕ) (j x y : ℕ) → j < length l → getD l j x ≡ getD l j y
+      getD-any [] j x y l = absurd (omega arith)
+      getD-any (z ∷ l) zero x y h = refl
+      getD-any (z ∷ l) (suc j) x y h = getD-any l j x y (omega arith)
+
+pub duty-five : (b : List ℕ) (p q d : ℕ) → isLetter (letter (dutyOn b p q d)) ≡ true
+unfolding dutyOn
+duty-five b p q d = five (markOn b d) (rowState b p d) (started q d)
+
+-- N exactly on the starts
+pub starts-letter : (b : List ℕ) (p q d : ℕ) → eqb (letter (dutyOn b p q (suc d))) (letter 2) ≡ has p d
+unfolding dutyOn rowState
+starts-letter b p q d = night-letter (markOn b (suc d)) (rowState b p d) (has p d) (has q d)
+
+-- `-` exactly on the worked days
+pub worked-letter : (b : List ℕ) (p q d : ℕ) → (has q d ≡ true → availableOn b p (suc d) ≡ true) → eqb (letter (dutyOn b p q (suc d))) (letter 1) ≡ has q d
+unfolding dutyOn rowState availableOn
+worked-letter b p q d h = day-letter (markOn b (suc d)) (rowState b p d) (has p d) (has q d) h
+
+-- ---- what a night pattern of hers and a day pattern over it are
+
+pub hers-below : (w : List ℕ) (i p : ℕ) → hersOf w i p ≡ true → p < 2 ^ days w
+unfolding hers
+hers-below w i p e = ltb-true p (2 ^ days w) (and-parts (ltb p (2 ^ days w)) _ e .0)
+
+choice-of : (w : List ℕ) (i p q : ℕ) → dayRuleOf w i p q ≡ true → choice (block w i) (days w) p q ≡ true
+unfolding dayRule
+choice-of w i p q e = and-parts (choice (block w i) (days w) p q) _ e .0
+
+pub worked-below : (w : List ℕ) (i p q : ℕ) → dayRuleOf w i p q ≡ true → q < 2 ^ days w
+unfolding choice
+worked-below w i p q e = ltb-true q (2 ^ days w) (and-parts (ltb q (2 ^ days w)) _ (choice-of w i p q e) .0)
+
+only-where : (s a b : Bool) → cond s a b ≡ true → s ≡ true → a ≡ true
+only-where true a b e h = e
+only-where false a b e h = let z : _≡_ {A = ℕ} 0 1 = cc in absurd (omega arith)
+
+pub worked-available : (w : List ℕ) (i p q d : ℕ) → dayRuleOf w i p q ≡ true → d < days w → has q d ≡ true → availableOn (block w i) p (suc d) ≡ true
+unfolding choice
+worked-available w i p q d e h =
+    let t : ℕ → Bool = λ x. cond (started q x) (availableOn (block w i) p x) (not (eqb (markOn (block w i) x) 2)) in
+    only-where (has q d) _ _ (range-each t 1 (days w) (and-parts (ltb q (2 ^ days w)) _ (choice-of w i p q e) .1) (suc d) (omega arith) (omega arith))
+
+-- ---- a row of a roster
+
+module _ (roster : List ℕ) (at n : ℕ) (fits : at + n ≤ length roster) where
+  pub part-length : length (take n (drop at roster)) ≡ n
+  part-length = length-take-le n (drop at roster) (rw (length-drop at roster) (omega arith))
+
+  pub part-at : (d : ℕ) → d < n → getD (take n (drop at roster)) d 0 ≡ getD roster (at + d) 0
+  part-at d h = getD-take n (drop at roster) d 0 h ∙ getD-drop at roster d 0
+
+  module _ (b : List ℕ) (p q : ℕ) where
+    -- the letters one by one
+    abbrev Each : Type 0
+    Each = (d : ℕ) → d < n → getD roster (at + d) 0 ≡ letter (dutyOn b p q (suc d))
+
+    pub each-of-row : take n (drop at roster) ≡ rowLettersOf b n p q → Each
+    each-of-row e d h = sym (part-at d h) ∙ ap (λ (l : List ℕ). getD l d 0) e ∙ row-at b n p q d h
+
+    pub row-of-each : Each → take n (drop at roster) ≡ rowLettersOf b n p q
+    row-of-each e =
+        ext-getD 0 (take n (drop at roster)) (rowLettersOf b n p q) (part-length ∙ sym (row-length b n p q))
+        (λ d h. (let l : d < n = rw part-length at h in part-at d l ∙ e d l ∙ sym (row-at b n p q d l)))
+
+    pub same-each : sameRow b n roster at p q ≡ true → Each
+    unfolding sameRow
+    same-each e d h =
+        eqb-true (getD roster (at + d) 0) (letter (dutyOn b p q (suc d)))
+        (range-each (λ x. eqb (getD roster (at + x) 0) (letter (dutyOn b p q (suc x)))) 0 n e d (omega arith) (omega arith))
+
+    pub each-same : Each → sameRow b n roster at p q ≡ true
+    unfolding sameRow
+    each-same e =
+        range-all (λ x. eqb (getD roster (at + x) 0) (letter (dutyOn b p q (suc x)))) 0 n
+        (λ d l h. (let m : d < n = omega arith in eq-eqb (getD roster (at + d) 0) (letter (dutyOn b p q (suc d))) (e d m)))
+
+    -- the patterns are the sets of its letters
+    pub starts-read : Each → p < 2 ^ n → p ≡ lettersIn roster at (letter 2) n
+    unfolding lettersIn
+    starts-read e l =
+        number-is (λ d. eqb (getD roster (at + d) 0) (letter 2)) n p l
+        (λ d h. sym (ap (λ (c : ℕ). eqb c (letter 2)) (e d h) ∙ starts-letter b p q d))
+
+    pub worked-read : Each → q < 2 ^ n → ((d : ℕ) → d < n → has q d ≡ true → availableOn b p (suc d) ≡ true) → q ≡ lettersIn roster at (letter 1) n
+    unfolding lettersIn
+    worked-read e l a =
+        number-is (λ d. eqb (getD roster (at + d) 0) (letter 1)) n q l
+        (λ d h. sym (ap (λ (c : ℕ). eqb c (letter 1)) (e d h) ∙ worked-letter b p q d (a d h)))
+
+-- ---- the loop that compares a row's letters with those of its patterns
+
+-- a turn of it: the state and the duty of the next day
+pub state-step : (b : List ℕ) (p d : ℕ) {before state : ℕ} {s : Bool} → before ≡ rowState b p d → s ≡ has p d → state ≡ stateAfter before s → state ≡ rowState b p (d + 1)
+unfolding rowState
+state-step b p d e s q = q ∙ ap₂ stateAfter e s ∙ rw (add-one d)
+
+pub duty-step : (b : List ℕ) (p q d : ℕ) {state duty : ℕ} {worked : Bool} → state ≡ rowState b p (d + 1) → worked ≡ has q d → duty ≡ dutyOf (getD b (11 + d) 0) state worked → duty ≡ dutyOn b p q (suc d)
+unfolding dutyOn
+duty-step b p q d e s x = x ∙ ap₂ (λ (y : ℕ) (z : Bool). dutyOf (getD b (11 + d) 0) y z) e s ∙ rw (add-one d)
+
+module _ (b : List ℕ) (n : ℕ) (roster : List ℕ) (at p q : ℕ) where
+  -- the days from d on
+  unfoldable pub rowFrom : ℕ → Bool
+  rowFrom d = all (λ e. eqb (getD roster (at + e) 0) (letter (dutyOn b p q (suc e)))) (upFrom d (n - d))
+
+  pub row-start : sameRow b n roster at p q ≡ rowFrom 0
+  unfolding sameRow rowFrom
+  row-start = rw (sub-zero n)
+
+  module _ (d : ℕ) {W : Bool} (w : W ≡ rowFrom d) where
+    pub row-more : {duty l : ℕ} → d < n → duty ≡ dutyOn b p q (suc d) → l ≡ letter duty → getD roster (at + d) 0 ≡ l → W ≡ rowFrom (d + 1)
+    unfolding rowFrom
+    row-more h u l e =
+        all-more (λ x. eqb (getD roster (at + x) 0) (letter (dutyOn b p q (suc x)))) n d w h
+        (eq-eqb (getD roster (at + d) 0) (letter (dutyOn b p q (suc d))) (e ∙ l ∙ ap letter u))
+
+    pub row-stop : {duty l : ℕ} → d < n → duty ≡ dutyOn b p q (suc d) → l ≡ letter duty → (getD roster (at + d) 0 ≡ l → ⊥) → false ≡ W
+    unfolding rowFrom
+    row-stop h u l e =
+        all-stop (λ x. eqb (getD roster (at + x) 0) (letter (dutyOn b p q (suc x)))) n d w h
+        (ne-eqb (getD roster (at + d) 0) (letter (dutyOn b p q (suc d))) (λ s. e (s ∙ sym (l ∙ ap letter u))))
+
+    pub row-end : n ≤ d → true ≡ W
+    unfolding rowFrom
+    row-end h = all-end (λ x. eqb (getD roster (at + x) 0) (letter (dutyOn b p q (suc x)))) n d w h
+
+-- ---- the loop that reads a pattern off
+
+module _ (roster : List ℕ) (at c : ℕ) where
+  pub read-start : 0 ≡ lettersIn roster at c 0
+  unfolding lettersIn
+  read-start = sym (number-zero (λ e. eqb (getD roster (at + e) 0) c))
+
+  module _ (d : ℕ) {x : ℕ} (e : x ≡ lettersIn roster at c d) where
+    pub read-more : {y : ℕ} → y ≡ cond (eqb (getD roster (at + d) 0) c) (2 ^ d) 0 → x + y ≡ lettersIn roster at c (d + 1)
+    unfolding lettersIn
+    read-more h = ap₂ (λ (a b : ℕ). a + b) e h ∙ sym (number-suc (λ j. eqb (getD roster (at + j) 0) c) d)
+
+    pub read-fits : {y : ℕ} → d < 31 → y ≡ cond (eqb (getD roster (at + d) 0) c) (2 ^ d) 0 → x + y < 4294967296
+    unfolding lettersIn
+    read-fits {y} h p =
+        let a : 2 ^ d < 2 ^ 31 = pow-lt h in
+        let b : x < 2 ^ d = rw e (number-lt (λ j. eqb (getD roster (at + j) 0) c) d) in
+        let l : y ≤ 2 ^ d = rw p (at-most (eqb (getD roster (at + d) 0) c) (2 ^ d)) in
+        omega arith
+      where
+        at-most : (b : Bool) (z : ℕ) → cond b z 0 ≤ z
+        at-most true z = omega arith
+        at-most false z = omega arith
+
+    pub read-end : {n : ℕ} → d ≤ n → n ≤ d → x ≡ lettersIn roster at c n
+    read-end {n} l g =
+        let same : d ≡ n = omega arith in
+        e ∙ ap (lettersIn roster at c) same

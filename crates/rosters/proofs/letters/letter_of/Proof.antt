@@ -1,0 +1,16 @@
+-- `letters::letter_of` meets its contract: the table is the definition's list.
+use mathlib.Core.Path.{refl}
+use Rattle.rosters.specs.Letters.{letter}
+use borrow.Author.Needs.{needs}
+use Rattle.rosters.proofs.letters.letter_of.Statement.{statement}
+use Rattle.rosters.proofs.letters.letter_of.Tie as tie
+
+array-read-result : tie.Need-array-read-result
+array-read-result c = search needs
+
+returns : tie.Need-returns
+unfolding letter
+returns c = refl
+
+pub letter-of-spec : {M : Type 1} → statement M
+letter-of-spec = tie.close (tie.spec array-read-result returns)

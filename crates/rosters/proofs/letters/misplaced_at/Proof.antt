@@ -1,0 +1,20 @@
+-- `letters::misplaced_at` meets its contract: a bad letter before the end, the right count, or the count.
+use Rattle.rosters.proofs.LetterLaws.{place-bad, place-none, place-count}
+use borrow.Author.Needs.{needs}
+use Rattle.rosters.proofs.letters.misplaced_at.Statement.{statement}
+use Rattle.rosters.proofs.letters.misplaced_at.Tie as tie
+
+first-bad-requires : tie.Need-first-bad-requires
+first-bad-requires c κs = search needs
+
+returns : tie.Need-returns
+returns c = place-bad (c .before .before .before .args .size) (c .before .before .before .args .roster .now) (c .before .first-bad .ensures) (c .if1 .taken)
+
+returns-2 : tie.Need-returns-2
+returns-2 c = place-none (c .before .before .before .before .args .size) (c .before .before .before .before .args .roster .now) (c .before .before .first-bad .ensures) (c .before .if1 .left) (c .if2 .taken)
+
+returns-3 : tie.Need-returns-3
+returns-3 c = place-count (c .before .before .before .before .args .size) (c .before .before .before .before .args .roster .now) (c .before .before .first-bad .ensures) (c .before .if1 .left) (c .if2 .left)
+
+pub misplaced-at-spec : {M : Type 1} → statement M
+misplaced-at-spec = tie.close (tie.spec first-bad-requires returns returns-2 returns-3)

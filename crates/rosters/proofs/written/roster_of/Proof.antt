@@ -1,0 +1,75 @@
+-- `written::roster_of` meets its contract. The loop's invariant: the first i nurses' rows are in.
+use borrow.Author.Needs.{needs}
+use Prim.Native.Nat.{_≤_, _-_}
+use mathlib.Core.Path.{refl}
+use native.Mathlib.Omega.{arith}
+use lib.ListN.{getD}
+use Rattle.rosters.proofs.CheckLaws.{block-as}
+use Rattle.rosters.proofs.WriteLaws.{WrittenTo, written-start, row-room, written-turn, written-end}
+use Rattle.rosters.proofs.written.roster_of.Statement.{statement}
+use Rattle.rosters.proofs.written.roster_of.Tie as tie
+
+abbrev Inv-loop : tie.InvT-loop
+Inv-loop w nights worked m n roster₀ i₀ roster i = (i ≤ m) × WrittenTo w (λ j. getD nights j 0) (λ j. getD worked j 0) i roster
+
+abbrev μ-loop : tie.MeasureT-loop
+μ-loop w nights worked m n roster₀ i₀ roster i = m - i
+
+nurses-requires : tie.Need-nurses-requires Inv-loop μ-loop
+nurses-requires c κs = search needs
+
+days-requires : tie.Need-days-requires Inv-loop μ-loop
+days-requires c κs = search needs
+
+loop-holds : tie.Need-loop-holds Inv-loop μ-loop
+loop-holds c = (omega arith, written-start _ _ _ _ refl refl)
+
+block-requires : tie.Need-block-requires Inv-loop μ-loop
+block-requires c κs = search needs
+
+mul-with-row : tie.Need-mul-with-row Inv-loop μ-loop
+mul-with-row c = search needs
+
+array-read-with-row : tie.Need-array-read-with-row Inv-loop μ-loop
+array-read-with-row c = search needs
+
+mul-with-row-2 : tie.Need-mul-with-row-2 Inv-loop μ-loop
+mul-with-row-2 c = search needs
+
+array-read-with-row-2 : tie.Need-array-read-with-row-2 Inv-loop μ-loop
+array-read-with-row-2 c = search needs
+
+with-row-requires : tie.Need-with-row-requires Inv-loop μ-loop
+with-row-requires c κs = (c .before .before .before .days .ensures .1, block-as (c .before .before .before .before .before .before .args .w .now) (c .before .before .loop .i) (c .before .before .before .before .before .before .pre) (search needs) (c .block .ensures) (c .before .before .before .days .ensures .0), row-room _ _ _ _ (c .before .before .loop .inv .1) (c .before .before .before .before .before .before .pre) (omega arith) (c .before .before .before .days .ensures .0))
+
+add-i : tie.Need-add-i Inv-loop μ-loop
+add-i c = search needs
+
+loop-less : tie.Need-loop-less Inv-loop μ-loop
+loop-less c = search needs
+
+loop-again : tie.Need-loop-again Inv-loop μ-loop
+loop-again c = (omega arith, written-turn _ _ _ _ (c .before .before .before .loop .inv .1) _ _ _ (c .before .before .before .before .before .before .before .pre) (omega arith) (c .before .block .ensures) (c .before .before .before .before .days .ensures .0) (c .with-row .ensures .0) (c .with-row .ensures .1))
+
+returns : tie.Need-returns Inv-loop μ-loop
+returns c = written-end _ _ _ _ (c .before .loop .inv .1) (c .before .before .before .nurses .ensures .0) (c .before .loop .inv .0) (c .loop-test .left)
+
+pub roster-of-spec : {M : Type 1} → statement M
+roster-of-spec =
+    tie.close
+    (tie.spec
+    Inv-loop
+    μ-loop
+    nurses-requires
+    days-requires
+    loop-holds
+    block-requires
+    mul-with-row
+    array-read-with-row
+    mul-with-row-2
+    array-read-with-row-2
+    with-row-requires
+    add-i
+    loop-less
+    loop-again
+    returns)

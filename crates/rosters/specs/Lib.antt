@@ -1,0 +1,5 @@
+pub mod Letters
+pub mod Check
+pub mod Walk
+pub mod Written
+pub mod Shown

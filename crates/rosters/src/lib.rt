@@ -1,0 +1,23 @@
+// The letters of a roster, and the roster check over an accepted ward.
+pub mod letters;
+mod needs;
+mod rows_of;
+pub mod written;
+
+ghost use mathlib.Core.Path.{_≡_};
+ghost use mathlib.Core.Bool.{Bool};
+ghost use Prim.Native.Nat.{_*_, _<_, _≤_};
+ghost use lib.ListN.{length};
+ghost use Rattle.ward.specs.Fields.{Accepted, nurses, days};
+ghost use Rattle.rosters.specs.Check.{holds};
+
+// Whether every row follows from patterns, and every day's needs, lows and highs hold.
+pub fn roster_holds(w: &[u64], roster: &[u8]) -> bool
+    requires { ⌜ Accepted (now w) × (length (now roster) ≡ nurses (now w) * days (now w)) ⌝ }
+    ensures { λ r. ⌜ r ≡ holds (now (w .entry)) (now (roster .entry)) ⌝ }
+{
+    if rows_of::rows_hold(w, roster) {
+        return needs::days_hold(w, roster);
+    }
+    false
+}

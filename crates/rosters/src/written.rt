@@ -1,0 +1,55 @@
+// The roster that a choice of patterns makes.
+ghost use mathlib.Core.Path.{_≡_};
+ghost use Prim.Native.Nat.{_+_, _≤_};
+ghost use lib.ListN.{getD};
+ghost use lib.Seq.{paste};
+ghost use Rattle.ward.specs.Fields.{Accepted, Block};
+ghost use Rattle.rosters.specs.Letters.{rowLettersOf};
+ghost use Rattle.rosters.specs.Written.{Written};
+
+// Its letters from the start, 0 after them, and how many there are.
+pub struct Roster {
+    pub letters: [u8; 1488],
+    pub count: usize,
+}
+
+impl Roster {
+    // With one row more, that of night pattern p and day pattern q.
+    fn with_row(self, b: &[u64], n: usize, p: u32, q: u32) -> Roster
+        requires { ⌜ (n ≤ 31) × Block (now b) n × (self .count + n ≤ 1488) ⌝ }
+        ensures { λ r. ⌜ (r .letters ≡ paste (self .letters) (self .count) (rowLettersOf (now (b .entry)) n p q) n) × (r .count ≡ self .count + n) ⌝ }
+    {
+        let mut next = self;
+        let at = next.count;
+        let mut state = rows::day_zero(b[6]);
+        let mut d: usize = 0;
+        while d < n {
+            state = rows::state_after(state, numbers::has_bit(p, d as u64));
+            let duty = rows::duty_of(b[11 + d], state, numbers::has_bit(q, d as u64));
+            let letter = crate::letters::letter_of(duty as usize);
+            next.letters[at + d] = letter;
+            d += 1;
+        }
+        next.count = at + n;
+        next
+    }
+}
+
+// The roster of everyone's night and day pattern.
+pub fn roster_of(w: &[u64], nights: [u32; 48], worked: [u32; 48]) -> Roster
+    requires { ⌜ Accepted (now w) ⌝ }
+    ensures { λ r. ⌜ Written (now (w .entry)) (λ i. getD nights i 0) (λ i. getD worked i 0) r ⌝ }
+{
+    let m = ward::fields::nurses(w);
+    let n = ward::fields::days(w);
+    let mut roster = Roster {
+        letters: [0; 1488],
+        count: 0,
+    };
+    let mut i: usize = 0;
+    while i < m {
+        roster = roster.with_row(ward::fields::block(w, i), n, nights[i], worked[i]);
+        i += 1;
+    }
+    roster
+}
