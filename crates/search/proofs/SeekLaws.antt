@@ -31,13 +31,14 @@ use Rattle.penalty.proofs.ColumnLaws.{night-none, night-more, day-none, day-mor
 use Rattle.penalty.proofs.BoundLaws.{night-split, day-split, unplaced-after}
 use Rattle.search.specs.Phase.{Phase, Step}
 use Rattle.search.specs.Record.{Record, mayTake, costAfter}
-use Rattle.search.specs.Stored.{slot, slotAt, view, viewOf}
-use Rattle.search.specs.Walk.{overList, costIn, bestOver, considered, improves}
+use Rattle.search.specs.Stored.{slot, slotAt, view, viewOf, Fits}
+use Rattle.search.specs.Walk.{overList, costIn, bestOver, considered, improves, exchangedIn, steppedOf}
 use Rattle.search.specs.Seek.{costOf, restOf, patternFor, Shown, tableTrial, DayTrials, NightTrials, Tables, Agree, stretch, triedBy, Lists, Seeks}
+use Rattle.search.proofs.AdvanceLaws.{takes-none, takes-some, takes-nurse}
 use Rattle.search.proofs.BestLaws.{turn-barred, turn-worse, turn-considered, over-keep, nurses-none, nurses-turn}
 use Rattle.search.specs.declared.Record.{Record as Stored}
 use Rattle.search.specs.declared.best.Best.{Best}
-use Rattle.search.specs.declared.best.Best.the-variants.{Nothing}
+use Rattle.search.specs.declared.best.Best.the-variants.{Nothing, Exchange}
 
 -- ---- a set of days, one day more
 
@@ -202,20 +203,20 @@ module _ (daily : Bool) (w : List ℕ) (cols : Columns) (i : ℕ) {c : Costs} {t
 
 -- ---- what nurse i tries
 
+pub view-agrees : (w : List ℕ) (r : Stored) (P : Phase) → P .nurses ≡ nurses w → Agree w r ((viewOf P r) .slots)
+unfolding Agree view
+view-agrees w r P e j h = rw (lt-ltb j (P .nurses) (omega arith))
+
 module _ (w : List ℕ) (r : Stored) (i : ℕ) (l : i < nurses w) (P : Phase) where
   abbrev slotsIn : ℕ → Slot
   slotsIn = (viewOf P r) .slots
-
-  pub view-agrees : P .nurses ≡ nurses w → Agree w r ((viewOf P r) .slots)
-  unfolding Agree view
-  view-agrees e j h = rw (lt-ltb j (P .nurses) (omega arith))
 
   others-are : P .nurses ≡ nurses w → {u others : ℕ} → u ≡ countTo (nurses w) (λ j. not (getD (r .placed) j false))
       → ((a : ℕ) → u ≡ a + oneIf (not (getD (r .placed) i false)) → others ≡ a) → (p : ℕ) → others ≡ unplacedIn w (exchanged slotsIn i p)
   others-are e {u} q f p =
       f (unplacedIn w (exchanged slotsIn i p))
-      (q ∙ unplaced-is w r slotsIn refl (view-agrees e) ∙ unplaced-after w slotsIn i p l
-      ∙ ap (λ (b : Bool). unplacedIn w (exchanged slotsIn i p) + oneIf b) (ap isNone (agree-at w r slotsIn i (view-agrees e) l) ∙ none-flag (getD (r .placed) i false) (getD (r .patterns) i 0)))
+      (q ∙ unplaced-is w r slotsIn refl (view-agrees w r P e) ∙ unplaced-after w slotsIn i p l
+      ∙ ap (λ (b : Bool). unplacedIn w (exchanged slotsIn i p) + oneIf b) (ap isNone (agree-at w r slotsIn i (view-agrees w r P e) l) ∙ none-flag (getD (r .placed) i false) (getD (r .patterns) i 0)))
 
   -- her cost is the phase's
   pub cost-there : (daily : Bool) {lists ends : List ℕ} {u others : ℕ} → Accepted w → Seeks daily w lists ends P
@@ -251,7 +252,7 @@ module _ (w : List ℕ) (r : Stored) (i : ℕ) (l : i < nurses w) (P : Phase) (l
   nurse-days true part d s shown tb p g =
       let slots = (viewOf P r) .slots in
       let inside : i < P .nurses = omega (arith, s .nurses-are) in
-      g (P .nurses) (λ x. rest (dayParts w (exchanged slots i x))) inside (tb slots (shown slots (view-agrees w r i l P (s .nurses-are))))
+      g (P .nurses) (λ x. rest (dayParts w (exchanged slots i x))) inside (tb slots (shown slots (view-agrees w r P (s .nurses-are))))
       ∙ ap (λ (v : Record). overList (mayTake v i) (λ x. rest (dayParts w (exchanged slots i x)) + 10000000 * others) i held part) (same-view true w r P e s)
       ∙ ap (λ (c : ℕ → ℕ). overList (mayTake (viewOf P r) i) c i held part) (cost-there w r i l P true a s q f)
       ∙ ap (overList (mayTake (viewOf P r) i) (costIn P (viewOf P r) i) i held) (p ∙ sym (s .patterns-are i l))
@@ -264,7 +265,7 @@ module _ (w : List ℕ) (r : Stored) (i : ℕ) (l : i < nurses w) (P : Phase) (l
   nurse-nights false d s shown tb g =
       let slots = (viewOf P r) .slots in
       let inside : i < P .nurses = omega (arith, s .nurses-are) in
-      g (P .nurses) (λ x. rest (nightParts w (exchanged slots i x))) inside (tb slots (shown slots (view-agrees w r i l P (s .nurses-are))))
+      g (P .nurses) (λ x. rest (nightParts w (exchanged slots i x))) inside (tb slots (shown slots (view-agrees w r P (s .nurses-are))))
       ∙ ap (λ (v : Record). overList (λ p. hersOf w i p && mayTake v i p) (λ x. rest (nightParts w (exchanged slots i x)) + 10000000 * others) i held lists) (same-view false w r P e s)
       ∙ ap (λ (c : ℕ → ℕ). overList (λ p. hersOf w i p && mayTake (viewOf P r) i p) c i held lists) (cost-there w r i l P false a s q f)
       ∙ sym (over-keep (hersOf w i) (mayTake (viewOf P r) i) (costIn P (viewOf P r) i) i held lists)
@@ -280,3 +281,22 @@ module _ (daily : Bool) (w : List ℕ) (r : Stored) {lists ends : List ℕ} (P :
 
   pub best-end : {b : Best} {i m : ℕ} → b ≡ bestOver P (viewOf P r) i → i ≤ m → m ≤ i → m ≡ nurses w → b ≡ bestOver P (viewOf P r) (P .nurses)
   best-end {b} {i} {m} e l h q = let z : i ≡ P .nurses = omega (arith, s .nurses-are) in e ∙ ap (bestOver P (viewOf P r)) z
+
+-- ---- step and advance
+
+module _ (daily : Bool) (w : List ℕ) {lists ends : List ℕ} (P : Phase) (s : Seeks daily w lists ends P) where
+  pub seeks-fits : Accepted w → Fits P
+  seeks-fits a = record { nurses-most = omega (arith, s .nurses-are, a .nurses-most); tabu-most = omega (arith, s .tabu-is, a .tabu-most) }
+
+  pub seeks-cost : (r : Stored) {pen : ℕ} → ((slots : ℕ → Slot) → Agree w r slots → pen ≡ costOf daily w slots) → pen ≡ P .cost ((viewOf P r) .slots)
+  seeks-cost r f = f ((viewOf P r) .slots) (view-agrees w r P (s .nurses-are)) ∙ sym (s .cost-is ((viewOf P r) .slots))
+
+  pub seeks-nurse : (r : Stored) {b : Best} {i p c : ℕ} → Accepted w → b ≡ bestOver P (viewOf P r) (P .nurses) → b ≡ Exchange i p c → i < 48
+  seeks-nurse r {b} {i} a e q = let l : i < P .nurses = takes-nurse P r (s .ascending) e q in omega (arith, s .nurses-are, a .nurses-most)
+
+  pub seeks-none : (r : Stored) {b : Best} → b ≡ bestOver P (viewOf P r) (P .nurses) → b ≡ Nothing → record { moved = false; after = r } ≡ steppedOf P r
+  seeks-none r e q = takes-none P r (s .ascending) e q
+
+  pub seeks-some : (r : Stored) {b : Best} {i p c tl : ℕ} {r′ : Stored} → b ≡ bestOver P (viewOf P r) (P .nurses) → b ≡ Exchange i p c → tl ≡ tabu w
+      → r′ ≡ exchangedIn tl r i p → record { moved = true; after = r′ } ≡ steppedOf P r
+  seeks-some r {i = i} {p = p} e q t x = takes-some P r (s .ascending) e q (x ∙ ap (λ (k : ℕ). exchangedIn k r i p) (t ∙ sym (s .tabu-is)))

@@ -2,7 +2,7 @@
 use Prim.Native.Nat.{ℕ, zero, suc, _+_, _-_, _≤_, _<_}
 use mathlib.Core.Path.{_≡_}
 use mathlib.Core.Bool.{Bool, true, false}
-use mathlib.Core.List.{List}
+use mathlib.Core.List.{List, []}
 use lib.ListN.{length, getD, take, drop}
 use Rattle.numbers.specs.Range.{keep, Ascending}
 use Rattle.ward.specs.Fields.{nurses, tabu}
@@ -13,8 +13,11 @@ use Rattle.penalty.specs.declared.costs.Costs.{Costs}
 use Rattle.penalty.specs.Penalty.{Slot, rest, exchanged, startsIn, workedIn, nightParts, dayParts, nightPenalty, dayPenalty}
 use Rattle.penalty.specs.Columns.{ShownNight, ShownDay, Frees}
 use Rattle.penalty.specs.Costs.{Small, Chunks, trialOf}
-use Rattle.search.specs.Phase.{Phase}
-use Rattle.search.specs.Stored.{slotAt}
+use Rattle.search.specs.Phase.{Phase, Answer, ended, End·zero, End·asked, End·none}
+use Rattle.search.specs.Stored.{slotAt, viewOf, soundStored}
+use Rattle.search.specs.declared.Ending.{Ending}
+use Rattle.search.specs.declared.Ending.the-variants.{Zero, Asked, Stuck}
+use Rattle.search.specs.declared.Advanced.{Advanced}
 use Rattle.search.specs.declared.Record.{Record as Stored}
 
 -- the penalty of everyone's slots
@@ -78,3 +81,20 @@ pub record Seeks (byDay : Bool) (w lists ends : List ℕ) (P : Phase) : Type 0 w
   pub cost-is : (slots : ℕ → Slot) → P .cost slots ≡ costOf byDay w slots
   pub patterns-are : (i : ℕ) → i < nurses w → P .patterns i ≡ triedBy byDay w lists ends i
   pub ascending : (i : ℕ) → i < P .nurses → Ascending (P .patterns i)
+
+-- there is such a phase
+abbrev pub Served : Bool → List ℕ → List ℕ → List ℕ → Type 0
+Served daily w lists ends = (P : Phase) × Seeks daily w lists ends P
+
+-- there is one by which the record is sound: question 11
+abbrev pub ServedSound : Bool → List ℕ → List ℕ → List ℕ → Stored → Type 0
+ServedSound daily w lists ends r = (P : Phase) × Seeks daily w lists ends P × (soundStored P r ≡ true)
+
+-- the answers of an advance that ended so, of the phase P
+abbrev pub answerWith : Phase → Stored → ℕ → ℕ → Ending → Answer
+answerWith P r made pen Zero = ended End·zero made pen (P .letters ((viewOf P r) .slots))
+answerWith P r made pen Asked = ended End·asked made pen []
+answerWith P r made pen Stuck = ended End·none made pen []
+
+abbrev pub answerOf : Phase → Advanced → Answer
+answerOf P x = answerWith P (x .after) (x .steps) (x .penalty) (x .ending)

@@ -5,11 +5,17 @@ mod slots;
 pub mod tries;
 mod unused;
 
+use best::Best;
+use tries::Plan;
 ghost use mathlib.Core.Path.{_≡_};
-ghost use Prim.Native.Nat.{ℕ, _<_, _≤_};
+ghost use mathlib.Core.Bool.{true};
+ghost use Prim.Native.Nat.{ℕ, _+_, _<_, _≤_};
+ghost use Rattle.ward.specs.Fields.{Accepted};
+ghost use Rattle.search.specs.Phase.{Phase};
+ghost use Rattle.search.specs.Seek.{Lists, Seeks, Served, ServedSound, answerOf};
 ghost use Rattle.search.specs.Record.{mayTake};
-ghost use Rattle.search.specs.Stored.{view, allZero, unusedZero, Sized};
-ghost use Rattle.search.specs.Walk.{removalBy, exchangedIn};
+ghost use Rattle.search.specs.Stored.{view, allZero, unusedZero, Sized, soundStored, replyStored};
+ghost use Rattle.search.specs.Walk.{removalBy, exchangedIn, steppedOf};
 
 // One of the TL places: a nurse's number, from 1, and the pattern that she gave up, or none where the step placed her.
 // A place not in use is all 0.
@@ -32,6 +38,21 @@ pub struct Record {
 pub struct Stepped {
     pub moved: bool,
     pub after: Record,
+}
+
+// How an advance ended: at penalty zero, with the steps asked, or with no exchange left.
+pub enum Ending {
+    Zero,
+    Asked,
+    Stuck,
+}
+
+// The record after an advance, its penalty, and the steps that the advance made.
+pub struct Advanced {
+    pub after: Record,
+    pub penalty: u64,
+    pub steps: u32,
+    pub ending: Ending,
 }
 
 impl Record {
@@ -110,5 +131,73 @@ impl Record {
         let patterns = self.patterns;
         let list = self.removals;
         unused::slots_zero(placed, patterns, m) && unused::removals_zero(list, held)
+    }
+}
+
+impl Record {
+    // One step, if there is an exchange to make.
+    pub fn step(self, w: &[u64], lists: &[u32], plan: Plan) -> Stepped
+        requires { ⌜ Accepted (now w) × Lists (plan .daily) (now w) (now lists) (plan .ends) × (self .steps < 1000000) ⌝ }
+        requires { ⌜ Served (plan .daily) (now w) (now lists) (plan .ends) ⌝ }
+        ensures { λ x. ⌜ ((P : Phase) → Seeks (plan .daily) (now (w .entry)) (now (lists .entry)) (plan .ends) P → x ≡ steppedOf P self) ⌝ }
+    {
+        let tl = ward::fields::tabu(w);
+        let best = tries::best_of(w, lists, plan, self);
+        match best {
+            Best::Nothing => Stepped {
+                moved: false,
+                after: self,
+            },
+            Best::Exchange {
+                nurse,
+                pattern,
+                cost: _,
+            } => {
+                let after = self.exchanged(tl, nurse, pattern);
+                Stepped { moved: true, after }
+            }
+        }
+    }
+
+    // Up to k steps.
+    pub fn advance(self, w: &[u64], lists: &[u32], plan: Plan, k: u32) -> Advanced
+        requires { ⌜ Accepted (now w) × Lists (plan .daily) (now w) (now lists) (plan .ends) × (self .steps + k ≤ 1000000) ⌝ }
+        requires { ⌜ ServedSound (plan .daily) (now w) (now lists) (plan .ends) self ⌝ }
+        ensures { λ x. ⌜ ((P : Phase) → Seeks (plan .daily) (now (w .entry)) (now (lists .entry)) (plan .ends) P → soundStored P self ≡ true → replyStored P k self ≡ (answerOf P x, x .after)) ⌝ }
+    {
+        let daily = plan.daily;
+        let mut kept = self;
+        let mut made: u32 = 0;
+        loop {
+            let penalty = slots::penalty_of(w, kept, daily);
+            if penalty == 0 {
+                return Advanced {
+                    after: kept,
+                    penalty: 0,
+                    steps: made,
+                    ending: Ending::Zero,
+                };
+            }
+            if made == k {
+                return Advanced {
+                    after: kept,
+                    penalty: penalty,
+                    steps: made,
+                    ending: Ending::Asked,
+                };
+            }
+            let next = kept.step(w, lists, plan);
+            if !next.moved {
+                return Advanced {
+                    after: kept,
+                    penalty: penalty,
+                    steps: made,
+                    ending: Ending::Stuck,
+                };
+            }
+            let after = next.after;
+            kept = after;
+            made += 1;
+        }
     }
 }

@@ -45,7 +45,15 @@ fn table(w: &[u64], cols: Columns, i: usize, daily: bool) -> [u64; 704]
 }
 
 // The best of what is held and of nurse i's day list; others are unplaced besides her.
-fn over_days(part: &[u32], t: &[u64; 704], others: u64, rec: Record, tl: usize, i: usize, held: Best) -> Best
+fn over_days(
+    part: &[u32],
+    t: &[u64; 704],
+    others: u64,
+    rec: Record,
+    tl: usize,
+    i: usize,
+    held: Best,
+) -> Best
     requires { ⌜ ChunksSmall (now t) × (others ≤ 48) × (tl ≤ 64) × (i < 48) ⌝ }
     ensures { λ r. ⌜ ((m : ℕ) (cost : ℕ → ℕ) → i < m → DayTrials (now (t .entry)) cost → r ≡ overList (mayTake (view m tl rec) i) (λ q. cost q + 10000000 * others) i held (now (part .entry))) ⌝ }
 {

@@ -1,3 +1,7 @@
+use Rattle.numbers.specs.Sum.{countTo, Is}
+use mathlib.Core.Bool.{false, not}
+use lib.ListN.{getD}
+use borrow.Author.Needs.{needs}
 -- `search::tries::best_of` meets its contract: the best of the nurses before i.
 use Prim.Native.Nat.{ℕ, _+_, _-_, _≤_}
 use mathlib.Core.Path.{_≡_, sym, _∙_, ap, subst}
@@ -24,39 +28,39 @@ abbrev μ-loop : tie.MeasureT-loop
 
 -- src/tries.rt:143:9
 nurses-requires : tie.Need-nurses-requires Inv-loop μ-loop
-nurses-requires c κs = ?
+nurses-requires c κs = search needs
 
 -- src/tries.rt:144:9
 columns-requires : tie.Need-columns-requires Inv-loop μ-loop
-columns-requires c κs = ?
+columns-requires c κs = search needs
 
 -- src/tries.rt:145:9
 unplaced-requires : tie.Need-unplaced-requires Inv-loop μ-loop
-unplaced-requires c κs = ?
+unplaced-requires c κs = search needs
 
 -- src/tries.rt:148:5
 loop-holds : tie.Need-loop-holds Inv-loop μ-loop
-loop-holds c = ?
+loop-holds c = (omega arith, λ P s. best-start (c .before .before .before .before .before .args .plan .daily) (c .before .before .before .before .before .args .w .now) (c .before .before .before .before .before .args .rec) P s)
 
 -- src/tries.rt:149:9
 over-nurse-requires : tie.Need-over-nurse-requires Inv-loop μ-loop
-over-nurse-requires c κs = ?
+over-nurse-requires c κs = ((c .before .before .before .before .before .before .before .pre .0, omega (arith, c .before .before .before .before .nurses .ensures .0), c .before .before .before .before .before .before .before .pre .1), (subst (λ (k : ℕ). Is (c .before .before .unplaced .result) (countTo k (λ j. not (getD (c .before .before .before .before .before .before .before .args .rec .placed) j false))) 48) (c .before .before .before .before .nurses .ensures .0) (c .before .before .unplaced .ensures), c .before .before .before .columns .ensures))
 
 -- src/tries.rt:150:9
 add-i : tie.Need-add-i Inv-loop μ-loop
-add-i c = ?
+add-i c = search needs
 
 -- src/tries.rt:148:5
 loop-less : tie.Need-loop-less Inv-loop μ-loop
-loop-less c = ?
+loop-less c = search needs
 
 -- src/tries.rt:148:5
 loop-again : tie.Need-loop-again Inv-loop μ-loop
-loop-again c = ?
+loop-again c = (search needs, λ P s. best-turn (c .before .before .before .before .before .before .before .before .args .plan .daily) (c .before .before .before .before .before .before .before .before .args .w .now) (c .before .before .before .before .before .before .before .before .args .rec) P s (c .before .before .loop .i) (c .before .before .loop .inv .1 P s) (c .over-nurse .ensures P s))
 
 -- src/tries.rt:139:1
 returns : tie.Need-returns Inv-loop μ-loop
-returns c = ?
+returns c = λ P s. best-end (c .before .before .before .before .before .before .before .args .plan .daily) (c .before .before .before .before .before .before .before .args .w .now) (c .before .before .before .before .before .before .before .args .rec) P s (c .before .loop .inv .1 P s) (c .before .loop .inv .0) (c .loop-test .left) (c .before .before .before .before .nurses .ensures .0)
 
 pub best-of-spec : {M : Type 1} → statement M
 best-of-spec =

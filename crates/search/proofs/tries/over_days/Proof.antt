@@ -67,12 +67,14 @@ loop-less c = search needs
 
 -- src/tries.rt:53:5
 loop-again : tie.Need-loop-again Inv-loop μ-loop
-loop-again c = let a = c .before .before .before .before .before .before .before .args in
-    (omega arith, λ m cost l t.
-    ⊎-elim
-    (λ x. turn-considered (mayTake (view m (a .tl) (a .rec)) (a .i)) (λ q. cost q + 10000000 * a .others) (a .i) (a .held) (a .part .now) (c .before .before .before .before .before .loop .k) (c .before .before .before .before .loop-test .taken) (c .before .before .before .before .before .loop .inv .1 m cost l t) (trial-costs 0 _ (a .others) (t .worked _) (c .before .before .chunk-trial .ensures .0)) (x .2 ∙ x .1 .ensures m l))
-    (λ x. x .1 ∙ turn-worse (mayTake (view m (a .tl) (a .rec)) (a .i)) (λ q. cost q + 10000000 * a .others) (a .i) (a .held) (a .part .now) (c .before .before .before .before .before .loop .k) (c .before .before .before .before .loop-test .taken) (c .before .before .before .before .before .loop .inv .1 m cost l t) (trial-costs 0 _ (a .others) (t .worked _) (c .before .before .chunk-trial .ensures .0)) (c .before .improves .ensures) (x .0 .left))
-    (c .if1 .came))
+loop-again c = let a = c .before .before .before .before .before .before .before .args in (
+  omega arith,
+  λ m cost l t.
+      ⊎-elim
+      (λ x. turn-considered (mayTake (view m (a .tl) (a .rec)) (a .i)) (λ q. cost q + 10000000 * a .others) (a .i) (a .held) (a .part .now) (c .before .before .before .before .before .loop .k) (c .before .before .before .before .loop-test .taken) (c .before .before .before .before .before .loop .inv .1 m cost l t) (trial-costs 0 _ (a .others) (t .worked _) (c .before .before .chunk-trial .ensures .0)) (x .2 ∙ x .1 .ensures m l))
+      (λ x. x .1 ∙ turn-worse (mayTake (view m (a .tl) (a .rec)) (a .i)) (λ q. cost q + 10000000 * a .others) (a .i) (a .held) (a .part .now) (c .before .before .before .before .before .loop .k) (c .before .before .before .before .loop-test .taken) (c .before .before .before .before .before .loop .inv .1 m cost l t) (trial-costs 0 _ (a .others) (t .worked _) (c .before .before .chunk-trial .ensures .0)) (c .before .improves .ensures) (x .0 .left))
+      (c .if1 .came),
+)
 
 -- src/tries.rt:48:1
 returns : tie.Need-returns Inv-loop μ-loop

@@ -86,21 +86,23 @@ loop-again c = let a = c .before .before .before .before .before .before .before
     let k = c .before .before .before .before .loop .k in
     let inside = c .before .before .before .loop-test .taken in
     let at = common-at w ps k (c .before .before .before .before .before .before .before .pre .0 .2) inside in
-    let passed = c .before .passes .ensures (a .i) (c .before .before .before .before .before .before .before .pre .1 .0 .1) (at .0) (at .1) in
-    (omega arith, λ m cost l t.
-    let may = mayTake (view m (a .tl) (a .rec)) (a .i) in
-    let hers = hersOf w (a .i) in
-    ⊎-elim
-    (λ x. hers-considered hers may (λ p. cost p + 10000000 * a .others) (a .i) (a .held) ps k inside (c .before .before .before .before .loop .inv .1 m cost l t) passed (x .0 .taken)
-    (night-costs w (a .i) (getD ps k 0) _ cost (a .others) t (c .before .before .before .before .before .before .before .pre .0 .0 .days-most) (c .before .before .before .before .before .before .before .pre .1 .0 .1) (λ j b h e. x .1 .ensures (rulesOf w) j b h e) (x .2 .ensures .0))
-    (x .6 ∙ x .5 .ensures m l))
-    (λ y. ⊎-elim
-    (λ x. x .5 ∙ no-better hers may (λ p. cost p + 10000000 * a .others) (a .i) (a .held) ps k inside (c .before .before .before .before .loop .inv .1 m cost l t)
-    (night-costs w (a .i) (getD ps k 0) _ cost (a .others) t (c .before .before .before .before .before .before .before .pre .0 .0 .days-most) (c .before .before .before .before .before .before .before .pre .1 .0 .1) (λ j b h e. x .1 .ensures (rulesOf w) j b h e) (x .2 .ensures .0))
-    (x .3 .ensures) (x .4 .left))
-    (λ x. x .1 ∙ not-hers hers may (λ p. cost p + 10000000 * a .others) (a .i) (a .held) ps k inside (c .before .before .before .before .loop .inv .1 m cost l t) passed (x .0 .left))
-    y)
-    (c .if1 .came))
+    let passed = c .before .passes .ensures (a .i) (c .before .before .before .before .before .before .before .pre .1 .0 .1) (at .0) (at .1) in (
+      omega arith,
+      λ m cost l t.
+          let may = mayTake (view m (a .tl) (a .rec)) (a .i) in
+          let hers = hersOf w (a .i) in
+          ⊎-elim
+          (λ x. hers-considered hers may (λ p. cost p + 10000000 * a .others) (a .i) (a .held) ps k inside (c .before .before .before .before .loop .inv .1 m cost l t) passed (x .0 .taken)
+          (night-costs w (a .i) (getD ps k 0) _ cost (a .others) t (c .before .before .before .before .before .before .before .pre .0 .0 .days-most) (c .before .before .before .before .before .before .before .pre .1 .0 .1) (λ j b h e. x .1 .ensures (rulesOf w) j b h e) (x .2 .ensures .0))
+          (x .6 ∙ x .5 .ensures m l))
+          (λ y. ⊎-elim
+          (λ x. x .5 ∙ no-better hers may (λ p. cost p + 10000000 * a .others) (a .i) (a .held) ps k inside (c .before .before .before .before .loop .inv .1 m cost l t)
+          (night-costs w (a .i) (getD ps k 0) _ cost (a .others) t (c .before .before .before .before .before .before .before .pre .0 .0 .days-most) (c .before .before .before .before .before .before .before .pre .1 .0 .1) (λ j b h e. x .1 .ensures (rulesOf w) j b h e) (x .2 .ensures .0))
+          (x .3 .ensures) (x .4 .left))
+          (λ x. x .1 ∙ not-hers hers may (λ p. cost p + 10000000 * a .others) (a .i) (a .held) ps k inside (c .before .before .before .before .loop .inv .1 m cost l t) passed (x .0 .left))
+          y)
+          (c .if1 .came),
+    )
 
 -- src/tries.rt:64:1
 returns : tie.Need-returns Inv-loop μ-loop
