@@ -27,7 +27,7 @@ abbrev μ-loop : tie.MeasureT-loop
 -- src/lib.rt:174:9
 loop-holds : tie.Need-loop-holds Inv-loop μ-loop
 loop-holds c = λ P s e.
-    let z : Sized (c .before .before .args .self) = record { patterns-long = search needs; placed-long = search needs; removals-long = simp length-map at (c .before .before .good .1 .0 .1 .1 .1 .1 .0 .1 .0 .1) } in
+    let z : Sized (c .before .before .args .self) = record { patterns-long = search needs; placed-long = search needs; removals-long = simp length-map at (c .before .before .good .0 .1 .1 .1 .1 .0 .1 .0 .1) } in
     running-start P (c .before .before .args .k) (c .before .before .args .self) z e
 
 -- src/lib.rt:175:17
