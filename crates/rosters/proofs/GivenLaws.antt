@@ -98,11 +98,11 @@ letters-placed w ps qs =
 -- ---- counts of nurses who are on alike
 
 module _ (w : List ℕ) (on on′ : ℕ → Bool) (e : (i : ℕ) → i < nurses w → on i ≡ on′ i) where
-  duty-alike : onDuty w on ≡ onDuty w on′
+  pub duty-alike : onDuty w on ≡ onDuty w on′
   unfolding onDuty
   duty-alike = sum-ext (nurses w) (λ i. oneIf (on i)) (λ i. oneIf (on′ i)) (λ i h. ap oneIf (e i h))
 
-  members-alike : (g : ℕ) → members w on g ≡ members w on′ g
+  pub members-alike : (g : ℕ) → members w on g ≡ members w on′ g
   unfolding members
   members-alike g =
       sum-ext (nurses w) (λ i. oneIf (on i && has (getD (masks w) g 0) i)) (λ i. oneIf (on′ i && has (getD (masks w) g 0) i))

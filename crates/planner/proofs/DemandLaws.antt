@@ -1,0 +1,178 @@
+-- Demand 3 holds by night and by day, and the check says yes to every roster that a day advance gives out.
+use Prim.Native.Nat.{ℕ, _+_, _*_, _<_}
+use mathlib.Core.Path.{_≡_, refl, sym, ap, _∙_, subst}
+use mathlib.Core.Bool.{Bool, true, false, cond, _&&_, true≢false}
+use mathlib.Core.Logic.{_≢_, ⊎-elim}
+use mathlib.Core.List.{List, [], _∷_, _++_, append-assoc, List·Memᴰ, List·Memᴰ·not-nil, List·Memᴰ·cases-cons, Memᴰ·cast}
+use mathlib.Core.Option.{Option, none, some}
+use lib.Dec.{leb, eqb}
+use borrow.Author.Tests.{eqb-true}
+use Rattle.numbers.specs.Range.{keep, upFrom, all}
+use Rattle.numbers.specs.Digits.{has}
+use Rattle.numbers.proofs.AllLaws.{all-each}
+use Rattle.ward.specs.Fields.{Accepted, nurses, days}
+use Rattle.nights.specs.Hers.{hersOf}
+use Rattle.days.specs.Days.{dayRuleOf, dayList}
+use Rattle.penalty.specs.Penalty.{Slot, isNone, workedIn, atDay, nightPenalty, dayPenalty}
+use Rattle.penalty.specs.Held.{LowsHeld, HighsHeld, DayHeld}
+use Rattle.penalty.proofs.HeldLaws.{day-zero, day-held}
+use Rattle.search.specs.Phase.{Step, Phase, Call, No, Answer, End, End·zero, End·asked, End·none, first, unless, refusal, ended, inTurn}
+use Rattle.search.specs.History.{History, inUse, penalty}
+use Rattle.search.specs.Claim.{Steps, Made, Went, refuses, goes, Turns, done, turn}
+use Rattle.search.specs.Stored.{patternOf, allZero, store, advanceStored}
+use Rattle.search.proofs.TestLaws.{and-true}
+use Rattle.search.proofs.DemandLaws.{zero≢asked}
+use Rattle.search.proofs.AdvanceLaws.{demand3-stored}
+use Rattle.rosters.specs.Check.{misplaced, holds}
+use Rattle.rosters.proofs.GivenLaws.{duty-alike, members-alike, Patterns, placedAll, given-at-zero}
+use Rattle.planner.specs.Phases.{nightPhase, nightsOpen, listsFit, dayListOver, dayPhase}
+use Rattle.planner.specs.Demand.{NightPatterns, DayPatterns, Rightly, Each, NightDemand, DayDemand, Demand}
+use Rattle.planner.proofs.PhaseLaws.{night-fits, night-lawful, day-fits, day-lawful}
+
+-- ---- each pattern in use is one of hers
+
+kept-front : (t : ℕ → Bool) (y x : ℕ) (rest : List ℕ) (b : Bool) → t y ≡ b → (List·Memᴰ x rest → t x ≡ true) → List·Memᴰ x (cond b (y ∷ rest) rest) → t x ≡ true
+kept-front t y x rest true e f m = ⊎-elim (λ q. ap t q ∙ e) f (List·Memᴰ·cases-cons m)
+kept-front t y x rest false e f m = f m
+
+pub member-kept : (t : ℕ → Bool) (xs : List ℕ) (x : ℕ) → List·Memᴰ x (keep t xs) → t x ≡ true
+unfolding keep
+member-kept t [] x m = absurd (List·Memᴰ·not-nil m)
+member-kept t (y ∷ ys) x m = kept-front t y x (keep t ys) (t y) refl (λ r. member-kept t ys x r) m
+
+steps-before : (P : Phase) (new h : History) → Steps P (new ++ h) → Steps P h
+steps-before P new h f later s earlier e = f (new ++ later) s earlier (ap (λ (t : History). new ++ t) e ∙ sym (append-assoc new later (s ∷ earlier)))
+
+last-hers : (P : Phase) (s : Step) (i p : ℕ) (u : Slot) (b : Bool) → eqb i (s .nurse) ≡ b → List·Memᴰ (s .pattern) (P .patterns (s .nurse))
+    → (u ≡ some p → List·Memᴰ p (P .patterns i)) → cond b (some (s .pattern)) u ≡ some p → List·Memᴰ p (P .patterns i)
+last-hers P s i p u true q m f e =
+    Memᴰ·cast (sym (ap patternOf e)) (subst (λ (j : ℕ). List·Memᴰ (s .pattern) (P .patterns j)) (sym (eqb-true i (s .nurse) q)) m)
+last-hers P s i p u false q m f e = f e
+
+in-use-hers : (P : Phase) (h : History) → Steps P h → (i p : ℕ) → inUse h i ≡ some p → List·Memᴰ p (P .patterns i)
+in-use-hers P [] f i p e = absurd (true≢false (ap isNone e))
+in-use-hers P (s ∷ h) f i p e =
+    last-hers P s i p (inUse h i) (eqb i (s .nurse)) refl (f [] s h refl .1 .allowed .hers) (in-use-hers P h (steps-before P (s ∷ []) h f) i p) e
+
+-- the history after one of the advances is the end of the history after all
+turns-add : {P : Phase} {cs : List Call} {l : List Answer} {h h″ : History} → Turns P cs l h h″ → (new : History) × (h″ ≡ new ++ h)
+turns-add done = ([], refl)
+turns-add (turn (refuses e) ts) = turns-add ts
+turns-add {h} (turn (goes e m) ts) =
+    let r = turns-add ts in
+    (r .0 ++ m .new, r .1 ∙ ap (λ (x : History). r .0 ++ x) (m .added) ∙ sym (append-assoc (r .0) (m .new) h))
+
+steps-then : {P : Phase} {cs : List Call} {l : List Answer} {h h″ : History} → Turns P cs l h h″ → Steps P h″ → Steps P h
+steps-then {P} {h} ts f = let r = turns-add ts in steps-before P (r .0) h (subst (Steps P) (r .1) f)
+
+-- ---- what a call that is not refused knows of the nights
+
+some≢none : (n : No) → some n ≢ none
+some≢none n e = true≢false (ap let-through (sym e))
+  where
+    let-through : Option No → Bool
+    let-through none = true
+    let-through (some n) = false
+
+first-left : (x y : Option No) → first x y ≡ none → x ≡ none
+first-left none y e = refl
+first-left (some n) y e = e
+
+first-right : (x y : Option No) → first x y ≡ none → y ≡ none
+first-right none y e = e
+first-right (some n) y e = absurd (some≢none n e)
+
+unless-none : (b : Bool) (q i : ℕ) → unless b q i ≡ none → b ≡ true
+unless-none true q i e = refl
+unless-none false q i e = absurd (some≢none (record { question = q; place = i }) e)
+
+-- ---- the roster
+
+placed-as : (s : Slot) → isNone s ≡ false → s ≡ some (patternOf s)
+placed-as none e = absurd (true≢false e)
+placed-as (some p) e = refl
+
+module _ (w : List ℕ) (nights : ℕ → ℕ) where
+  pub nights-open : (c : Call) (steps : ℕ) → refusal (dayPhase w nights) c steps ≡ none → nightsOpen w nights ≡ true
+  unfolding refusal dayPhase
+  nights-open c steps e =
+      let eight = unless (nightsOpen w nights) 8 0 in
+      let nine = listsFit (dayListOver w nights) (nurses w) (c .places) in
+      let seven = unless (leb (c .steps) 10000 && leb (steps + c .steps) 1000000) 7 0 in
+      unless-none (nightsOpen w nights) 8 0 (first-left eight nine (first-right seven (first eight nine) e))
+
+  module _ (a : Accepted w) where
+    -- everyone's slot at penalty zero is placed, so the penalty is that of the patterns alone
+    module _ (slots : ℕ → Slot) (zero-is : dayPenalty w slots ≡ 0) where
+      held : DayHeld w slots
+      held = day-zero w slots a zero-is
+
+      abbrev patterns : ℕ → ℕ
+      patterns i = patternOf (slots i)
+
+      placed : (i : ℕ) → i < nurses w → slots i ≡ some (patterns i)
+      placed i l = placed-as (slots i) (held .placed i l)
+
+      alike : (d i : ℕ) → i < nurses w → atDay w (placedAll patterns) d i ≡ atDay w slots d i
+      alike d i l = ap (λ (s : Slot). has (workedIn w i s) d) (sym (placed i l))
+
+      held-alike : DayHeld w (placedAll patterns)
+      held-alike = record {
+        worked = λ d l. record {
+          need-held = rw (duty-alike w (atDay w (placedAll patterns) d) (atDay w slots d) (alike d)) (held .worked d l .need-held);
+          low-held = λ g m. rw (members-alike w (atDay w (placedAll patterns) d) (atDay w slots d) (alike d) g) (held .worked d l .low-held g m);
+        };
+        highs = λ d l g m. rw (members-alike w (atDay w (placedAll patterns) d) (atDay w slots d) (alike d) g) (held .highs d l g m);
+        placed = λ i l. refl;
+      }
+
+      penalty-alike : dayPenalty w (placedAll patterns) ≡ 0
+      penalty-alike = day-held w (placedAll patterns) held-alike
+
+    -- letters to which the check says yes
+    abbrev YesTo : List ℕ → Type 0
+    YesTo l = (misplaced (nurses w * days w) l ≡ none) × (holds w l ≡ true)
+
+    -- slots at penalty zero that hold patterns of hers, over nights that question 8 lets through
+    pub yes-at-zero : (slots : ℕ → Slot) → nightsOpen w nights ≡ true → dayPenalty w slots ≡ 0
+        → ((i p : ℕ) → slots i ≡ some p → List·Memᴰ p (dayListOver w nights i)) → YesTo (dayPhase w nights .letters slots)
+    unfolding dayPhase nightsOpen dayList
+    yes-at-zero slots o z own =
+        let parts = and-true (all (λ i. hersOf w i (nights i)) (upFrom 0 (nurses w))) (eqb (nightPenalty w (λ i. some (nights i))) 0) o in
+        let all-hers : Patterns w nights (patterns slots z) = record {
+          nights-hers = λ i l. all-each (λ j. hersOf w j (nights j)) (nurses w) i (parts .0) l;
+          days-hers = λ i l. member-kept (dayRuleOf w i (nights i)) _ (patterns slots z i) (own i (patterns slots z i) (placed slots z i l));
+        } in
+        let g = given-at-zero w nights (patterns slots z) a all-hers (eqb-true _ 0 (parts .1)) (penalty-alike slots z) in
+        (g .placed, g .yes-said)
+
+    -- one advance that is not refused
+    right-made : (e : End) {k n c : ℕ} {h h′ : History} {l : List ℕ} → nightsOpen w nights ≡ true → Made (dayPhase w nights) k h h′ e n c l
+        → Steps (dayPhase w nights) h′ → Rightly w (ended e n c l)
+    unfolding penalty dayPhase
+    right-made End·zero {h′} o m f =
+        let z = m .zero-when .0 refl in
+        subst YesTo (sym (m .letters .0 z)) (yes-at-zero (inUse h′) o (sym (m .after) ∙ z) (in-use-hers (dayPhase w nights) h′ f))
+    right-made End·asked o m f = m .letters .1 (λ z. zero≢asked (sym (m .zero-when .1 z)))
+    right-made End·none o m f = m .letters .1 (λ z. m .none-when .0 refl .2 z)
+
+    each-right : {cs : List Call} {l : List Answer} {h h″ : History} → Turns (dayPhase w nights) cs l h h″ → Steps (dayPhase w nights) h″ → Each (Rightly w) l
+    each-right done f = tt
+    each-right (turn (refuses e) ts) f = (tt, each-right ts f)
+    each-right (turn {c} {h} (goes {e = end} e m) ts) f = (right-made end (nights-open c _ e) m (steps-then ts f), each-right ts f)
+
+-- ---- demand 3
+
+pub night-demand : (w : List ℕ) → Accepted w → NightPatterns w → (cs : List Call) → NightDemand w cs
+night-demand w a has = demand3-stored (nightPhase w) (night-lawful w a has) (night-fits w a)
+
+pub day-demand : (w : List ℕ) (nights : ℕ → ℕ) → Accepted w → DayPatterns w nights → (cs : List Call) → DayDemand w nights cs
+day-demand w nights a has cs =
+    let d = demand3-stored (dayPhase w nights) (day-lawful w nights a has) (day-fits w nights a) cs in
+    record {
+      claim = d;
+      rosters = rw (d .follows) (each-right w nights a (d .each) (d .steps));
+    }
+
+pub demand : (w : List ℕ) → Accepted w → Demand w
+demand w a = record { nights = night-demand w a; days = λ nights. day-demand w nights a }
