@@ -1,0 +1,88 @@
+-- Laws of the published advances.
+use Prim.Native.Nat.{ℕ, suc, _+_, _≤_, _<_, min}
+use mathlib.Core.Bool.{Bool, true, false, _&&_}
+use mathlib.Core.Path.{_≡_, refl, sym, ap, ap₂, _∙_, subst}
+use mathlib.Core.List.{List, [], _∷_, _++_}
+use mathlib.Core.Option.{Option, none, some}
+use native.Mathlib.Omega.{arith}
+use lib.Dec.{leb, ltb}
+use lib.ListN.{length, take, drop}
+use lib.Seq.{take-at}
+use borrow.Author.Tests.{le-leb, lt-leb}
+use Rattle.numbers.specs.Range.{upFrom, keep, Ascending}
+use Rattle.ward.specs.Fields.{Accepted, nurses, tabu}
+use Rattle.nights.specs.Nights.{commonOf}
+use Rattle.nights.specs.Hers.{hersOf, nightList}
+use Rattle.nights.proofs.ListLaws.{list-of-common, list-ascending}
+use Rattle.search.specs.declared.Record.{Record as Stored}
+use Rattle.search.specs.declared.Advanced.{Advanced}
+use Rattle.search.specs.declared.Ending.{Ending}
+use Rattle.search.specs.declared.Ending.the-variants.{Zero, Asked, Stuck}
+use Rattle.search.specs.Phase.{Phase, Call, No, Answer, refused, ended, unless, first}
+use Rattle.search.specs.Record.{lacking}
+use Rattle.search.specs.Stored.{advanceStored, refusalStored, replyStored, soundStored, Sized}
+use Rattle.search.specs.Seek.{Seeks, Lists, answerWith, answerOf}
+use Rattle.search.proofs.AdvanceLaws.{stored-refused, stored-goes}
+use Rattle.planner.specs.declared.Advance.{Advance}
+use Rattle.planner.specs.declared.Outcome.the-variants as outcome
+use Rattle.planner.specs.Phases.{nightPhase, commonFits}
+use Rattle.planner.specs.Advances.{advanceOf, leftBy, callOf}
+
+module _ (P : Phase) (r : Stored) (made pen : ℕ) {e : Ending} where
+  pub ended-zero : e ≡ Zero → record { kept = r; penalty = pen; steps = made; outcome = outcome.Zero } ≡ advanceOf (answerWith P r made pen e) r
+  unfolding advanceOf
+  ended-zero q = sym (ap (λ (x : Ending). advanceOf (answerWith P r made pen x) r) q)
+
+  pub ended-asked : e ≡ Asked → record { kept = r; penalty = pen; steps = made; outcome = outcome.Asked } ≡ advanceOf (answerWith P r made pen e) r
+  unfolding advanceOf
+  ended-asked q = sym (ap (λ (x : Ending). advanceOf (answerWith P r made pen x) r) q)
+
+  pub ended-stuck : e ≡ Stuck → record { kept = r; penalty = pen; steps = made; outcome = outcome.Stuck } ≡ advanceOf (answerWith P r made pen e) r
+  unfolding advanceOf
+  ended-stuck q = sym (ap (λ (x : Ending). advanceOf (answerWith P r made pen x) r) q)
+
+-- ---- nights
+
+-- the search over the common list serves the night phase
+pub night-seeks : (w ends : List ℕ) {list : List ℕ} → list ≡ commonOf w → Seeks false w list ends (nightPhase w)
+unfolding nightPhase
+night-seeks w ends e = record {
+  nurses-are = refl;
+  tabu-is = refl;
+  cost-is = λ slots. refl;
+  patterns-are = λ i l. list-of-common w i ∙ ap (keep (hersOf w i)) (sym e);
+  ascending = λ i l. list-ascending w i;
+}
+
+no-day : _≡_ {A = Bool} false true → ⊥
+no-day z = let y : _≡_ {A = ℕ} 0 1 = cc in omega arith
+
+pub night-lists : (w ends : List ℕ) {list : List ℕ} → list ≡ commonOf w → Lists false w list ends
+night-lists w ends e = record { common-list = λ q. e; begins = λ q i l. absurd (no-day q); finishes = λ q i l. absurd (no-day q) }
+
+-- the list stands at the front of what was written
+pub list-front : (L rest : List ℕ) {buf : List ℕ} {n : ℕ} → buf ≡ L ++ rest → n ≡ length L → take n buf ≡ L
+list-front L rest e q = ap₂ take q e ∙ take-at L rest (length L) refl
+
+module _ (w : List ℕ) (r : Stored) (k places : ℕ) where
+  -- a refused call
+  pub says-no : (n : No) → refusalStored (nightPhase w) (callOf k places) r ≡ some n → (advanceStored (nightPhase w) (callOf k places) r) ≡ (refused n, r)
+  says-no n e = stored-refused (nightPhase w) (callOf k places) r n e
+
+  -- one that is not
+  pub goes-on : (x : Advanced) → refusalStored (nightPhase w) (callOf k places) r ≡ none → replyStored (nightPhase w) k r ≡ (answerOf (nightPhase w) x, x .after)
+      → advanceStored (nightPhase w) (callOf k places) r ≡ (answerOf (nightPhase w) x, x .after)
+  goes-on x e q = stored-goes (nightPhase w) (callOf k places) r e ∙ q
+
+answered-writes : (P : Phase) (r : Stored) (made pen : ℕ) (e : Ending) (L buf : List ℕ) → leftBy (answerWith P r made pen e) L buf ≡ L ++ drop (length L) buf
+unfolding leftBy
+answered-writes P r made pen Zero L buf = refl
+answered-writes P r made pen Asked L buf = refl
+answered-writes P r made pen Stuck L buf = refl
+
+pub writes : (P : Phase) (x : Advanced) (L buf : List ℕ) → leftBy (answerOf P x) L buf ≡ L ++ drop (length L) buf
+writes P x L buf = answered-writes P (x .after) (x .steps) (x .penalty) (x .ending) L buf
+
+pub writes-nothing : (n : No) (L buf : List ℕ) → buf ≡ leftBy (refused n) L buf
+unfolding leftBy
+writes-nothing n L buf = refl

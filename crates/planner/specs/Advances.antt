@@ -1,0 +1,51 @@
+-- What an advance answers and leaves, for a file of any bytes, a record of any content, any k and a buffer of any length.
+use Prim.Native.Nat.{ℕ}
+use mathlib.Core.List.{List, [], _∷_, _++_}
+use lib.ListN.{length, drop}
+use Rattle.ward.specs.Grammar.{Read, good, bad}
+use Rattle.ward.specs.Answers.{readWard}
+use Rattle.nights.specs.Nights.{commonOf}
+use Rattle.search.specs.declared.Record.{Record as Stored}
+use Rattle.search.specs.Phase.{Phase, Call, No, Answer, refused, ended, End, End·zero, End·asked, End·none}
+use Rattle.search.specs.Stored.{advanceStored}
+use Rattle.planner.specs.Phases.{nightPhase}
+use Rattle.planner.specs.declared.Outcome.{Outcome}
+use Rattle.planner.specs.declared.Outcome.the-variants.{Refused, Zero, Asked, Stuck}
+use Rattle.planner.specs.declared.Advance.{Advance}
+
+-- the end of an advance as the outcome says it
+abbrev pub outcomeOf : End → Outcome
+outcomeOf End·zero = Zero
+outcomeOf End·asked = Asked
+outcomeOf End·none = Stuck
+
+-- The answer and the record as the call gives them. A no gives the question's number and its place; the record comes back as it was, and all else is 0.
+unfoldable pub advanceOf : Answer → Stored → Advance
+advanceOf (refused n) r = record { kept = r; penalty = 0; steps = 0; outcome = Refused (n .question) (n .place) }
+advanceOf (ended e made pen roster) r = record { kept = r; penalty = pen; steps = made; outcome = outcomeOf e }
+
+-- a list written from the buffer's start, the rest untouched; a refused call writes nothing
+unfoldable pub leftBy : Answer → List ℕ → List ℕ → List ℕ
+leftBy (refused n) list buffer = buffer
+leftBy (ended e made pen roster) list buffer = list ++ drop (length list) buffer
+
+abbrev pub callOf : ℕ → ℕ → Call
+callOf k places = record { steps = k; places = places }
+
+-- ---- nights
+
+-- questions 1 to 5 are the reader's; the ward's numbers then are a phase
+unfoldable pub nightOn : Read → Stored → ℕ → ℕ → Answer × Stored
+nightOn (bad q p) r k places = (refused (record { question = q; place = p }), r)
+nightOn (good w) r k places = advanceStored (nightPhase w) (callOf k places) r
+
+unfoldable pub nightAdvance : List ℕ → Stored → ℕ → List ℕ → Advance
+nightAdvance file r k buffer = let a = nightOn (readWard file) r k (length buffer) in advanceOf (a .0) (a .1)
+
+-- the common list
+abbrev pub listOf : Read → List ℕ
+listOf (bad q p) = []
+listOf (good w) = commonOf w
+
+unfoldable pub nightLeft : List ℕ → Stored → ℕ → List ℕ → List ℕ
+nightLeft file r k buffer = leftBy (nightOn (readWard file) r k (length buffer) .0) (listOf (readWard file)) buffer
