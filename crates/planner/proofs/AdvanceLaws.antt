@@ -10,8 +10,9 @@ use lib.ListN.{length, take, drop}
 use lib.Seq.{take-at}
 use borrow.Author.Tests.{le-leb, lt-leb}
 use Rattle.numbers.specs.Range.{upFrom, keep, Ascending}
-use Rattle.ward.specs.Fields.{Accepted, nurses, tabu}
-use Rattle.nights.specs.Nights.{commonOf}
+use Rattle.ward.specs.Fields.{Accepted, nurses, days, tabu}
+use Rattle.nights.specs.declared.Rules.{Rules}
+use Rattle.nights.specs.Nights.{rulesOf, common, commonOf}
 use Rattle.nights.specs.Hers.{hersOf, nightList}
 use Rattle.nights.proofs.ListLaws.{list-of-common, list-ascending}
 use Rattle.search.specs.declared.Record.{Record as Stored}
@@ -22,7 +23,7 @@ use Rattle.search.specs.Phase.{Phase, Call, No, Answer, refused, ended, unless,
 use Rattle.search.specs.Record.{lacking}
 use Rattle.search.specs.Stored.{advanceStored, refusalStored, replyStored, soundStored, Sized}
 use Rattle.search.specs.Seek.{Seeks, Lists, answerWith, answerOf}
-use Rattle.search.proofs.AdvanceLaws.{stored-refused, stored-goes}
+use Rattle.search.proofs.AdvanceLaws.{stored-refused, stored-goes, asks-seven, asks-room, asks-lacking, asks-sound, asks-none}
 use Rattle.planner.specs.declared.Advance.{Advance}
 use Rattle.planner.specs.declared.Outcome.the-variants as outcome
 use Rattle.planner.specs.Phases.{nightPhase, commonFits}
@@ -86,3 +87,42 @@ writes P x L buf = answered-writes P (x .after) (x .steps) (x .penalty) (x .endi
 pub writes-nothing : (n : No) (L buf : List ℕ) → buf ≡ leftBy (refused n) L buf
 unfolding leftBy
 writes-nothing n L buf = refl
+
+-- ---- the questions by night, in order
+
+module _ (w : List ℕ) (r : Stored) (k places : ℕ) where
+  pub night-seven : {b : Bool} → b ≡ (leb k 10000 && leb (r .steps + k) 1000000) → b ≡ false
+      → some (record { question = 7; place = 0 }) ≡ refusalStored (nightPhase w) (callOf k places) r
+  night-seven e f = sym (asks-seven (nightPhase w) (callOf k places) r (sym e ∙ f))
+
+  too-long : {need : ℕ} {rules : Rules} → rules ≡ rulesOf w → need ≡ min (places + 1) (length (common rules (days w))) → places < need
+      → nightPhase w .room places ≡ some (record { question = 9; place = 0 })
+  unfolding nightPhase commonFits
+  too-long {need} {rules} e q l =
+      let s : length (common rules (days w)) ≡ length (commonOf w) = ap (λ (x : Rules). length (common x (days w))) e in
+      rw (lt-leb (length (commonOf w)) places (omega arith))
+
+  pub room-enough : {need : ℕ} {rules : Rules} → rules ≡ rulesOf w → need ≡ min (places + 1) (length (common rules (days w))) → need ≤ places → length (commonOf w) ≤ places
+  room-enough {need} {rules} e q l =
+      let s : length (common rules (days w)) ≡ length (commonOf w) = ap (λ (x : Rules). length (common x (days w))) e in
+      omega arith
+
+  has-room : {need : ℕ} {rules : Rules} → rules ≡ rulesOf w → need ≡ min (places + 1) (length (common rules (days w))) → need ≤ places → nightPhase w .room places ≡ none
+  unfolding nightPhase commonFits
+  has-room e q l = rw (le-leb (length (commonOf w)) places (room-enough e q l))
+
+  module _ {b : Bool} (e : b ≡ (leb k 10000 && leb (r .steps + k) 1000000)) (f : b ≡ true) {need : ℕ} {rules : Rules}
+      (g : rules ≡ rulesOf w) (q : need ≡ min (places + 1) (length (common rules (days w)))) where
+    pub night-nine : places < need → some (record { question = 9; place = 0 }) ≡ refusalStored (nightPhase w) (callOf k places) r
+    night-nine l = sym (asks-room (nightPhase w) (callOf k places) r (sym e ∙ f) (too-long g q l))
+
+    pub night-ten : {n : No} → need ≤ places → some n ≡ lacking (nightPhase w .patterns) (upFrom 0 (nightPhase w .nurses)) → some n ≡ refusalStored (nightPhase w) (callOf k places) r
+    night-ten l x = sym (asks-lacking (nightPhase w) (callOf k places) r (sym e ∙ f) (has-room g q l) (sym x))
+
+    pub night-eleven : {s : Bool} → need ≤ places → none ≡ lacking (nightPhase w .patterns) (upFrom 0 (nightPhase w .nurses)) → s ≡ soundStored (nightPhase w) r → s ≡ false
+        → some (record { question = 11; place = 0 }) ≡ refusalStored (nightPhase w) (callOf k places) r
+    night-eleven l x y z = sym (asks-sound (nightPhase w) (callOf k places) r (sym e ∙ f) (has-room g q l) (sym x) (sym y ∙ z))
+
+    pub night-none : {s : Bool} → need ≤ places → none ≡ lacking (nightPhase w .patterns) (upFrom 0 (nightPhase w .nurses)) → s ≡ soundStored (nightPhase w) r → s ≡ true
+        → none ≡ refusalStored (nightPhase w) (callOf k places) r
+    night-none l x y z = sym (asks-none (nightPhase w) (callOf k places) r (sym e ∙ f) (has-room g q l) (sym x) (sym y ∙ z))
