@@ -27,7 +27,7 @@ use Rattle.search.proofs.AdvanceLaws.{stored-refused, stored-goes, asks-seven, 
 use Rattle.planner.specs.declared.Advance.{Advance}
 use Rattle.planner.specs.declared.Outcome.the-variants as outcome
 use Rattle.planner.specs.Phases.{nightPhase, commonFits}
-use Rattle.planner.specs.Advances.{advanceOf, leftBy, callOf}
+use Rattle.planner.specs.Outcomes.{advanceOf, leftBy, callOf}
 
 module _ (P : Phase) (r : Stored) (made pen : ℕ) {e : Ending} where
   pub ended-zero : e ≡ Zero → record { kept = r; penalty = pen; steps = made; outcome = outcome.Zero } ≡ advanceOf (answerWith P r made pen e) r

@@ -1,3 +1,3 @@
 pub mod Phases
 pub mod Demand
-pub mod Advances
+pub mod Outcomes

@@ -8,7 +8,7 @@ ghost use mathlib.Core.Path.{_≡_};
 ghost use Prim.Native.Nat.{ℕ};
 ghost use Rattle.search.specs.Phase.{Phase, refused};
 ghost use Rattle.search.specs.Seek.{answerOf};
-ghost use Rattle.planner.specs.Advances.{advanceOf};
+ghost use Rattle.planner.specs.Outcomes.{advanceOf};
 
 // A refusal: the record as it was, and all else 0.
 pub(crate) fn refuse(rec: Record, question: u32, place: usize) -> Advance

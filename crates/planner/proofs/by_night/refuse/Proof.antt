@@ -1,6 +1,6 @@
 -- `planner::by_night::refuse` meets its contract.
 use mathlib.Core.Path.{refl}
-use Rattle.planner.specs.Advances.{advanceOf}
+use Rattle.planner.specs.Outcomes.{advanceOf}
 use Rattle.planner.proofs.by_night.refuse.Statement.{statement}
 use Rattle.planner.proofs.by_night.refuse.Tie as tie
 use Rattle.planner.proofs.by_night.refuse.Reads as reads

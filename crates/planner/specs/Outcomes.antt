@@ -6,9 +6,8 @@ use Rattle.ward.specs.Grammar.{Read, good, bad}
 use Rattle.ward.specs.Answers.{readWard}
 use Rattle.nights.specs.Nights.{commonOf}
 use Rattle.search.specs.declared.Record.{Record as Stored}
-use Rattle.search.specs.Phase.{Phase, Call, No, Answer, refused, ended, End, End·zero, End·asked, End·none}
-use Rattle.search.specs.Stored.{advanceStored}
-use Rattle.planner.specs.Phases.{nightPhase}
+use Rattle.search.specs.Phase.{Call, No, Answer, refused, ended, End, End·zero, End·asked, End·none}
+use Rattle.planner.specs.Advances.{advanceNights}
 use Rattle.planner.specs.declared.Outcome.{Outcome}
 use Rattle.planner.specs.declared.Outcome.the-variants.{Refused, Zero, Asked, Stuck}
 use Rattle.planner.specs.declared.Advance.{Advance}
@@ -32,20 +31,12 @@ leftBy (ended e made pen roster) list buffer = list ++ drop (length list) buffer
 abbrev pub callOf : ℕ → ℕ → Call
 callOf k places = record { steps = k; places = places }
 
--- ---- nights
+-- ---- what the night advance leaves
 
--- questions 1 to 5 are the reader's; the ward's numbers then are a phase
-unfoldable pub nightOn : Read → Stored → ℕ → ℕ → Answer × Stored
-nightOn (bad q p) r k places = (refused (record { question = q; place = p }), r)
-nightOn (good w) r k places = advanceStored (nightPhase w) (callOf k places) r
-
-unfoldable pub nightAdvance : List ℕ → Stored → ℕ → List ℕ → Advance
-nightAdvance file r k buffer = let a = nightOn (readWard file) r k (length buffer) in advanceOf (a .0) (a .1)
-
--- the common list
+-- the common list of the file's ward
 abbrev pub listOf : Read → List ℕ
 listOf (bad q p) = []
 listOf (good w) = commonOf w
 
 unfoldable pub nightLeft : List ℕ → Stored → ℕ → List ℕ → List ℕ
-nightLeft file r k buffer = leftBy (nightOn (readWard file) r k (length buffer) .0) (listOf (readWard file)) buffer
+nightLeft file r k buffer = leftBy (advanceNights file (callOf k (length buffer)) r .0) (listOf (readWard file)) buffer
