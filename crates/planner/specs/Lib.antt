@@ -1,3 +1,4 @@
 pub mod Phases
-pub mod Demand
+pub mod Advances
 pub mod Answers
+pub mod Demand
