@@ -19,11 +19,11 @@ use Rattle.ward.proofs.AcceptedLaws.{accepted-ward}
 use Rattle.nights.specs.Hers.{hersOf}
 use Rattle.days.specs.Days.{dayRuleOf, dayList}
 use Rattle.penalty.specs.Penalty.{Slot, isNone, workedIn, atDay, nightPenalty, dayPenalty}
-use Rattle.penalty.specs.Held.{LowsHeld, HighsHeld, DayHeld}
+use Rattle.penalty.specs.Held.{DayHeld}
 use Rattle.penalty.proofs.HeldLaws.{day-zero, day-held}
-use Rattle.search.specs.Phase.{Step, Phase, Call, No, Answer, End, End·zero, End·asked, End·none, first, unless, refusal, ended, inTurn}
+use Rattle.search.specs.Phase.{Step, Phase, Call, No, Answer, End, End·zero, End·asked, End·none, first, unless, refusal, ended}
 use Rattle.search.specs.History.{History, inUse, penalty}
-use Rattle.search.specs.Claim.{Steps, Made, Went, refuses, goes, Turns, done, turn, Demand3}
+use Rattle.search.specs.Claim.{Steps, Made, refuses, goes, Turns, done, turn, Demand3}
 use Rattle.search.specs.Stored.{patternOf, allZero, store, advanceStored}
 use Rattle.search.specs.declared.Record.{Record as Stored}
 use Rattle.search.proofs.TestLaws.{and-true}

@@ -1,3 +1,4 @@
 pub mod PhaseLaws
 pub mod DemandLaws
 pub mod AnswerLaws
+pub mod RoomLaws

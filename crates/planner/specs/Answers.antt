@@ -2,7 +2,7 @@
 use Prim.Native.Nat.{ℕ, _*_}
 use mathlib.Core.Bool.{Bool, true, false}
 use mathlib.Core.List.{List}
-use mathlib.Core.Option.{Option, none, some}
+use mathlib.Core.Option.{none, some}
 use Rattle.ward.specs.Fields.{nurses, days}
 use Rattle.ward.specs.Grammar.{Read, good, bad}
 use Rattle.ward.specs.Answers.{readWard}
