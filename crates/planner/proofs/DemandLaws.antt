@@ -11,22 +11,30 @@ use Rattle.numbers.specs.Range.{keep, upFrom, all}
 use Rattle.numbers.specs.Digits.{has}
 use Rattle.numbers.proofs.AllLaws.{all-each}
 use Rattle.ward.specs.Fields.{Accepted, nurses, days}
+use Rattle.ward.specs.Grammar.{Read, good}
+use Rattle.ward.specs.Answers.{readWard}
+use Rattle.ward.proofs.RoundTrip.{ward-back}
+use Rattle.ward.proofs.BothWaysLaws.{all-bytes}
+use Rattle.ward.proofs.AcceptedLaws.{accepted-ward}
 use Rattle.nights.specs.Hers.{hersOf}
 use Rattle.days.specs.Days.{dayRuleOf, dayList}
 use Rattle.penalty.specs.Penalty.{Slot, isNone, workedIn, atDay, nightPenalty, dayPenalty}
-use Rattle.penalty.specs.Held.{LowsHeld, HighsHeld, DayHeld}
+use Rattle.penalty.specs.Held.{DayHeld}
 use Rattle.penalty.proofs.HeldLaws.{day-zero, day-held}
-use Rattle.search.specs.Phase.{Step, Phase, Call, No, Answer, End, End·zero, End·asked, End·none, first, unless, refusal, ended, inTurn}
+use Rattle.search.specs.Phase.{Step, Phase, Call, No, Answer, End, End·zero, End·asked, End·none, first, unless, refusal, ended}
 use Rattle.search.specs.History.{History, inUse, penalty}
-use Rattle.search.specs.Claim.{Steps, Made, Went, refuses, goes, Turns, done, turn}
+use Rattle.search.specs.Claim.{Steps, Made, refuses, goes, Turns, done, turn, Demand3}
 use Rattle.search.specs.Stored.{patternOf, allZero, store, advanceStored}
+use Rattle.search.specs.declared.Record.{Record as Stored}
 use Rattle.search.proofs.TestLaws.{and-true}
 use Rattle.search.proofs.DemandLaws.{zero≢asked}
 use Rattle.search.proofs.AdvanceLaws.{demand3-stored}
 use Rattle.rosters.specs.Check.{misplaced, holds}
 use Rattle.rosters.proofs.GivenLaws.{duty-alike, members-alike, Patterns, placedAll, given-at-zero}
 use Rattle.planner.specs.Phases.{nightPhase, nightsOpen, listsFit, dayListOver, dayPhase}
-use Rattle.planner.specs.Demand.{NightPatterns, DayPatterns, Rightly, Each, NightDemand, DayDemand, Demand}
+use Rattle.planner.specs.Advances.{advanceOver, nightOf, advanceDays}
+use Rattle.planner.specs.Answers.{said, checkLetters, checkOver, checkSays}
+use Rattle.planner.specs.Demand.{NightPatterns, DayPatterns, Rightly, Each, NightDemand, DayDemand, Demanded}
 use Rattle.planner.proofs.PhaseLaws.{night-fits, night-lawful, day-fits, day-lawful}
 
 -- ---- each pattern in use is one of hers
@@ -146,33 +154,52 @@ module _ (w : List ℕ) (nights : ℕ → ℕ) where
         let g = given-at-zero w nights (patterns slots z) a all-hers (eqb-true _ 0 (parts .1)) (penalty-alike slots z) in
         (g .placed, g .yes-said)
 
-    -- one advance that is not refused
-    right-made : (e : End) {k n c : ℕ} {h h′ : History} {l : List ℕ} → nightsOpen w nights ≡ true → Made (dayPhase w nights) k h h′ e n c l
-        → Steps (dayPhase w nights) h′ → Rightly w (ended e n c l)
-    unfolding penalty dayPhase
-    right-made End·zero {h′} o m f =
-        let z = m .zero-when .0 refl in
-        subst YesTo (sym (m .letters .0 z)) (yes-at-zero (inUse h′) o (sym (m .after) ∙ z) (in-use-hers (dayPhase w nights) h′ f))
-    right-made End·asked o m f = m .letters .1 (λ z. zero≢asked (sym (m .zero-when .1 z)))
-    right-made End·none o m f = m .letters .1 (λ z. m .none-when .0 refl .2 z)
+    module _ (file : List ℕ) (reads : readWard file ≡ good w) where
+      check-yes : (l : List ℕ) → YesTo l → checkSays file l ≡ said true
+      unfolding checkOver checkLetters
+      check-yes l y = ap (λ (x : Read). checkOver x l) reads ∙ rw (y .0, checkLetters, y .1)
 
-    each-right : {cs : List Call} {l : List Answer} {h h″ : History} → Turns (dayPhase w nights) cs l h h″ → Steps (dayPhase w nights) h″ → Each (Rightly w) l
-    each-right done f = tt
-    each-right (turn (refuses e) ts) f = (tt, each-right ts f)
-    each-right (turn {c} {h} (goes {e = end} e m) ts) f = (right-made end (nights-open c _ e) m (steps-then ts f), each-right ts f)
+      -- one advance that is not refused
+      right-made : (e : End) {k n c : ℕ} {h h′ : History} {l : List ℕ} → nightsOpen w nights ≡ true → Made (dayPhase w nights) k h h′ e n c l
+          → Steps (dayPhase w nights) h′ → Rightly file (ended e n c l)
+      unfolding penalty dayPhase
+      right-made End·zero {h′} {l} o m f =
+          let z = m .zero-when .0 refl in
+          let y = yes-at-zero (inUse h′) o (sym (m .after) ∙ z) (in-use-hers (dayPhase w nights) h′ f) in
+          check-yes l (subst YesTo (sym (m .letters .0 z)) y)
+      right-made End·asked o m f = m .letters .1 (λ z. zero≢asked (sym (m .zero-when .1 z)))
+      right-made End·none o m f = m .letters .1 (λ z. m .none-when .0 refl .2 z)
+
+      each-right : {cs : List Call} {l : List Answer} {h h″ : History} → Turns (dayPhase w nights) cs l h h″ → Steps (dayPhase w nights) h″ → Each (Rightly file) l
+      each-right done f = tt
+      each-right (turn (refuses e) ts) f = (tt, each-right ts f)
+      each-right (turn {c} {h} (goes {e = end} e m) ts) f = (right-made end (nights-open c _ e) m (steps-then ts f), each-right ts f)
 
 -- ---- demand 3
 
-pub night-demand : (w : List ℕ) → Accepted w → NightPatterns w → (cs : List Call) → NightDemand w cs
-night-demand w a has = demand3-stored (nightPhase w) (night-lawful w a has) (night-fits w a)
+-- an advance over a file that reads as w is the search's over w
+advance-read : (phase : List ℕ → Phase) (file w : List ℕ) → readWard file ≡ good w → (λ c r. advanceOver phase (readWard file) c r) ≡ advanceStored (phase w)
+unfolding advanceOver
+advance-read phase file w e = ap (advanceOver phase) e
 
-pub day-demand : (w : List ℕ) (nights : ℕ → ℕ) → Accepted w → DayPatterns w nights → (cs : List Call) → DayDemand w nights cs
-day-demand w nights a has cs =
-    let d = demand3-stored (dayPhase w nights) (day-lawful w nights a has) (day-fits w nights a) cs in
-    record {
-      claim = d;
-      rosters = rw (d .follows) (each-right w nights a (d .each) (d .steps));
-    }
+module _ (file w : List ℕ) (reads : readWard file ≡ good w) (a : Accepted w) where
+  pub night-demand : NightPatterns w → (cs : List Call) → NightDemand file w cs
+  night-demand has cs =
+      subst (λ (adv : Call → Stored → Answer × Stored). Demand3 (nightPhase w) allZero adv store cs) (sym (advance-read nightPhase file w reads))
+      (demand3-stored (nightPhase w) (night-lawful w a has) (night-fits w a) cs)
 
-pub demand : (w : List ℕ) → Accepted w → Demand w
-demand w a = record { nights = night-demand w a; days = λ nights. day-demand w nights a }
+  pub day-demand : (nights : List ℕ) → DayPatterns w (nightOf nights) → (cs : List Call) → DayDemand file w nights cs
+  day-demand nights has cs =
+      let P = dayPhase w (nightOf nights) in
+      let d : Demand3 P allZero (advanceDays file nights) store cs
+      = subst (λ (adv : Call → Stored → Answer × Stored). Demand3 P allZero adv store cs) (sym (advance-read (λ v. dayPhase v (nightOf nights)) file w reads))
+      (demand3-stored P (day-lawful w (nightOf nights) a has) (day-fits w (nightOf nights) a) cs) in
+      record {
+        claim = d;
+        rosters = rw (d .follows) (each-right w (nightOf nights) a file reads (d .each) (d .steps));
+      }
+
+pub demand : Demanded
+demand file w bytes e =
+    let a = accepted-ward w w (ward-back file w (all-bytes file bytes) e .1) in
+    record { nights = night-demand file w e a; days = day-demand file w e a }

@@ -1,3 +1,5 @@
 pub mod PhaseLaws
 pub mod DemandLaws
 pub mod AdvanceLaws
+pub mod AnswerLaws
+pub mod RoomLaws

@@ -1,9 +1,8 @@
 -- Nights and days are phases of which demand 3 is proved: the places fit, the lists ascend, and the unplaced cost a flat 10,000,000 beside a rest below it.
-use Prim.Native.Nat.{ℕ, _<_}
+use Prim.Native.Nat.{ℕ, _^_, _<_}
 use mathlib.Core.List.{List}
 use Rattle.numbers.specs.Range.{Ascending}
 use Rattle.numbers.proofs.RangeLaws.{keep-ascending}
-use Prim.Native.Nat.{_^_}
 use Rattle.ward.specs.Fields.{Accepted, nurses, days}
 use Rattle.nights.proofs.ListLaws.{list-ascending}
 use Rattle.days.specs.Days.{dayRuleOf, dayList}
@@ -11,7 +10,7 @@ use Rattle.penalty.specs.Penalty.{rest, nightParts, dayParts, unplacedIn}
 use Rattle.penalty.proofs.BoundLaws.{night-split, day-split}
 use Rattle.search.specs.Claim.{Lawful}
 use Rattle.search.specs.Stored.{Fits}
-use Rattle.planner.specs.Phases.{nightPhase, dayPhase, dayListOver}
+use Rattle.planner.specs.Phases.{nightPhase, dayPhase}
 use Rattle.planner.specs.Demand.{NightPatterns, DayPatterns}
 
 -- ---- nights

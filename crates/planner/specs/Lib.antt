@@ -1,3 +1,5 @@
 pub mod Phases
+pub mod Advances
+pub mod Answers
 pub mod Demand
 pub mod Outcomes

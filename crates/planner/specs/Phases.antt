@@ -11,7 +11,7 @@ use Rattle.nights.specs.Nights.{commonOf}
 use Rattle.nights.specs.Hers.{hersOf, nightList}
 use Rattle.days.specs.Days.{dayList}
 use Rattle.days.specs.Lists.{firstOver}
-use Rattle.penalty.specs.Penalty.{Slot, nightPenalty, dayPenalty}
+use Rattle.penalty.specs.Penalty.{nightPenalty, dayPenalty}
 use Rattle.search.specs.Phase.{Phase, No, first, unless}
 use Rattle.search.specs.Stored.{patternOf}
 use Rattle.rosters.specs.Letters.{letters}

@@ -1,9 +1,13 @@
 // The published calls.
 mod by_night;
 
+use rosters::letters::Place;
+use ward::Answer;
 ghost use mathlib.Core.Path.{_≡_};
 ghost use lib.ListN.{length};
+ghost use Rattle.ward.specs.Fields.{Accepted};
 ghost use Rattle.ward.specs.Answers.{readingOf, readWard, counted, checkWard, writingOf, leftOf};
+ghost use Rattle.planner.specs.Answers.{saidBy, checkLetters, checkSays};
 
 // The ward of a file, or the first of questions 1 to 5 that it fails.
 pub fn read(file: &[u8]) -> ward::Reading
@@ -34,4 +38,48 @@ pub struct Advance {
     pub penalty: u64,
     pub steps: u32,
     pub outcome: Outcome,
+}
+
+// What the check answers: a refusal; or that the roster keeps the rules, or that a rule is broken.
+pub enum Checked {
+    Refused { question: u32, place: usize },
+    Passed,
+    Broken,
+}
+
+// Question 12, then the rules, over an accepted ward.
+fn check_letters(w: &[u64], roster: &[u8]) -> Checked
+    requires { ⌜ Accepted (now w) ⌝ }
+    ensures { λ r. ⌜ saidBy r ≡ checkLetters (now (w .entry)) (now (roster .entry)) ⌝ }
+{
+    let m = ward::fields::nurses(w);
+    let n = ward::fields::days(w);
+    match rosters::letters::misplaced_at(roster, m * n) {
+        Place::At(place) => Checked::Refused {
+            question: 12,
+            place,
+        },
+        Place::Nowhere => {
+            if rosters::roster_holds(w, roster) {
+                return Checked::Passed;
+            }
+            Checked::Broken
+        }
+    }
+}
+
+// Whether a roster keeps the rules of a ward, or the first of questions 1 to 5 and 12 that is a no.
+pub fn check(file: &[u8], roster: &[u8]) -> Checked
+    ensures { λ r. ⌜ saidBy r ≡ checkSays (now (file .entry)) (now (roster .entry)) ⌝ }
+{
+    let reading = ward::read(file);
+    let answer = reading.answer;
+    match answer {
+        Answer::No { question, place } => Checked::Refused { question, place },
+        Answer::Yes => {
+            let numbers = reading.ward.numbers;
+            let count = reading.ward.count;
+            check_letters(&numbers[..count], roster)
+        }
+    }
 }

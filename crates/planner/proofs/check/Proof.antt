@@ -1,0 +1,47 @@
+-- `check` meets its contract: the reader's refusal, or what the numbers that it gave say of the roster.
+use lib.Seq.{length-take-le}
+use mathlib.Core.Path.{sym}
+use Rattle.ward.proofs.ReadingLaws.{reading-accepted, reading-fits}
+use Rattle.planner.proofs.AnswerLaws.{check-refused, check-says}
+use borrow.Author.Needs.{needs}
+use Rattle.planner.proofs.check.Statement.{statement}
+use Rattle.planner.proofs.check.Tie as tie
+
+read-requires : tie.Need-read-requires
+read-requires c κs = search needs
+
+enum-known-answer : tie.Need-enum-known-answer
+enum-known-answer c = search needs
+
+enum-told : tie.Need-enum-told
+enum-told c = search needs
+
+array-share-prefix-numbers : tie.Need-array-share-prefix-numbers
+array-share-prefix-numbers c = reading-fits _ _ (c .before .before .before .read .ensures)
+
+slice-aggregate-check-letters : tie.Need-slice-aggregate-check-letters
+slice-aggregate-check-letters c = sym (length-take-le _ _ (reading-fits _ _ (c .before .before .before .before .read .ensures)))
+
+check-letters-requires : tie.Need-check-letters-requires
+check-letters-requires c κs =
+    reading-accepted (c .before .before .before .before .before .before .before .args .file .now) _ (λ i. c .before .before .before .before .before .before .shared-slice-known .given i .fits) (c .before .before .before .before .read .ensures) (c .before .before .enum-told .given .1)
+
+returns : tie.Need-returns
+returns c = check-refused (c .before .before .before .before .before .before .args .file .now) (c .before .before .before .before .before .before .args .roster .now) _ (c .before .before .before .read .ensures) (c .before .answer .given .1)
+
+returns-2 : tie.Need-returns-2
+returns-2 c =
+    check-says (c .before .before .before .before .before .before .before .before .args .file .now) (c .before .before .before .before .before .before .before .before .args .roster .now) _ (c .before .before .before .before .before .read .ensures) (c .before .before .before .enum-told .given .1) (c .check-letters .ensures)
+
+pub check-spec : {M : Type 1} → statement M
+check-spec =
+    tie.close
+    (tie.spec
+    read-requires
+    enum-known-answer
+    enum-told
+    array-share-prefix-numbers
+    slice-aggregate-check-letters
+    check-letters-requires
+    returns
+    returns-2)

@@ -1,0 +1,59 @@
+-- `check_letters` meets its contract: question 12's place, then what the rules say.
+use native.Mathlib.Nat.{mul-le-mul}
+use native.Mathlib.Omega.{arith}
+use mathlib.Core.Path.{sym, _∙_}
+use Rattle.planner.proofs.AnswerLaws.{letters-long, letters-refused, letters-said}
+use borrow.Author.Needs.{needs}
+use Rattle.planner.proofs.check_letters.Statement.{statement}
+use Rattle.planner.proofs.check_letters.Tie as tie
+
+nurses-requires : tie.Need-nurses-requires
+nurses-requires c κs = search needs
+
+days-requires : tie.Need-days-requires
+days-requires c κs = search needs
+
+mul-misplaced-at : tie.Need-mul-misplaced-at
+mul-misplaced-at c = omega (arith, mul-le-mul (c .before .nurses .ensures .1) (c .days .ensures .1))
+
+misplaced-at-requires : tie.Need-misplaced-at-requires
+misplaced-at-requires c κs = search needs
+
+enum-known-place : tie.Need-enum-known-place
+enum-known-place c = search needs
+
+enum-told : tie.Need-enum-told
+enum-told c = search needs
+
+roster-holds-requires : tie.Need-roster-holds-requires
+roster-holds-requires c κs =
+    (c .before .before .before .before .before .before .before .pre, letters-long (c .before .before .before .before .before .before .before .args .w .now) (c .before .before .before .before .before .before .before .args .roster .now) (c .before .before .misplaced-at .result) (c .before .before .before .before .nurses .ensures .0) (c .before .before .before .days .ensures .0) (c .before .before .misplaced-at .ensures) (c .enum-told .given .1))
+
+returns : tie.Need-returns
+returns c =
+    letters-said (c .before .before .before .before .before .before .before .before .before .args .w .now) (c .before .before .before .before .before .before .before .before .before .args .roster .now) (c .before .before .before .before .misplaced-at .result) (c .before .before .before .before .before .before .nurses .ensures .0) (c .before .before .before .before .before .days .ensures .0) (c .before .before .before .before .misplaced-at .ensures) (c .before .before .enum-told .given .1)
+    (sym (c .before .roster-holds .ensures) ∙ c .if1 .taken)
+
+returns-2 : tie.Need-returns-2
+returns-2 c =
+    letters-refused (c .before .before .before .before .before .before .before .before .args .w .now) (c .before .before .before .before .before .before .before .before .args .roster .now) (c .before .before .before .misplaced-at .result) (c .before .before .before .before .before .nurses .ensures .0) (c .before .before .before .before .days .ensures .0) (c .before .before .before .misplaced-at .ensures) (c .before .place .given .1)
+
+returns-3 : tie.Need-returns-3
+returns-3 c =
+    letters-said (c .before .before .before .before .before .before .before .before .before .args .w .now) (c .before .before .before .before .before .before .before .before .before .args .roster .now) (c .before .before .before .before .misplaced-at .result) (c .before .before .before .before .before .before .nurses .ensures .0) (c .before .before .before .before .before .days .ensures .0) (c .before .before .before .before .misplaced-at .ensures) (c .before .before .enum-told .given .1)
+    (sym (c .before .roster-holds .ensures) ∙ c .if1 .left)
+
+pub check-letters-spec : {M : Type 1} → statement M
+check-letters-spec =
+    tie.close
+    (tie.spec
+    nurses-requires
+    days-requires
+    mul-misplaced-at
+    misplaced-at-requires
+    enum-known-place
+    enum-told
+    roster-holds-requires
+    returns
+    returns-2
+    returns-3)
