@@ -1,4 +1,5 @@
 // The published calls.
+mod by_day;
 mod by_night;
 
 use rosters::letters::Place;

@@ -1,7 +1,7 @@
 // The search, for any phase: its record, what a step makes of it, and which exchange a step takes.
 pub mod best;
 mod removals;
-mod slots;
+pub mod slots;
 pub mod tries;
 mod unused;
 

@@ -94,7 +94,7 @@ pub(crate) fn unplaced(rec: Record, m: usize) -> u64
 }
 
 // The penalty of a record.
-pub(crate) fn penalty_of(w: &[u64], rec: Record, daily: bool) -> u64
+pub fn penalty_of(w: &[u64], rec: Record, daily: bool) -> u64
     requires { ⌜ Accepted (now w) ⌝ }
     ensures { λ r. ⌜ ((slots : ℕ → Slot) → Agree (now (w .entry)) rec slots → r ≡ costOf daily (now (w .entry)) slots) ⌝ }
 {
