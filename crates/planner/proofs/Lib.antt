@@ -1,2 +1,3 @@
 pub mod PhaseLaws
 pub mod DemandLaws
+pub mod QuestionLaws

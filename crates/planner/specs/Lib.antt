@@ -1,2 +1,3 @@
 pub mod Phases
 pub mod Demand
+pub mod Asked
