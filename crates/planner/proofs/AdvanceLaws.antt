@@ -8,7 +8,8 @@ use native.Mathlib.Omega.{arith}
 use lib.Dec.{leb, ltb}
 use lib.ListN.{length, take, drop}
 use lib.Seq.{take-at}
-use borrow.Author.Tests.{le-leb, lt-leb}
+use native.Mathlib.Numerals.{add-one}
+use borrow.Author.Tests.{le-leb, lt-leb, lt-ltb, le-ltb}
 use Rattle.numbers.specs.Range.{upFrom, keep, Ascending}
 use Rattle.ward.specs.Fields.{Accepted, nurses, days, tabu}
 use Rattle.nights.specs.declared.Rules.{Rules}
@@ -27,6 +28,7 @@ use Rattle.search.proofs.AdvanceLaws.{stored-refused, stored-goes, asks-seven, 
 use Rattle.planner.specs.declared.Advance.{Advance}
 use Rattle.planner.specs.declared.Outcome.the-variants as outcome
 use Rattle.planner.specs.Phases.{nightPhase, commonFits}
+use Rattle.planner.specs.Asked.{phaseOf, lackedAt}
 use Rattle.planner.specs.Outcomes.{advanceOf, leftBy, callOf}
 
 module _ (P : Phase) (r : Stored) (made pen : ℕ) {e : Ending} where
@@ -43,23 +45,6 @@ module _ (P : Phase) (r : Stored) (made pen : ℕ) {e : Ending} where
   ended-stuck q = sym (ap (λ (x : Ending). advanceOf (answerWith P r made pen x) r) q)
 
 -- ---- nights
-
--- the search over the common list serves the night phase
-pub night-seeks : (w ends : List ℕ) {list : List ℕ} → list ≡ commonOf w → Seeks false w list ends (nightPhase w)
-unfolding nightPhase
-night-seeks w ends e = record {
-  nurses-are = refl;
-  tabu-is = refl;
-  cost-is = λ slots. refl;
-  patterns-are = λ i l. list-of-common w i ∙ ap (keep (hersOf w i)) (sym e);
-  ascending = λ i l. list-ascending w i;
-}
-
-no-day : _≡_ {A = Bool} false true → ⊥
-no-day z = let y : _≡_ {A = ℕ} 0 1 = cc in omega arith
-
-pub night-lists : (w ends : List ℕ) {list : List ℕ} → list ≡ commonOf w → Lists false w list ends
-night-lists w ends e = record { common-list = λ q. e; begins = λ q i l. absurd (no-day q); finishes = λ q i l. absurd (no-day q) }
 
 -- the list stands at the front of what was written
 pub list-front : (L rest : List ℕ) {buf : List ℕ} {n : ℕ} → buf ≡ L ++ rest → n ≡ length L → take n buf ≡ L
@@ -126,3 +111,26 @@ module _ (w : List ℕ) (r : Stored) (k places : ℕ) where
     pub night-none : {s : Bool} → need ≤ places → none ≡ lacking (nightPhase w .patterns) (upFrom 0 (nightPhase w .nurses)) → s ≡ soundStored (nightPhase w) r → s ≡ true
         → none ≡ refusalStored (nightPhase w) (callOf k places) r
     night-none l x y z = sym (asks-none (nightPhase w) (callOf k places) r (sym e ∙ f) (has-room g q l) (sym x) (sym y ∙ z))
+
+-- ---- what the code's answers to 10 and 11 say
+
+module _ (w : List ℕ) where
+  night-lacking : lacking (nightList w) (upFrom 0 (nurses w)) ≡ lacking (nightPhase w .patterns) (upFrom 0 (nightPhase w .nurses))
+  unfolding nightPhase
+  night-lacking = refl
+
+  pub lacked-some : (x : ℕ) {m : ℕ} → m ≡ nurses w → x < m → lackedAt (nurses w) x ≡ lacking (nightList w) (upFrom 0 (nurses w))
+      → some (record { question = 10; place = x + 1 }) ≡ lacking (nightPhase w .patterns) (upFrom 0 (nightPhase w .nurses))
+  lacked-some x e l q =
+      let y : lackedAt (nurses w) x ≡ some (record { question = 10; place = suc x }) = rw (lt-ltb x (nurses w) (omega arith)) in
+      ap (λ (p : ℕ). some (record { question = 10; place = p })) (add-one x) ∙ sym y ∙ q ∙ night-lacking
+
+  pub lacked-none : (x : ℕ) {m : ℕ} → m ≡ nurses w → m ≤ x → lackedAt (nurses w) x ≡ lacking (nightList w) (upFrom 0 (nurses w))
+      → none ≡ lacking (nightPhase w .patterns) (upFrom 0 (nightPhase w .nurses))
+  lacked-none x e l q =
+      let y : lackedAt (nurses w) x ≡ none = rw (le-ltb x (nurses w) (omega arith)) in
+      sym y ∙ q ∙ night-lacking
+
+  pub night-sound : (nights : List ℕ) (r : Stored) {s : Bool} → s ≡ soundStored (phaseOf false w nights) r → s ≡ soundStored (nightPhase w) r
+  unfolding phaseOf
+  night-sound nights r e = e

@@ -3,3 +3,4 @@ pub mod DemandLaws
 pub mod AdvanceLaws
 pub mod AnswerLaws
 pub mod RoomLaws
+pub mod QuestionLaws

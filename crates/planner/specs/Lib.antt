@@ -3,3 +3,4 @@ pub mod Advances
 pub mod Answers
 pub mod Demand
 pub mod Outcomes
+pub mod Asked

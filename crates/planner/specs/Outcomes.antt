@@ -1,6 +1,7 @@
 -- What an advance answers and leaves, for a file of any bytes, a record of any content, any k and a buffer of any length.
 use Prim.Native.Nat.{ℕ}
 use mathlib.Core.List.{List, [], _∷_, _++_}
+use mathlib.Core.Option.{Option, none, some}
 use lib.ListN.{length, drop}
 use Rattle.ward.specs.Grammar.{Read, good, bad}
 use Rattle.ward.specs.Answers.{readWard}
@@ -11,6 +12,8 @@ use Rattle.planner.specs.Advances.{advanceNights}
 use Rattle.planner.specs.declared.Outcome.{Outcome}
 use Rattle.planner.specs.declared.Outcome.the-variants.{Refused, Zero, Asked, Stuck}
 use Rattle.planner.specs.declared.Advance.{Advance}
+use Rattle.planner.specs.declared.by_night.Question.{Question}
+use Rattle.planner.specs.declared.by_night.Question.the-variants as variants
 
 -- the end of an advance as the outcome says it
 abbrev pub outcomeOf : End → Outcome
@@ -40,3 +43,10 @@ listOf (good w) = commonOf w
 
 unfoldable pub nightLeft : List ℕ → Stored → ℕ → List ℕ → List ℕ
 nightLeft file r k buffer = leftBy (advanceNights file (callOf k (length buffer)) r .0) (listOf (readWard file)) buffer
+
+-- ---- the questions of an advance
+
+-- a question's no, with its number and place
+abbrev pub noOf : Question → Option No
+noOf variants.Pass = none
+noOf (variants.No q p) = some (record { question = q; place = p })

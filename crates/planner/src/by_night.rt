@@ -1,14 +1,21 @@
 // The night advance on a ward that was read.
 use crate::Advance;
 use crate::Outcome;
+use crate::questions;
 use search::Advanced;
 use search::Ending;
 use search::Record;
+use search::tries::Plan;
 ghost use mathlib.Core.Path.{_≡_};
-ghost use Prim.Native.Nat.{ℕ};
+ghost use Prim.Native.Nat.{ℕ, _<_};
+ghost use lib.ListN.{length};
+ghost use Rattle.ward.specs.Fields.{Accepted};
+ghost use Rattle.nights.specs.Nights.{commonOf};
 ghost use Rattle.search.specs.Phase.{Phase, refused};
+ghost use Rattle.search.specs.Stored.{refusalStored, advanceStored};
 ghost use Rattle.search.specs.Seek.{answerOf};
-ghost use Rattle.planner.specs.Outcomes.{advanceOf};
+ghost use Rattle.planner.specs.Phases.{nightPhase};
+ghost use Rattle.planner.specs.Outcomes.{advanceOf, leftBy, callOf, noOf};
 
 // A refusal: the record as it was, and all else 0.
 pub(crate) fn refuse(rec: Record, question: u32, place: usize) -> Advance
@@ -47,5 +54,65 @@ pub(crate) fn finished(x: Advanced) -> Advance
             steps: x.steps,
             outcome: Outcome::Stuck,
         },
+    }
+}
+
+// A question's no, or none.
+pub enum Question {
+    Pass,
+    No { question: u32, place: usize },
+}
+
+// The first of questions 7, 9, 10 and 11 that fails.
+pub(crate) fn first_no(rec: Record, w: &[u64], k: u32, places: usize) -> Question
+    requires { ⌜ Accepted (now w) × (places < 2305843009213693952) ⌝ }
+    ensures { λ r. ⌜ noOf r ≡ refusalStored (nightPhase (now (w .entry))) (callOf k places) rec ⌝ }
+{
+    if !questions::steps_allowed(rec.steps, k) {
+        return Question::No {
+            question: 7,
+            place: 0,
+        };
+    }
+    let need = nights::common::common_count(nights::rules_of(w), w[1], places + 1);
+    if places < need {
+        return Question::No {
+            question: 9,
+            place: 0,
+        };
+    }
+    let without = questions::first_without_nights(w);
+    if without < ward::fields::nurses(w) {
+        return Question::No {
+            question: 10,
+            place: without + 1,
+        };
+    }
+    let none = [0u32; 48];
+    if !questions::record_sound(w, &none, false, rec) {
+        return Question::No {
+            question: 11,
+            place: 0,
+        };
+    }
+    Question::Pass
+}
+
+// The night advance, every question answered before the first store.
+pub(crate) fn advance_on(rec: Record, w: &[u64], k: u32, buffer: &mut [u32]) -> Advance
+    requires { ⌜ Accepted (now w) ⌝ }
+    ensures says { λ r. ⌜ r ≡ (advanceOf (advanceStored (nightPhase (now (w .entry))) (callOf k (length (now (buffer .entry)))) rec .0) (advanceStored (nightPhase (now (w .entry))) (callOf k (length (now (buffer .entry)))) rec .1)) ⌝ }
+    ensures leaves { λ _. ⌜ now (buffer .exit) ≡ leftBy (advanceStored (nightPhase (now (w .entry))) (callOf k (length (now (buffer .entry)))) rec .0) (commonOf (now (w .entry))) (now (buffer .entry)) ⌝ }
+{
+    match first_no(rec, w, k, buffer.len()) {
+        Question::No { question, place } => refuse(rec, question, place),
+        Question::Pass => {
+            let len = nights::common::common_fill(nights::rules_of(w), w[1], buffer);
+            let plan = Plan {
+                daily: false,
+                ends: [0; 49],
+            };
+            finished(rec.advance(w, &buffer[..len], plan, k))
+        }
     }
 }

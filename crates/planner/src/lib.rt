@@ -1,9 +1,11 @@
 // The published calls.
 mod by_day;
 mod by_night;
+mod questions;
 
 use rosters::letters::Place;
 use ward::Answer;
+
 ghost use mathlib.Core.Path.{_≡_};
 ghost use lib.ListN.{length};
 ghost use Rattle.ward.specs.Fields.{Accepted};

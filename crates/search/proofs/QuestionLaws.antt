@@ -13,15 +13,11 @@ use Rattle.numbers.specs.Range.{upFrom, all}
 use Rattle.numbers.proofs.AllLaws.{all-none, all-more, all-same}
 use Rattle.search.specs.Phase.{Phase}
 use Rattle.search.specs.Record.{hers, names, allName, sound}
-use Rattle.search.specs.Stored.{slot, slotAt, removalOf, held, noRemoval, view, viewOf, unusedZero, soundStored, Sized, Fits}
+use Rattle.search.specs.Stored.{slot, slotAt, removalOf, held, noRemoval, view, viewOf, namesAt, unusedZero, soundStored, Sized, Fits}
 use Rattle.search.specs.declared.Record.{Record as Stored}
 use Rattle.search.specs.declared.Removal.{Removal as StoredRemoval}
 use Rattle.search.proofs.TestLaws.{and-assoc, and-with-true}
 use Rattle.search.proofs.StoredLaws.{view-held}
-
--- whether a stored removal names a nurse, with one of hers or with none
-abbrev pub namesAt : Phase → List StoredRemoval → ℕ → Bool
-namesAt P rs j = let x = getD rs j noRemoval in names P (x .nurse) (slot (x .has) (x .pattern))
 
 module _ (P : Phase) where
   name-append : (l m : List StoredRemoval) → allName P (map removalOf (l ++ m)) ≡ (allName P (map removalOf l) && allName P (map removalOf m))

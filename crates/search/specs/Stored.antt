@@ -9,7 +9,7 @@ use lib.ListN.{length, getD, take, replicate}
 use Rattle.numbers.specs.Range.{upFrom, all}
 use Rattle.penalty.specs.Penalty.{Slot}
 use Rattle.search.specs.Phase.{Phase, Call, No, Answer, refused, refusal, first, unless}
-use Rattle.search.specs.Record.{Record, Removal, lacking, sound, proceed, replyOf}
+use Rattle.search.specs.Record.{Record, Removal, lacking, names, sound, proceed, replyOf}
 use Rattle.search.specs.declared.Record.{Record as Stored}
 use Rattle.search.specs.declared.Removal.{Removal as StoredRemoval}
 
@@ -95,6 +95,10 @@ unusedZero m tl r = all (slotZero m (r .placed) (r .patterns)) (upFrom 0 48) && 
 
 abbrev pub viewOf : Phase → Stored → Record
 viewOf P r = view (P .nurses) (P .tabu) r
+
+-- whether a stored removal names a nurse, with one of hers or with none
+abbrev pub namesAt : Phase → List StoredRemoval → ℕ → Bool
+namesAt P rs j = let x = getD rs j noRemoval in names P (x .nurse) (slot (x .has) (x .pattern))
 
 -- question 11
 unfoldable pub soundStored : Phase → Stored → Bool

@@ -1,0 +1,91 @@
+-- `planner::by_night::first_no` meets its contract: the questions in order.
+use mathlib.Core.Path.{_∙_}
+use borrow.Author.Tests.{not-true, not-false}
+use Rattle.nights.proofs.AcceptedLaws.{rules-small}
+use Rattle.planner.proofs.AdvanceLaws.{night-seven, night-nine, night-ten, night-eleven, night-none, lacked-some, lacked-none, night-sound}
+use borrow.Author.Needs.{needs}
+use Rattle.planner.proofs.by_night.first_no.Statement.{statement}
+use Rattle.planner.proofs.by_night.first_no.Tie as tie
+use Rattle.planner.proofs.by_night.first_no.Reads as reads
+use Rattle.planner.proofs.by_night.first_no.Lts as lts
+use Rattle.nights.proofs.common.common_count.Reads as common-count-reads
+use Rattle.nights.proofs.rules_of.Reads as rules-of-reads
+use Rattle.planner.proofs.questions.first_without_nights.Reads as first-without-nights-reads
+use Rattle.planner.proofs.questions.record_sound.Reads as record-sound-reads
+use Rattle.planner.proofs.questions.steps_allowed.Reads as steps-allowed-reads
+use Rattle.ward.proofs.fields.nurses.Reads as nurses-reads
+
+-- src/by_night.rt:71:9
+steps-allowed-requires : tie.Need-steps-allowed-requires
+steps-allowed-requires c κs = search needs
+
+-- src/by_night.rt:72:9
+returns : tie.Need-returns
+returns c = night-seven (c .before .before .before .args .w .now) (c .before .before .before .args .rec) (c .before .before .before .args .k) (c .before .before .before .args .places) (c .before .steps-allowed .ensures) (not-true _ (c .if1 .taken))
+
+-- src/by_night.rt:77:45
+rules-of-requires : tie.Need-rules-of-requires
+rules-of-requires c κs = search needs
+
+-- src/by_night.rt:77:66
+shared-slice-read-common-count : tie.Need-shared-slice-read-common-count
+shared-slice-read-common-count c = search needs
+
+-- src/by_night.rt:77:72
+add-common-count : tie.Need-add-common-count
+add-common-count c = search needs
+
+-- src/by_night.rt:77:9
+common-count-requires : tie.Need-common-count-requires
+common-count-requires c κs = (rules-small _ _ (c .before .before .before .before .before .pre .0) (c .before .rules-of .ensures), c .before .before .before .before .before .pre .0 .days-most)
+
+-- src/by_night.rt:79:9
+returns-2 : tie.Need-returns-2
+returns-2 c = night-nine (c .before .before .before .before .before .before .before .args .w .now) (c .before .before .before .before .before .before .before .args .rec) (c .before .before .before .before .before .before .before .args .k) (c .before .before .before .before .before .before .before .args .places) (c .before .before .before .before .before .steps-allowed .ensures) (not-false _ (c .before .before .before .before .if1 .left)) (c .before .before .before .rules-of .ensures) (c .before .common-count .ensures) (c .if2 .taken)
+
+-- src/by_night.rt:84:9
+first-without-nights-requires : tie.Need-first-without-nights-requires
+first-without-nights-requires c κs = search needs
+
+-- src/by_night.rt:85:18
+nurses-requires : tie.Need-nurses-requires
+nurses-requires c κs = search needs
+
+-- src/by_night.rt:88:20
+add-t14 : tie.Need-add-t14
+add-t14 c = search needs
+
+-- src/by_night.rt:86:9
+returns-3 : tie.Need-returns-3
+returns-3 c = night-ten (c .before .before .before .before .before .before .before .before .before .before .args .w .now) (c .before .before .before .before .before .before .before .before .before .before .args .rec) (c .before .before .before .before .before .before .before .before .before .before .args .k) (c .before .before .before .before .before .before .before .before .before .before .args .places) (c .before .before .before .before .before .before .before .before .steps-allowed .ensures) (not-false _ (c .before .before .before .before .before .before .before .if1 .left)) (c .before .before .before .before .before .before .rules-of .ensures) (c .before .before .before .before .common-count .ensures) (c .before .before .before .if2 .left) (lacked-some (c .before .before .before .before .before .before .before .before .before .before .args .w .now) _ (c .before .nurses .ensures .0) (c .if3 .taken) (c .before .before .first-without-nights .ensures .0))
+
+-- src/by_night.rt:92:9
+record-sound-requires : tie.Need-record-sound-requires
+record-sound-requires c κs = search needs
+
+-- src/by_night.rt:93:9
+returns-4 : tie.Need-returns-4
+returns-4 c = night-eleven (c .before .before .before .before .before .before .before .before .before .before .before .before .before .args .w .now) (c .before .before .before .before .before .before .before .before .before .before .before .before .before .args .rec) (c .before .before .before .before .before .before .before .before .before .before .before .before .before .args .k) (c .before .before .before .before .before .before .before .before .before .before .before .before .before .args .places) (c .before .before .before .before .before .before .before .before .before .before .before .steps-allowed .ensures) (not-false _ (c .before .before .before .before .before .before .before .before .before .before .if1 .left)) (c .before .before .before .before .before .before .before .before .before .rules-of .ensures) (c .before .before .before .before .before .before .before .common-count .ensures) (c .before .before .before .before .before .before .if2 .left) (lacked-none (c .before .before .before .before .before .before .before .before .before .before .before .before .before .args .w .now) _ (c .before .before .before .before .nurses .ensures .0) (c .before .before .before .if3 .left) (c .before .before .before .before .before .first-without-nights .ensures .0)) (night-sound (c .before .before .before .before .before .before .before .before .before .before .before .before .before .args .w .now) _ (c .before .before .before .before .before .before .before .before .before .before .before .before .before .args .rec) (c .before .record-sound .ensures)) (not-true _ (c .if4 .taken))
+
+-- src/by_night.rt:67:1
+returns-5 : tie.Need-returns-5
+returns-5 c = night-none (c .before .before .before .before .before .before .before .before .before .before .before .before .before .args .w .now) (c .before .before .before .before .before .before .before .before .before .before .before .before .before .args .rec) (c .before .before .before .before .before .before .before .before .before .before .before .before .before .args .k) (c .before .before .before .before .before .before .before .before .before .before .before .before .before .args .places) (c .before .before .before .before .before .before .before .before .before .before .before .steps-allowed .ensures) (not-false _ (c .before .before .before .before .before .before .before .before .before .before .if1 .left)) (c .before .before .before .before .before .before .before .before .before .rules-of .ensures) (c .before .before .before .before .before .before .before .common-count .ensures) (c .before .before .before .before .before .before .if2 .left) (lacked-none (c .before .before .before .before .before .before .before .before .before .before .before .before .before .args .w .now) _ (c .before .before .before .before .nurses .ensures .0) (c .before .before .before .if3 .left) (c .before .before .before .before .before .first-without-nights .ensures .0)) (night-sound (c .before .before .before .before .before .before .before .before .before .before .before .before .before .args .w .now) _ (c .before .before .before .before .before .before .before .before .before .before .before .before .before .args .rec) (c .before .record-sound .ensures)) (not-false _ (c .if4 .left))
+
+pub first-no-spec : {M : Type 1} → statement M
+first-no-spec =
+    tie.close
+    (tie.spec
+    steps-allowed-requires
+    returns
+    rules-of-requires
+    shared-slice-read-common-count
+    add-common-count
+    common-count-requires
+    returns-2
+    first-without-nights-requires
+    nurses-requires
+    add-t14
+    returns-3
+    record-sound-requires
+    returns-4
+    returns-5)
