@@ -1,9 +1,9 @@
 -- A nurse's own patterns by the test of one pattern, the three parts of question 11, and question 10 as a loop over the nurses asks it.
 use Prim.Native.Nat.{ℕ, zero, suc, _+_, _-_, _^_, _≤_, _<_, min}
-use mathlib.Core.Path.{_≡_, refl, sym, ap, _∙_, subst}
-use mathlib.Core.Bool.{Bool, true, false, cond, _&&_, _||_}
+use mathlib.Core.Path.{_≡_, refl, sym, ap, ap₂, _∙_, subst}
+use mathlib.Core.Bool.{Bool, true, false, cond, _&&_}
 use mathlib.Core.List.{List, [], _∷_}
-use mathlib.Core.Option.{Option, none, some}
+use mathlib.Core.Option.{Option, some}
 use native.Mathlib.Nat.{not-suc-le-zero, le-of-suc-le-suc}
 use native.Mathlib.Numerals.{add-one}
 use native.Mathlib.Omega.{arith}
@@ -138,6 +138,37 @@ pub held-all : (t : ℕ → Bool) (daily : Bool) (w nights : List ℕ) (steps : 
     → r ≡ all t (upFrom 0 (min steps (phaseOf daily w nights .tabu)))
 held-all t daily w nights steps h e q =
     h ∙ ap (λ (k : ℕ). all t (upFrom 0 k)) (e ∙ ap (λ (l : ℕ). min steps l) (q ∙ sym (phase-tabu w nights daily)))
+
+-- ---- question 11, by its three parts
+
+module _ (daily : Bool) (w nights : List ℕ) (x : Stored) (a : Accepted w) (s : Sized x) where
+  abbrev slotsOwn : Bool
+  slotsOwn = all (λ i. hers (phaseOf daily w nights) i (slotAt x i)) (upFrom 0 (phaseOf daily w nights .nurses))
+
+  abbrev removalsName : Bool
+  removalsName = all (namesAt (phaseOf daily w nights) (x .removals)) (upFrom 0 (held (phaseOf daily w nights .tabu) x))
+
+  three-parts : soundStored (phaseOf daily w nights) x ≡ (slotsOwn && (removalsName && unusedZero (phaseOf daily w nights .nurses) (phaseOf daily w nights .tabu) x))
+  three-parts = question-eleven (phaseOf daily w nights) x s (phase-fits w nights daily a)
+
+  pub sound-unused : {r q z : Bool} {m tl : ℕ} → r ≡ slotsOwn → r ≡ true → q ≡ removalsName → q ≡ true → m ≡ nurses w → tl ≡ tabu w → z ≡ unusedZero m tl x
+      → z ≡ soundStored (phaseOf daily w nights) x
+  sound-unused {r} {q} {z} {m} {tl} e f g h n t u =
+      let first : slotsOwn ≡ true = sym e ∙ f in
+      let second : removalsName ≡ true = sym g ∙ h in
+      u ∙ ap₂ (λ (k l : ℕ). unusedZero k l x) (n ∙ sym (phase-nurses w nights daily)) (t ∙ sym (phase-tabu w nights daily))
+      ∙ sym (three-parts ∙ rw (first, second))
+
+  pub sound-removals : {r q : Bool} → r ≡ slotsOwn → r ≡ true → q ≡ removalsName → q ≡ false → false ≡ soundStored (phaseOf daily w nights) x
+  sound-removals e f g h =
+      let first : slotsOwn ≡ true = sym e ∙ f in
+      let second : removalsName ≡ false = sym g ∙ h in
+      sym (three-parts ∙ rw (first, second))
+
+  pub sound-slots : {r : Bool} → r ≡ slotsOwn → r ≡ false → false ≡ soundStored (phaseOf daily w nights) x
+  sound-slots e f =
+      let first : slotsOwn ≡ false = sym e ∙ f in
+      sym (three-parts ∙ rw first)
 
 -- ---- question 10, over the nurses from i on
 

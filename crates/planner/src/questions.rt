@@ -33,7 +33,14 @@ pub(crate) fn is_own(w: &[u64], nights: &[u32; 48], daily: bool, i: usize, p: u3
 }
 
 // Whether a slot holds one of nurse i's own, or none.
-pub(crate) fn slot_own(w: &[u64], nights: &[u32; 48], daily: bool, i: usize, placed: bool, p: u32) -> bool
+pub(crate) fn slot_own(
+    w: &[u64],
+    nights: &[u32; 48],
+    daily: bool,
+    i: usize,
+    placed: bool,
+    p: u32,
+) -> bool
     requires { ⌜ Accepted (now w) × (i < nurses (now w)) ⌝ }
     ensures { λ r. ⌜ r ≡ hers (phaseOf daily (now (w .entry)) (now (nights .entry))) i (slot placed p) ⌝ }
 {
