@@ -192,8 +192,8 @@ module _ (file w : List ℕ) (reads : readWard file ≡ good w) (a : Accepted w)
   day-demand nights has cs =
       let P = dayPhase w (nightOf nights) in
       let d : Demand3 P allZero (advanceDays file nights) store cs
-        = subst (λ (adv : Call → Stored → Answer × Stored). Demand3 P allZero adv store cs) (sym (advance-read (λ v. dayPhase v (nightOf nights)) file w reads))
-          (demand3-stored P (day-lawful w (nightOf nights) a has) (day-fits w (nightOf nights) a) cs) in
+      = subst (λ (adv : Call → Stored → Answer × Stored). Demand3 P allZero adv store cs) (sym (advance-read (λ v. dayPhase v (nightOf nights)) file w reads))
+      (demand3-stored P (day-lawful w (nightOf nights) a has) (day-fits w (nightOf nights) a) cs) in
       record {
         claim = d;
         rosters = rw (d .follows) (each-right w (nightOf nights) a file reads (d .each) (d .steps));

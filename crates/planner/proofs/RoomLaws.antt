@@ -74,7 +74,7 @@ module _ (w : List ℕ) (nights : ℕ → ℕ) where
       common-list = λ q. absurd (true≢false q);
       begins = λ q i h. rw (begin-is i (omega arith), begin-is (i + 1) (omega arith)) (up-mono (dayListOver w nights) i (i + 1) (omega arith));
       finishes = λ q i h. rw (begin-is (i + 1) (omega arith), e)
-        (omega (arith, up-mono (dayListOver w nights) (i + 1) (nurses w) (omega arith), length-append (upTo (dayListOver w nights) (nurses w)) rest));
+          (omega (arith, up-mono (dayListOver w nights) (i + 1) (nurses w) (omega arith), length-append (upTo (dayListOver w nights) (nurses w)) rest));
     }
 
     pub day-seeks : Seeks true w lists ends (dayPhase w nights)
