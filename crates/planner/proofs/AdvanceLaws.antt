@@ -6,11 +6,12 @@ use mathlib.Core.List.{List, [], _∷_, _++_}
 use mathlib.Core.Option.{Option, none, some}
 use native.Mathlib.Omega.{arith}
 use lib.Dec.{leb, ltb}
-use lib.ListN.{length, take, drop}
+use lib.ListN.{length, take, drop, length-append}
 use lib.Seq.{take-at}
 use native.Mathlib.Numerals.{add-one}
-use borrow.Author.Tests.{le-leb, lt-leb, lt-ltb, le-ltb}
+use borrow.Author.Tests.{le-leb, lt-leb, leb-true, lt-ltb, le-ltb}
 use Rattle.numbers.specs.Range.{upFrom, keep, Ascending}
+use Rattle.numbers.proofs.RangeLaws.{and-parts}
 use Rattle.ward.specs.Fields.{Accepted, nurses, days, tabu}
 use Rattle.nights.specs.declared.Rules.{Rules}
 use Rattle.nights.specs.Nights.{rulesOf, common, commonOf}
@@ -20,7 +21,7 @@ use Rattle.search.specs.declared.Record.{Record as Stored}
 use Rattle.search.specs.declared.Advanced.{Advanced}
 use Rattle.search.specs.declared.Ending.{Ending}
 use Rattle.search.specs.declared.Ending.the-variants.{Zero, Asked, Stuck}
-use Rattle.search.specs.Phase.{Phase, Call, No, Answer, refused, ended, unless, first}
+use Rattle.search.specs.Phase.{Phase, Call, No, Answer, refused, ended, unless, first, refusal}
 use Rattle.search.specs.Record.{lacking}
 use Rattle.search.specs.Stored.{advanceStored, refusalStored, replyStored, soundStored, Sized}
 use Rattle.search.specs.Seek.{Seeks, Lists, answerWith, answerOf}
@@ -29,7 +30,10 @@ use Rattle.planner.specs.declared.Advance.{Advance}
 use Rattle.planner.specs.declared.Outcome.the-variants as outcome
 use Rattle.planner.specs.Phases.{nightPhase, commonFits}
 use Rattle.planner.specs.Asked.{phaseOf, lackedAt}
-use Rattle.planner.specs.Outcomes.{advanceOf, leftBy, callOf}
+use Rattle.ward.specs.Grammar.{good, bad}
+use Rattle.ward.specs.Answers.{readWard}
+use Rattle.planner.specs.Advances.{advanceOver, advanceNights}
+use Rattle.planner.specs.Outcomes.{advanceOf, leftBy, callOf, nightLeft}
 
 module _ (P : Phase) (r : Stored) (made pen : ℕ) {e : Ending} where
   pub ended-zero : e ≡ Zero → record { kept = r; penalty = pen; steps = made; outcome = outcome.Zero } ≡ advanceOf (answerWith P r made pen e) r
@@ -134,3 +138,86 @@ module _ (w : List ℕ) where
   pub night-sound : (nights : List ℕ) (r : Stored) {s : Bool} → s ≡ soundStored (phaseOf false w nights) r → s ≡ soundStored (nightPhase w) r
   unfolding phaseOf
   night-sound nights r e = e
+
+-- ---- an advance that no question refuses
+
+first-none : (a b : Option No) → first a b ≡ none → (a ≡ none) × (b ≡ none)
+first-none none b e = (refl, e)
+first-none (some n) b e = (e, let z : _≡_ {A = ℕ} 0 1 = cc in absurd (omega arith))
+
+unless-none : (b : Bool) (q i : ℕ) → unless b q i ≡ none → b ≡ true
+unless-none true q i e = refl
+unless-none false q i e = let z : _≡_ {A = ℕ} 0 1 = cc in absurd (omega arith)
+
+pub record Clear (w : List ℕ) (r : Stored) (k places : ℕ) : Type 0 where
+  pub steps-fit : r .steps + k ≤ 1000000
+  pub room : length (commonOf w) ≤ places
+  pub sound : soundStored (nightPhase w) r ≡ true
+
+pub clear : (w : List ℕ) (r : Stored) (k places : ℕ) → refusalStored (nightPhase w) (callOf k places) r ≡ none → Clear w r k places
+unfolding refusalStored refusal nightPhase commonFits
+clear w r k places e =
+    let a = first-none (refusal (nightPhase w) (callOf k places) (r .steps)) _ e in
+    let b = first-none (unless (leb k 10000 && leb (r .steps + k) 1000000) 7 0) (unless (leb (length (commonOf w)) places) 9 0) (a .0) in
+    let c = first-none (lacking (nightPhase w .patterns) (upFrom 0 (nightPhase w .nurses))) _ (a .1) in
+    let s = and-parts (leb k 10000) (leb (r .steps + k) 1000000) (unless-none _ 7 0 (b .0)) in
+    record {
+      steps-fit = leb-true _ _ (s .1);
+      room = leb-true _ _ (unless-none _ 9 0 (b .1));
+      sound = unless-none _ 11 0 (c .1);
+    }
+
+-- what the code finds in the buffer
+pub filled-front : (w : List ℕ) (buffer : List ℕ) {rules : Rules} {after : List ℕ} {n : ℕ} → rules ≡ rulesOf w
+    → n ≡ length (common rules (days w)) → after ≡ common rules (days w) ++ drop (length (common rules (days w))) buffer → take n after ≡ commonOf w
+filled-front w buffer {rules} {after} {n} e q f =
+    list-front (commonOf w) (drop (length (common rules (days w))) buffer)
+    (f ∙ ap (λ (x : Rules). common x (days w) ++ drop (length (common rules (days w))) buffer) e) (q ∙ ap (λ (x : Rules). length (common x (days w))) e)
+
+module _ (w : List ℕ) (r : Stored) (k : ℕ) (buffer : List ℕ) where
+  pub refusal-told : (q p : ℕ) {x : Advance} → some (record { question = q; place = p }) ≡ refusalStored (nightPhase w) (callOf k (length buffer)) r
+      → x ≡ advanceOf (refused (record { question = q; place = p })) r
+      → (x ≡ advanceOf (advanceStored (nightPhase w) (callOf k (length buffer)) r .0) (advanceStored (nightPhase w) (callOf k (length buffer)) r .1))
+      × (buffer ≡ leftBy (advanceStored (nightPhase w) (callOf k (length buffer)) r .0) (commonOf w) buffer)
+  refusal-told q p e f =
+      let a = says-no w r k (length buffer) (record { question = q; place = p }) (sym e) in
+      (f ∙ sym (ap (λ (y : Answer × Stored). advanceOf (y .0) (y .1)) a), writes-nothing (record { question = q; place = p }) (commonOf w) buffer ∙ sym (ap (λ (y : Answer × Stored). leftBy (y .0) (commonOf w) buffer) a))
+
+  pub advance-told : (x : Advanced) {y : Advance} {rules : Rules} {after : List ℕ} → none ≡ refusalStored (nightPhase w) (callOf k (length buffer)) r
+      → replyStored (nightPhase w) k r ≡ (answerOf (nightPhase w) x, x .after) → ((P : Phase) → y ≡ advanceOf (answerOf P x) (x .after)) → rules ≡ rulesOf w
+      → after ≡ common rules (days w) ++ drop (length (common rules (days w))) buffer
+      → (y ≡ advanceOf (advanceStored (nightPhase w) (callOf k (length buffer)) r .0) (advanceStored (nightPhase w) (callOf k (length buffer)) r .1))
+      × (after ≡ leftBy (advanceStored (nightPhase w) (callOf k (length buffer)) r .0) (commonOf w) buffer)
+  advance-told x e f g q h =
+      let a = goes-on w r k (length buffer) x (sym e) f in
+      (g (nightPhase w) ∙ sym (ap (λ (z : Answer × Stored). advanceOf (z .0) (z .1)) a),
+      h ∙ ap (λ (z : Rules). common z (days w) ++ drop (length (common z (days w))) buffer) q ∙ sym (writes (nightPhase w) x (commonOf w) buffer)
+      ∙ sym (ap (λ (z : Answer × Stored). leftBy (z .0) (commonOf w) buffer) a))
+
+-- the list's room and its part of the buffer
+pub list-room : (w : List ℕ) {rules : Rules} {places : ℕ} → rules ≡ rulesOf w → length (commonOf w) ≤ places → length (common rules (days w)) ≤ places
+list-room w {rules} {places} e h = subst (λ (x : Rules). length (common x (days w)) ≤ places) (sym e) h
+
+front-fits : (L rest : List ℕ) {n : ℕ} {after : List ℕ} → n ≡ length L → after ≡ L ++ rest → n ≤ length after
+front-fits L rest {n} {after} e q = let s : length after ≡ length L + length rest = ap length q ∙ length-append L rest in omega arith
+
+pub filled-fits : (w buffer : List ℕ) (rules : Rules) {n : ℕ} {after : List ℕ} → n ≡ length (common rules (days w))
+    → after ≡ common rules (days w) ++ drop (length (common rules (days w))) buffer → n ≤ length after
+filled-fits w buffer rules e q = front-fits (common rules (days w)) (drop (length (common rules (days w))) buffer) e q
+
+-- ---- from the file's bytes
+
+module _ (file : List ℕ) (rec : Stored) (k : ℕ) (buffer : List ℕ) where
+  pub file-refused : {q p : ℕ} {x : Advance} → readWard file ≡ bad q p → x ≡ advanceOf (refused (record { question = q; place = p })) rec
+      → (x ≡ advanceOf (advanceNights file (callOf k (length buffer)) rec .0) (advanceNights file (callOf k (length buffer)) rec .1))
+      × (buffer ≡ nightLeft file rec k buffer)
+  unfolding advanceOver nightLeft leftBy
+  file-refused e f = rw e (f, refl)
+
+  pub file-advanced : {w after : List ℕ} {x : Advance} → readWard file ≡ good w
+      → (x ≡ advanceOf (advanceStored (nightPhase w) (callOf k (length buffer)) rec .0) (advanceStored (nightPhase w) (callOf k (length buffer)) rec .1))
+      × (after ≡ leftBy (advanceStored (nightPhase w) (callOf k (length buffer)) rec .0) (commonOf w) buffer)
+      → (x ≡ advanceOf (advanceNights file (callOf k (length buffer)) rec .0) (advanceNights file (callOf k (length buffer)) rec .1))
+      × (after ≡ nightLeft file rec k buffer)
+  unfolding advanceOver nightLeft
+  file-advanced e f = rw e f

@@ -1,5 +1,4 @@
 // The published calls.
-mod by_day;
 mod by_night;
 mod questions;
 
@@ -11,6 +10,8 @@ ghost use lib.ListN.{length};
 ghost use Rattle.ward.specs.Fields.{Accepted};
 ghost use Rattle.ward.specs.Answers.{readingOf, readWard, counted, checkWard, writingOf, leftOf};
 ghost use Rattle.planner.specs.Answers.{saidBy, checkLetters, checkSays};
+ghost use Rattle.planner.specs.Advances.{advanceNights};
+ghost use Rattle.planner.specs.Outcomes.{advanceOf, callOf, nightLeft};
 
 // The ward of a file, or the first of questions 1 to 5 that it fails.
 pub fn read(file: &[u8]) -> ward::Reading
@@ -83,6 +84,24 @@ pub fn check(file: &[u8], roster: &[u8]) -> Checked
             let numbers = reading.ward.numbers;
             let count = reading.ward.count;
             check_letters(&numbers[..count], roster)
+        }
+    }
+}
+
+// Advances a night search by up to k steps, or says the first of questions 1 to 5, 7, 9, 10 and 11 that is a no.
+// The buffer then has the common list from its start; a refused call leaves it as it was.
+pub fn advance_nights(rec: search::Record, file: &[u8], k: u32, buffer: &mut [u32]) -> Advance
+    ensures says { λ r. ⌜ r ≡ advanceOf (advanceNights (now (file .entry)) (callOf k (length (now (buffer .entry)))) rec .0) (advanceNights (now (file .entry)) (callOf k (length (now (buffer .entry)))) rec .1) ⌝ }
+    ensures leaves { λ _. ⌜ now (buffer .exit) ≡ nightLeft (now (file .entry)) rec k (now (buffer .entry)) ⌝ }
+{
+    let reading = ward::read(file);
+    let answer = reading.answer;
+    match answer {
+        Answer::No { question, place } => by_night::refuse(rec, question, place),
+        Answer::Yes => {
+            let numbers = reading.ward.numbers;
+            let count = reading.ward.count;
+            by_night::advance_on(rec, &numbers[..count], k, buffer)
         }
     }
 }
