@@ -189,10 +189,11 @@ module _ (w : List ℕ) (r : Stored) (k : ℕ) (buffer : List ℕ) where
       → (y ≡ advanceOf (advanceStored (nightPhase w) (callOf k (length buffer)) r .0) (advanceStored (nightPhase w) (callOf k (length buffer)) r .1))
       × (after ≡ leftBy (advanceStored (nightPhase w) (callOf k (length buffer)) r .0) (commonOf w) buffer)
   advance-told x e f g q h =
-      let a = goes-on w r k (length buffer) x (sym e) f in
-      (g (nightPhase w) ∙ sym (ap (λ (z : Answer × Stored). advanceOf (z .0) (z .1)) a),
-      h ∙ ap (λ (z : Rules). common z (days w) ++ drop (length (common z (days w))) buffer) q ∙ sym (writes (nightPhase w) x (commonOf w) buffer)
-      ∙ sym (ap (λ (z : Answer × Stored). leftBy (z .0) (commonOf w) buffer) a))
+      let a = goes-on w r k (length buffer) x (sym e) f in (
+        g (nightPhase w) ∙ sym (ap (λ (z : Answer × Stored). advanceOf (z .0) (z .1)) a),
+        h ∙ ap (λ (z : Rules). common z (days w) ++ drop (length (common z (days w))) buffer) q ∙ sym (writes (nightPhase w) x (commonOf w) buffer)
+            ∙ sym (ap (λ (z : Answer × Stored). leftBy (z .0) (commonOf w) buffer) a),
+      )
 
 -- the list's room and its part of the buffer
 pub list-room : (w : List ℕ) {rules : Rules} {places : ℕ} → rules ≡ rulesOf w → length (commonOf w) ≤ places → length (common rules (days w)) ≤ places

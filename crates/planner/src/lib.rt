@@ -4,7 +4,6 @@ mod questions;
 
 use rosters::letters::Place;
 use ward::Answer;
-
 ghost use mathlib.Core.Path.{_≡_};
 ghost use lib.ListN.{length};
 ghost use Rattle.ward.specs.Fields.{Accepted};
