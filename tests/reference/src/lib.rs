@@ -1,0 +1,17 @@
+//! A second, deliberately naive reading of document 01, the two-shift ward planner.
+//! Nothing here is proved. It is run beside the proved planner and compared with it.
+
+pub mod check;
+pub mod days;
+pub mod history;
+pub mod nights;
+pub mod penalty;
+pub mod phase;
+pub mod program;
+pub mod record;
+pub mod rows;
+pub mod tally;
+pub mod ward;
+
+#[cfg(test)]
+mod tests;

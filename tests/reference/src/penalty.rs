@@ -1,0 +1,144 @@
+//! Night and day penalty, counted afresh from everyone's rows ("Penalty").
+
+use crate::days::worked_unplaced;
+use crate::rows::{available_days, has_day, marked_days, start_days, states};
+use crate::ward::{Bounds, Ward, Weights};
+
+/// Points of one search, by their cause.
+#[derive(Clone, Copy, Debug, Default, PartialEq, Eq)]
+pub struct Penalty {
+    /// below a need or a low
+    pub short: u64,
+    /// above a high
+    pub over: u64,
+    /// nurses not yet placed
+    pub unplaced: u64,
+}
+
+impl Penalty {
+    /// "A nurse not yet placed adds 10,000,000, flat."
+    pub const UNPLACED: u64 = 10_000_000;
+
+    pub fn total(&self) -> u64 {
+        self.short + self.over + self.unplaced
+    }
+
+    fn add(&mut self, other: Penalty) {
+        self.short += other.short;
+        self.over += other.over;
+        self.unplaced += other.unplaced;
+    }
+}
+
+#[derive(Clone, Copy, Debug, PartialEq, Eq)]
+pub enum Search {
+    Night,
+    Day,
+}
+
+/// The days on which one nurse counts for the night and for the day shift.
+#[derive(Clone, Copy, Debug, Default, PartialEq, Eq)]
+pub struct OnDuty {
+    pub nights: u32,
+    pub days: u32,
+}
+
+/// Night search: N days, and days where she is available. Unplaced: her marks 3 as starts.
+pub fn on_duty_by_night(ward: &Ward, nurse: usize, pattern: Option<u32>) -> OnDuty {
+    let starts = pattern.unwrap_or_else(|| marked_days(ward, nurse, 3));
+    let row = states(ward, nurse, starts);
+    OnDuty { nights: start_days(&row), days: available_days(ward, nurse, &row) }
+}
+
+/// Day search: the days worked. Unplaced: her marks 2. Night terms are zero there.
+pub fn on_duty_by_day(ward: &Ward, nurse: usize, night: u32, pattern: Option<u32>) -> OnDuty {
+    let days = pattern.unwrap_or_else(|| worked_unplaced(ward, nurse, night));
+    OnDuty { nights: 0, days }
+}
+
+fn size(nurses: u64) -> u64 {
+    u64::from(nurses.count_ones())
+}
+
+/// w for each nurse short, u for each member short of low.
+fn short_points(weights: Weights, need: u64, bounds: &[Bounds], groups: &[u64], on: u64) -> u64 {
+    let members_short: u64 =
+        bounds.iter().zip(groups).map(|(b, &group)| b.low.saturating_sub(size(on & group))).sum();
+    weights.w * need.saturating_sub(size(on)) + weights.u * members_short
+}
+
+/// v for each member above high.
+fn over_points(weights: Weights, bounds: &[Bounds], groups: &[u64], on: u64) -> u64 {
+    let members_over: u64 =
+        bounds.iter().zip(groups).map(|(b, &group)| size(on & group).saturating_sub(b.high)).sum();
+    weights.v * members_over
+}
+
+fn night_points(ward: &Ward, day: usize, nights: u64) -> Penalty {
+    let at = &ward.days[day - 1];
+    let weights = ward.night_weights;
+    Penalty {
+        short: short_points(weights, at.night_need, &at.night, &ward.groups, nights),
+        over: over_points(weights, &at.night, &ward.groups, nights),
+        unplaced: 0,
+    }
+}
+
+fn day_points(ward: &Ward, day: usize, days: u64) -> Penalty {
+    let at = &ward.days[day - 1];
+    let weights = ward.day_weights;
+    Penalty {
+        short: short_points(weights, at.day_need, &at.day, &ward.groups, days),
+        over: over_points(weights, &at.day, &ward.groups, days),
+        unplaced: 0,
+    }
+}
+
+/// Points of one day; the columns hold nurse i as bit i - 1.
+/// By night the day highs are ignored, by day the night terms are zero.
+pub fn points_of_day(ward: &Ward, search: Search, day: usize, nights: u64, days: u64) -> Penalty {
+    let mut points = day_points(ward, day, days);
+    if search == Search::Night {
+        points.over = 0;
+        points.add(night_points(ward, day, nights));
+    }
+    points
+}
+
+/// The nurses on duty on one day, by night and by day.
+pub fn columns(on_duty: &[OnDuty], day: usize) -> (u64, u64) {
+    let (mut nights, mut days) = (0, 0);
+    for (nurse, on) in on_duty.iter().enumerate() {
+        nights |= u64::from(has_day(on.nights, day)) << nurse;
+        days |= u64::from(has_day(on.days, day)) << nurse;
+    }
+    (nights, days)
+}
+
+fn count(ward: &Ward, search: Search, on_duty: &[OnDuty], unplaced: usize) -> Penalty {
+    let mut sum = Penalty { unplaced: Penalty::UNPLACED * unplaced as u64, ..Penalty::default() };
+    for day in 1..=ward.day_count {
+        let (nights, days) = columns(on_duty, day);
+        sum.add(points_of_day(ward, search, day, nights, days));
+    }
+    sum
+}
+
+fn unplaced(in_use: &[Option<u32>]) -> usize {
+    in_use.iter().filter(|pattern| pattern.is_none()).count()
+}
+
+/// The night penalty of everyone's pattern or none.
+pub fn night(ward: &Ward, in_use: &[Option<u32>]) -> Penalty {
+    let on_duty: Vec<OnDuty> =
+        (0..ward.nurse_count).map(|nurse| on_duty_by_night(ward, nurse, in_use[nurse])).collect();
+    count(ward, Search::Night, &on_duty, unplaced(&in_use[..ward.nurse_count]))
+}
+
+/// The day penalty of everyone's day pattern or none, over one choice of nights.
+pub fn day(ward: &Ward, nights: &[u32], in_use: &[Option<u32>]) -> Penalty {
+    let on_duty: Vec<OnDuty> = (0..ward.nurse_count)
+        .map(|nurse| on_duty_by_day(ward, nurse, nights[nurse], in_use[nurse]))
+        .collect();
+    count(ward, Search::Day, &on_duty, unplaced(&in_use[..ward.nurse_count]))
+}

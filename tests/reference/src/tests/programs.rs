@@ -1,0 +1,48 @@
+//! The roster program on the ward files. The large one is run in release only.
+
+use super::samples::*;
+use crate::program::run;
+
+#[test]
+fn worked_out() {
+    assert_eq!(run(WORKED), "1 Nn/\n2 --/\nzero 2 2\n");
+    assert_eq!(run(WORKED), include_str!("../../wards/worked.out"));
+}
+
+#[test]
+fn stuck_out() {
+    assert_eq!(run(STUCK), include_str!("../../wards/stuck.out"));
+}
+
+#[test]
+fn dead_ends_out() {
+    assert_eq!(run(DEAD_ENDS), include_str!("../../wards/dead-ends.out"));
+}
+
+#[test]
+fn surgical_out() {
+    let text = run(SURGICAL);
+    assert!(text.ends_with("zero 371 38\n"));
+    assert_eq!(text, include_str!("../../wards/surgical.out"));
+}
+
+#[test]
+#[cfg_attr(debug_assertions, ignore)]
+fn large_out() {
+    assert_eq!(run(LARGE), include_str!("../../wards/large.out"));
+}
+
+#[test]
+fn a_refusal_prints_only_no() {
+    assert_eq!(run(b""), "no 1 0\n");
+    assert_eq!(run(&WORKED[..49]), "no 1 49\n");
+}
+
+/// Nurse 2 wants two rests: she takes 1, nurse 1 takes 0, she takes 2, she takes 0; then
+/// 1 and 2 are given up by her in the last two steps, and nurse 1 has only 0.
+#[test]
+fn left_in_the_second_phase() {
+    let mut numbers = WORKED_NUMBERS;
+    numbers[39] = 2;
+    assert_eq!(run(&file_of(&numbers)), "left 2 2 4\n");
+}
