@@ -4,3 +4,4 @@ pub mod Answers
 pub mod Demand
 pub mod Outcomes
 pub mod Asked
+pub mod Shown
