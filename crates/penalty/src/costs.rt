@@ -32,8 +32,8 @@ fn night_day(w: &[u64], d: usize, i: usize, night: u64, day: u64) -> Three
     requires { ⌜ Accepted (now w) × (d < days (now w)) × (i < 64) ⌝ }
     ensures { λ r. ⌜ NightDay (now (w .entry)) d i night day r ⌝ }
 {
-    let masks = fields::masks(w);
-    let row = fields::needs(w, d);
+    let masks = ward::fields::masks(w);
+    let row = ward::fields::needs(w, d);
     let a = duty::pair_on(fields::weights(w, 0), masks, row, 0, night, i);
     let b = duty::pair_on(fields::low_weights(w, 1), masks, row, 1, day, i);
     Three {
@@ -48,8 +48,8 @@ fn day_day(w: &[u64], d: usize, i: usize, day: u64) -> Three
     requires { ⌜ Accepted (now w) × (d < days (now w)) × (i < 64) ⌝ }
     ensures { λ r. ⌜ DayDay (now (w .entry)) d i day r ⌝ }
 {
-    let masks = fields::masks(w);
-    let row = fields::needs(w, d);
+    let masks = ward::fields::masks(w);
+    let row = ward::fields::needs(w, d);
     let b = duty::pair_on(fields::weights(w, 1), masks, row, 1, day, i);
     Three {
         night: b.off,

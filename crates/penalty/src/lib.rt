@@ -48,8 +48,8 @@ fn night_day(w: &[u64], d: usize, night: u64, day: u64) -> Duty
     requires { ⌜ Accepted (now w) × (d < days (now w)) ⌝ }
     ensures { λ r. ⌜ NightParts (now (w .entry)) d night day r ⌝ }
 {
-    let masks = fields::masks(w);
-    let row = fields::needs(w, d);
+    let masks = ward::fields::masks(w);
+    let row = ward::fields::needs(w, d);
     let a = duty::on_column(fields::weights(w, 0), masks, row, 0, night);
     let b = duty::on_column(fields::weights(w, 1), masks, row, 1, day);
     Duty {
@@ -65,8 +65,8 @@ fn day_day(w: &[u64], d: usize, day: u64) -> Duty
 {
     duty::on_column(
         fields::weights(w, 1),
-        fields::masks(w),
-        fields::needs(w, d),
+        ward::fields::masks(w),
+        ward::fields::needs(w, d),
         1,
         day,
     )
