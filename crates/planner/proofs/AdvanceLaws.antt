@@ -54,16 +54,6 @@ module _ (P : Phase) (r : Stored) (made pen : ℕ) {e : Ending} where
 pub list-front : (L rest : List ℕ) {buf : List ℕ} {n : ℕ} → buf ≡ L ++ rest → n ≡ length L → take n buf ≡ L
 list-front L rest e q = ap₂ take q e ∙ take-at L rest (length L) refl
 
-module _ (w : List ℕ) (r : Stored) (k places : ℕ) where
-  -- a refused call
-  pub says-no : (n : No) → refusalStored (nightPhase w) (callOf k places) r ≡ some n → (advanceStored (nightPhase w) (callOf k places) r) ≡ (refused n, r)
-  says-no n e = stored-refused (nightPhase w) (callOf k places) r n e
-
-  -- one that is not
-  pub goes-on : (x : Advanced) → refusalStored (nightPhase w) (callOf k places) r ≡ none → replyStored (nightPhase w) k r ≡ (answerOf (nightPhase w) x, x .after)
-      → advanceStored (nightPhase w) (callOf k places) r ≡ (answerOf (nightPhase w) x, x .after)
-  goes-on x e q = stored-goes (nightPhase w) (callOf k places) r e ∙ q
-
 answered-writes : (P : Phase) (r : Stored) (made pen : ℕ) (e : Ending) (L buf : List ℕ) → leftBy (answerWith P r made pen e) L buf ≡ L ++ drop (length L) buf
 unfolding leftBy
 answered-writes P r made pen Zero L buf = refl
@@ -141,11 +131,11 @@ module _ (w : List ℕ) where
 
 -- ---- an advance that no question refuses
 
-first-none : (a b : Option No) → first a b ≡ none → (a ≡ none) × (b ≡ none)
+pub first-none : (a b : Option No) → first a b ≡ none → (a ≡ none) × (b ≡ none)
 first-none none b e = (refl, e)
 first-none (some n) b e = (e, let z : _≡_ {A = ℕ} 0 1 = cc in absurd (omega arith))
 
-unless-none : (b : Bool) (q i : ℕ) → unless b q i ≡ none → b ≡ true
+pub unless-none : (b : Bool) (q i : ℕ) → unless b q i ≡ none → b ≡ true
 unless-none true q i e = refl
 unless-none false q i e = let z : _≡_ {A = ℕ} 0 1 = cc in absurd (omega arith)
 
@@ -174,14 +164,29 @@ filled-front w buffer {rules} {after} {n} e q f =
     list-front (commonOf w) (drop (length (common rules (days w))) buffer)
     (f ∙ ap (λ (x : Rules). common x (days w) ++ drop (length (common rules (days w))) buffer) e) (q ∙ ap (λ (x : Rules). length (common x (days w))) e)
 
+-- a call's result and what it leaves, by how the answer is given
+module _ (P : Phase) (r : Stored) (k : ℕ) (L buffer : List ℕ) {R : Type 0} (give : Answer → Stored → R) where
+  abbrev adv : Answer × Stored
+  adv = advanceStored P (callOf k (length buffer)) r
+
+  pub told-refused : (n : No) {x : R} → refusalStored P (callOf k (length buffer)) r ≡ some n → x ≡ give (refused n) r
+      → (x ≡ give (adv .0) (adv .1)) × (buffer ≡ leftBy (adv .0) L buffer)
+  told-refused n e f =
+      let a = stored-refused P (callOf k (length buffer)) r n e in
+      (f ∙ sym (ap (λ (y : Answer × Stored). give (y .0) (y .1)) a), writes-nothing n L buffer ∙ sym (ap (λ (y : Answer × Stored). leftBy (y .0) L buffer) a))
+
+  pub told-advanced : (x : Advanced) {y : R} {after : List ℕ} → refusalStored P (callOf k (length buffer)) r ≡ none → replyStored P k r ≡ (answerOf P x, x .after)
+      → y ≡ give (answerOf P x) (x .after) → after ≡ L ++ drop (length L) buffer → (y ≡ give (adv .0) (adv .1)) × (after ≡ leftBy (adv .0) L buffer)
+  told-advanced x e f g h =
+      let a = stored-goes P (callOf k (length buffer)) r e ∙ f in
+      (g ∙ sym (ap (λ (z : Answer × Stored). give (z .0) (z .1)) a), h ∙ sym (writes P x L buffer) ∙ sym (ap (λ (z : Answer × Stored). leftBy (z .0) L buffer) a))
+
 module _ (w : List ℕ) (r : Stored) (k : ℕ) (buffer : List ℕ) where
   pub refusal-told : (q p : ℕ) {x : Advance} → some (record { question = q; place = p }) ≡ refusalStored (nightPhase w) (callOf k (length buffer)) r
       → x ≡ advanceOf (refused (record { question = q; place = p })) r
       → (x ≡ advanceOf (advanceStored (nightPhase w) (callOf k (length buffer)) r .0) (advanceStored (nightPhase w) (callOf k (length buffer)) r .1))
       × (buffer ≡ leftBy (advanceStored (nightPhase w) (callOf k (length buffer)) r .0) (commonOf w) buffer)
-  refusal-told q p e f =
-      let a = says-no w r k (length buffer) (record { question = q; place = p }) (sym e) in
-      (f ∙ sym (ap (λ (y : Answer × Stored). advanceOf (y .0) (y .1)) a), writes-nothing (record { question = q; place = p }) (commonOf w) buffer ∙ sym (ap (λ (y : Answer × Stored). leftBy (y .0) (commonOf w) buffer) a))
+  refusal-told q p e f = told-refused (nightPhase w) r k (commonOf w) buffer advanceOf (record { question = q; place = p }) (sym e) f
 
   pub advance-told : (x : Advanced) {y : Advance} {rules : Rules} {after : List ℕ} → none ≡ refusalStored (nightPhase w) (callOf k (length buffer)) r
       → replyStored (nightPhase w) k r ≡ (answerOf (nightPhase w) x, x .after) → ((P : Phase) → y ≡ advanceOf (answerOf P x) (x .after)) → rules ≡ rulesOf w
@@ -189,17 +194,14 @@ module _ (w : List ℕ) (r : Stored) (k : ℕ) (buffer : List ℕ) where
       → (y ≡ advanceOf (advanceStored (nightPhase w) (callOf k (length buffer)) r .0) (advanceStored (nightPhase w) (callOf k (length buffer)) r .1))
       × (after ≡ leftBy (advanceStored (nightPhase w) (callOf k (length buffer)) r .0) (commonOf w) buffer)
   advance-told x e f g q h =
-      let a = goes-on w r k (length buffer) x (sym e) f in (
-        g (nightPhase w) ∙ sym (ap (λ (z : Answer × Stored). advanceOf (z .0) (z .1)) a),
-        h ∙ ap (λ (z : Rules). common z (days w) ++ drop (length (common z (days w))) buffer) q ∙ sym (writes (nightPhase w) x (commonOf w) buffer)
-            ∙ sym (ap (λ (z : Answer × Stored). leftBy (z .0) (commonOf w) buffer) a),
-      )
+      told-advanced (nightPhase w) r k (commonOf w) buffer advanceOf x (sym e) f (g (nightPhase w))
+      (h ∙ ap (λ (z : Rules). common z (days w) ++ drop (length (common z (days w))) buffer) q)
 
 -- the list's room and its part of the buffer
 pub list-room : (w : List ℕ) {rules : Rules} {places : ℕ} → rules ≡ rulesOf w → length (commonOf w) ≤ places → length (common rules (days w)) ≤ places
 list-room w {rules} {places} e h = subst (λ (x : Rules). length (common x (days w)) ≤ places) (sym e) h
 
-front-fits : (L rest : List ℕ) {n : ℕ} {after : List ℕ} → n ≡ length L → after ≡ L ++ rest → n ≤ length after
+pub front-fits : (L rest : List ℕ) {n : ℕ} {after : List ℕ} → n ≡ length L → after ≡ L ++ rest → n ≤ length after
 front-fits L rest {n} {after} e q = let s : length after ≡ length L + length rest = ap length q ∙ length-append L rest in omega arith
 
 pub filled-fits : (w buffer : List ℕ) (rules : Rules) {n : ℕ} {after : List ℕ} → n ≡ length (common rules (days w))

@@ -4,3 +4,5 @@ pub mod AdvanceLaws
 pub mod AnswerLaws
 pub mod RoomLaws
 pub mod QuestionLaws
+pub mod OpeningLaws
+pub mod DayLaws

@@ -123,16 +123,14 @@ module _ (daily : Bool) (w nights : List ℕ) (x : ℕ) (s : Slot) (named : x �
 
 -- ---- the loops over the nurses and over the removals held: all that are asked
 
+pub all-from : (t : ℕ → Bool) {m n : ℕ} → m ≡ n → all t (upFrom 0 n) ≡ all t (upFrom 0 (m - 0))
+all-from t {m} {n} e =
+    let q : n ≡ m - 0 = omega arith in
+    ap (λ (k : ℕ). all t (upFrom 0 k)) q
+
 pub nurses-begin : (t : ℕ → Bool) (daily : Bool) (w nights : List ℕ) {m : ℕ} → m ≡ nurses w
     → all t (upFrom 0 (phaseOf daily w nights .nurses)) ≡ all t (upFrom 0 (m - 0))
-nurses-begin t daily w nights {m} e =
-    let q : nurses w ≡ m - 0 = omega arith in
-    ap (λ (k : ℕ). all t (upFrom 0 k)) (phase-nurses w nights daily ∙ q)
-
-pub all-begin : (t : ℕ → Bool) (n : ℕ) → all t (upFrom 0 n) ≡ all t (upFrom 0 (n - 0))
-all-begin t n =
-    let q : n ≡ n - 0 = omega arith in
-    ap (λ (k : ℕ). all t (upFrom 0 k)) q
+nurses-begin t daily w nights e = all-from t (e ∙ sym (phase-nurses w nights daily))
 
 pub held-all : (t : ℕ → Bool) (daily : Bool) (w nights : List ℕ) (steps : ℕ) {n tl : ℕ} {r : Bool} → r ≡ all t (upFrom 0 n) → n ≡ min steps tl → tl ≡ tabu w
     → r ≡ all t (upFrom 0 (min steps (phaseOf daily w nights .tabu)))

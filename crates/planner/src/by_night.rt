@@ -2,6 +2,7 @@
 use crate::Advance;
 use crate::Outcome;
 use crate::questions;
+use crate::questions::Question;
 use search::Advanced;
 use search::Ending;
 use search::Record;
@@ -55,12 +56,6 @@ pub(crate) fn finished(x: Advanced) -> Advance
             outcome: Outcome::Stuck,
         },
     }
-}
-
-// A question's no, or none.
-pub enum Question {
-    Pass,
-    No { question: u32, place: usize },
 }
 
 // The first of questions 7, 9, 10 and 11 that fails.

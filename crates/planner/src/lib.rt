@@ -1,5 +1,7 @@
 // The published calls.
+mod by_day;
 mod by_night;
+mod opening;
 mod questions;
 
 use rosters::letters::Place;
@@ -9,8 +11,8 @@ ghost use lib.ListN.{length};
 ghost use Rattle.ward.specs.Fields.{Accepted};
 ghost use Rattle.ward.specs.Answers.{readingOf, readWard, counted, checkWard, writingOf, leftOf};
 ghost use Rattle.planner.specs.Answers.{saidBy, checkLetters, checkSays};
-ghost use Rattle.planner.specs.Advances.{advanceNights};
-ghost use Rattle.planner.specs.Outcomes.{advanceOf, callOf, nightLeft};
+ghost use Rattle.planner.specs.Advances.{advanceNights, advanceDays};
+ghost use Rattle.planner.specs.Outcomes.{advanceOf, dayAdvanceOf, callOf, nightLeft, dayLeft};
 
 // The ward of a file, or the first of questions 1 to 5 that it fails.
 pub fn read(file: &[u8]) -> ward::Reading
@@ -41,6 +43,15 @@ pub struct Advance {
     pub penalty: u64,
     pub steps: u32,
     pub outcome: Outcome,
+}
+
+// The same by day, with the roster: its letters and their count where the advance leaves penalty zero, else 0.
+pub struct DayAdvance {
+    pub kept: search::Record,
+    pub penalty: u64,
+    pub steps: u32,
+    pub outcome: Outcome,
+    pub roster: rosters::written::Roster,
 }
 
 // What the check answers: a refusal; or that the roster keeps the rules, or that a rule is broken.
@@ -101,6 +112,30 @@ pub fn advance_nights(rec: search::Record, file: &[u8], k: u32, buffer: &mut [u3
             let numbers = reading.ward.numbers;
             let count = reading.ward.count;
             by_night::advance_on(rec, &numbers[..count], k, buffer)
+        }
+    }
+}
+
+// Advances a day search over one choice of nights by up to k steps, or says the first of questions 1 to 5 and 7 to 11 that is a no.
+// The buffer then has each nurse's day list in turn; a refused call leaves it as it was. The roster is given out at penalty zero.
+pub fn advance_days(
+    rec: search::Record,
+    file: &[u8],
+    nights: &[u32; 48],
+    k: u32,
+    buffer: &mut [u32],
+) -> DayAdvance
+    ensures says { λ r. ⌜ r ≡ dayAdvanceOf (advanceDays (now (file .entry)) (now (nights .entry)) (callOf k (length (now (buffer .entry)))) rec .0) (advanceDays (now (file .entry)) (now (nights .entry)) (callOf k (length (now (buffer .entry)))) rec .1) ⌝ }
+    ensures leaves { λ _. ⌜ now (buffer .exit) ≡ dayLeft (now (file .entry)) (now (nights .entry)) rec k (now (buffer .entry)) ⌝ }
+{
+    let reading = ward::read(file);
+    let answer = reading.answer;
+    match answer {
+        Answer::No { question, place } => by_day::refuse(rec, question, place),
+        Answer::Yes => {
+            let numbers = reading.ward.numbers;
+            let count = reading.ward.count;
+            by_day::advance_on(rec, &numbers[..count], nights, k, buffer)
         }
     }
 }

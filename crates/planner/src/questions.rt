@@ -11,6 +11,12 @@ ghost use Rattle.search.specs.Record.{among, hers, names, lacking};
 ghost use Rattle.search.specs.Stored.{slot, slotAt, held, namesAt, soundStored};
 ghost use Rattle.planner.specs.Asked.{phaseOf, lackedAt};
 
+// A question's no, or none.
+pub enum Question {
+    Pass,
+    No { question: u32, place: usize },
+}
+
 // Question 7: k is allowed, and so are the steps so far with k more.
 pub(crate) fn steps_allowed(steps: u32, k: u32) -> bool
     ensures { λ r. ⌜ r ≡ (leb k 10000 && leb (steps + k) 1000000) ⌝ }

@@ -1,13 +1,13 @@
 -- `questions::removals_name` meets its contract. The loop's invariant: the removals from j on decide.
 use borrow.Author.Needs.{needs}
 use Prim.Native.Nat.{_≤_, _-_}
-use mathlib.Core.Path.{_≡_, sym, _∙_}
+use mathlib.Core.Path.{_≡_, refl, sym, _∙_}
 use native.Mathlib.Omega.{arith}
 use Rattle.numbers.specs.Range.{upFrom, all}
 use Rattle.numbers.proofs.RangeLaws.{all-more, all-stop, all-end}
 use Rattle.search.specs.Stored.{namesAt}
 use Rattle.planner.specs.Asked.{phaseOf}
-use Rattle.planner.proofs.QuestionLaws.{all-begin, held-all}
+use Rattle.planner.proofs.QuestionLaws.{all-from, held-all}
 use Rattle.planner.proofs.questions.removals_name.Statement.{statement}
 use Rattle.planner.proofs.questions.removals_name.Tie as tie
 
@@ -24,7 +24,7 @@ removals-held-requires : tie.Need-removals-held-requires Inv-loop μ-loop
 removals-held-requires c κs = search needs
 
 loop-holds : tie.Need-loop-holds Inv-loop μ-loop
-loop-holds c = (omega arith, all-begin _ _)
+loop-holds c = (omega arith, all-from _ refl)
 
 mul-x : tie.Need-mul-x Inv-loop μ-loop
 mul-x c = search needs

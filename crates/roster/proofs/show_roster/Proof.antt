@@ -1,0 +1,55 @@
+-- `show_roster` keeps within its letters.
+use mathlib.Core.Path.{sym}
+use lib.Seq.{length-take-le}
+use borrow.Author.Needs.{needs}
+use Rattle.roster.proofs.show_roster.Statement.{statement}
+use Rattle.roster.proofs.show_roster.Tie as tie
+
+read-requires : tie.Need-read-requires
+read-requires c κs = search needs
+
+element-copy-out-n : tie.Need-element-copy-out-n
+element-copy-out-n c = search needs
+
+slice-aggregate-show-rows : tie.Need-slice-aggregate-show-rows
+slice-aggregate-show-rows c = sym (length-take-le _ _ (c .before .if1 .taken))
+
+show-rows-requires : tie.Need-show-rows-requires
+show-rows-requires c κs = search needs
+
+slice-aggregate-write-all : tie.Need-slice-aggregate-write-all
+slice-aggregate-write-all c = search needs
+
+write-all-requires : tie.Need-write-all-requires
+write-all-requires c κs = search needs
+
+number-requires : tie.Need-number-requires
+number-requires c κs = search needs
+
+number-requires-2 : tie.Need-number-requires-2
+number-requires-2 c κs = search needs
+
+slice-aggregate-write-all-2 : tie.Need-slice-aggregate-write-all-2
+slice-aggregate-write-all-2 c = search needs
+
+write-all-requires-2 : tie.Need-write-all-requires-2
+write-all-requires-2 c κs = search needs
+
+returns : tie.Need-returns
+returns c = search needs
+
+pub show-roster-spec : {M : Type 1} → statement M
+show-roster-spec =
+    tie.close
+    (tie.spec
+    read-requires
+    element-copy-out-n
+    slice-aggregate-show-rows
+    show-rows-requires
+    slice-aggregate-write-all
+    write-all-requires
+    number-requires
+    number-requires-2
+    slice-aggregate-write-all-2
+    write-all-requires-2
+    returns)

@@ -1,0 +1,109 @@
+// Plans the ward on standard input: 1,000 steps in each phase with 16,384 places. Prints nurse and row, then the night and the
+// day steps; or what is left, with the phase, its penalty and its steps; or the question that refused and its place.
+use planner::Outcome;
+use search::Record;
+
+fn number(n: u64) {
+    io::write_all(1, b" ");
+    io::print_decimal(1, n);
+}
+
+fn show_no(question: u32, place: usize) {
+    io::write_all(1, b"no");
+    number(question as u64);
+    number(place as u64);
+    io::write_all(1, b"\n");
+}
+
+fn show_left(phase: u64, penalty: u64, steps: u32) {
+    io::write_all(1, b"left");
+    number(phase);
+    number(penalty);
+    number(steps as u64);
+    io::write_all(1, b"\n");
+}
+
+fn show_row(nurse: u64, row: &[u8]) {
+    io::print_decimal(1, nurse);
+    io::write_all(1, b" ");
+    io::write_all(1, row);
+    io::write_all(1, b"\n");
+}
+
+// The letters in rows of n.
+fn show_rows(letters: &[u8], n: usize) {
+    let mut nurse: u64 = 1;
+    let mut at: usize = 0;
+    while at < letters.len() {
+        if 48 < nurse {
+            return;
+        }
+        if letters.len() - at < n {
+            return;
+        }
+        show_row(nurse, &letters[at..at + n]);
+        at += n;
+        nurse += 1;
+    }
+}
+
+fn show_roster(file: &[u8], letters: &[u8], count: usize, nights: u32, days: u32) {
+    let reading = planner::read(file);
+    let ward = reading.ward;
+    let n = ward.numbers[1];
+    if count <= letters.len() {
+        show_rows(&letters[..count], n as usize);
+    }
+    io::write_all(1, b"zero");
+    number(nights as u64);
+    number(days as u64);
+    io::write_all(1, b"\n");
+}
+
+fn plan_days(file: &[u8], nights: &[u32; 48], made: u32, buffer: &mut [u32]) {
+    let x = planner::advance_days(Record::fresh(), file, nights, 1000, buffer);
+    let end = x.outcome;
+    match end {
+        Outcome::Refused { question, place } => {
+            show_no(question, place);
+        }
+        Outcome::Zero => {
+            let letters = x.roster.letters;
+            let count = x.roster.count;
+            show_roster(file, &letters, count, made, x.steps);
+        }
+        Outcome::Asked => {
+            show_left(2, x.penalty, x.steps);
+        }
+        Outcome::Stuck => {
+            show_left(2, x.penalty, x.steps);
+        }
+    }
+}
+
+fn plan(file: &[u8]) {
+    let mut buffer = [0u32; 16384];
+    let x = planner::advance_nights(Record::fresh(), file, 1000, &mut buffer);
+    let end = x.outcome;
+    match end {
+        Outcome::Refused { question, place } => {
+            show_no(question, place);
+        }
+        Outcome::Zero => {
+            let nights = x.kept.patterns;
+            plan_days(file, &nights, x.steps, &mut buffer);
+        }
+        Outcome::Asked => {
+            show_left(1, x.penalty, x.steps);
+        }
+        Outcome::Stuck => {
+            show_left(1, x.penalty, x.steps);
+        }
+    }
+}
+
+fn main() {
+    let mut input = io::large_buffer();
+    let n = io::read_full(0, &mut input);
+    plan(&input[..n]);
+}
