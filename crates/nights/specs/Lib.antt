@@ -2,4 +2,3 @@ pub mod Nights
 pub mod Hers
 pub mod Walk
 pub mod Masks
-pub mod Shown

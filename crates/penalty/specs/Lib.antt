@@ -3,4 +3,3 @@ pub mod Columns
 pub mod Costs
 pub mod Held
 pub mod Walk
-pub mod Shown

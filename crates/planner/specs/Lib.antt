@@ -5,3 +5,4 @@ pub mod Demand
 pub mod Outcomes
 pub mod Asked
 pub mod Shown
+pub mod Table

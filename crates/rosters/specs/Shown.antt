@@ -1,10 +1,9 @@
--- The ward worked through in document 01: the roster of its patterns, and what the check says of it and of it with one letter changed.
+-- What the check says of the worked ward's roster, and of it with one letter changed.
 use mathlib.Core.Path.{_≡_, refl}
 use mathlib.Core.Bool.{true, false}
 use mathlib.Core.List.{List, [], _∷_}
 use mathlib.Core.Option.{none, some}
 use Prim.Native.Nat.{ℕ}
-use lib.ListN.{getD}
 use Rattle.numbers.specs.Range.{upFrom, keep, all}
 use Rattle.numbers.specs.Sum.{sumTo}
 use Rattle.numbers.specs.Digits.{numberOf}
@@ -15,17 +14,12 @@ use Rattle.nights.specs.Nights.{starts, follow, inCommon}
 use Rattle.nights.specs.Hers.{shifted, through, lastRun, hers}
 use Rattle.days.specs.Days.{choice, rowDuty, same, anyOf, freeOf, windowsHold, rests, dayRule}
 use Rattle.penalty.specs.Penalty.{onDuty, members}
-use Rattle.rosters.specs.Letters.{letter, rowLettersOf, letters, isLetter}
+use Rattle.rosters.specs.Letters.{letter, isLetter}
 use Rattle.rosters.specs.Check.{firstBad, misplaced, lettered, lettersIn, sameRow, rowHolds, rowsHold, groupHolds, dutyHolds, dayHolds, daysHold, holds}
 
 -- Nn/--/
 abbrev pub shown : List ℕ
 shown = 78 ∷ 110 ∷ 47 ∷ 45 ∷ 45 ∷ 47 ∷ []
-
--- nights 1 and 0, days 0 and 3
-pub worked-roster : letters worked (λ i. getD (1 ∷ 0 ∷ []) i 0) (λ i. getD (0 ∷ 3 ∷ []) i 0) 2 ≡ shown
-unfolding worked letters rowLettersOf letter dutyOn rowState upFrom block blockAt
-worked-roster = refl
 
 pub worked-letters : misplaced 6 shown ≡ none
 unfolding misplaced firstBad isLetter
