@@ -1,0 +1,136 @@
+-- Where each field of a record stands among its words.
+use Prim.Native.Nat.{ℕ, zero, suc, _+_, _-_, _*_, _/_, _%_, _≤_, _<_}
+use mathlib.Core.Path.{_≡_, refl, sym, ap, _∙_}
+use mathlib.Core.Bool.{Bool, false}
+use mathlib.Core.List.{List, [], _∷_, _++_, map}
+use native.Mathlib.Nat.{zero-add, div-add-mod', mod-lt}
+use native.Mathlib.Omega.{arith}
+use lib.ListN.{length, getD, take, drop, length-append, length-map, length-take, length-drop, List·getD-append, List·getD-map}
+use lib.Seq.{getD-append-add, getD-take, getD-drop, length-take-le}
+use Rattle.numbers.specs.Range.{upFrom}
+use Rattle.numbers.proofs.RangeLaws.{length-range, range-at}
+use Rattle.search.specs.declared.Record.{Record as Stored}
+use Rattle.search.specs.declared.Removal.{Removal as StoredRemoval}
+use Rattle.search.specs.Stored.{Sized, noRemoval}
+use Rattle.pantheryl.specs.Words.{flagOf, removalAt, flagWord, removalWords, wordsOfRecord}
+use Rattle.pantheryl.specs.Walk.{removalWord}
+
+-- ---- read
+
+module _ (words : List ℕ) (long : length words ≡ 289) where
+  pub patterns-long : length (take 48 words) ≡ 48
+  patterns-long = length-take-le 48 words (omega arith)
+
+  pub pattern-read : (i : ℕ) → i < 48 → getD words i 0 ≡ getD (take 48 words) i 0
+  pattern-read i h = sym (getD-take 48 words i 0 h)
+
+  pub flags-long : length (map flagOf (take 48 (drop 48 words))) ≡ 48
+  flags-long = length-map (take 48 (drop 48 words)) flagOf ∙ length-take-le 48 (drop 48 words) (omega (arith, length-drop 48 words))
+
+  pub flag-read : (i : ℕ) {f : Bool} → i < 48 → f ≡ flagOf (getD words (48 + i) 0) → f ≡ getD (map flagOf (take 48 (drop 48 words))) i false
+  flag-read i h e =
+      e ∙ sym (List·getD-map flagOf (take 48 (drop 48 words)) i 0 ∙ ap flagOf (getD-take 48 (drop 48 words) i 0 h ∙ getD-drop 48 words i 0))
+
+  pub removals-long : length (map (removalAt words) (upFrom 0 64)) ≡ 64
+  removals-long = length-map (upFrom 0 64) (removalAt words) ∙ length-range 0 64
+
+  pub removal-read : (j : ℕ) {x : StoredRemoval} → j < 64 → x ≡ removalAt words j → x ≡ getD (map (removalAt words) (upFrom 0 64)) j (removalAt words 0)
+  removal-read j h e =
+      e ∙ sym (List·getD-map (removalAt words) (upFrom 0 64) j 0 ∙ ap (removalAt words) (range-at 0 64 j h ∙ zero-add j))
+
+-- ---- written
+
+-- word t of removal q
+abbrev at3 : ℕ → ℕ → ℕ
+at3 zero t = t
+at3 (suc q) t = suc (suc (suc (at3 q t)))
+
+at3-is : (q t : ℕ) → at3 q t ≡ q * 3 + t
+at3-is zero t = omega arith
+at3-is (suc q) t = let e = at3-is q t in omega arith
+
+three : (x : StoredRemoval) (rest : List ℕ) (t : ℕ) → t < 3 → getD (x .nurse ∷ flagWord (x .has) ∷ x .pattern ∷ rest) t 0 ≡ removalWord x t
+three x rest zero h = refl
+three x rest (suc zero) h = refl
+three x rest (suc (suc zero)) h = refl
+three x rest (suc (suc (suc t))) h = absurd (omega arith)
+
+removal-at3 : (rs : List StoredRemoval) (q t : ℕ) → q < length rs → t < 3 → getD (removalWords rs) (at3 q t) 0 ≡ removalWord (getD rs q noRemoval) t
+removal-at3 [] q t h k = absurd (omega arith)
+removal-at3 (x ∷ rs) zero t h k = three x (removalWords rs) t k
+removal-at3 (x ∷ rs) (suc q) t h k = removal-at3 rs q t (omega arith) k
+
+pub removal-words-long : (rs : List StoredRemoval) → length (removalWords rs) ≡ length rs * 3
+removal-words-long [] = refl
+removal-words-long (x ∷ rs) = let e = removal-words-long rs in omega arith
+
+removal-written : (rs : List StoredRemoval) (j : ℕ) → j < length rs * 3 → removalWord (getD rs (j / 3) noRemoval) (j % 3) ≡ getD (removalWords rs) j 0
+removal-written rs j h =
+    let small : j % 3 < 3 = omega arith in
+    let whole : j / 3 * 3 + j % 3 ≡ j = omega arith in
+    sym (removal-at3 rs (j / 3) (j % 3) (omega arith) small) ∙ ap (λ (i : ℕ). getD (removalWords rs) i 0) (at3-is (j / 3) (j % 3) ∙ whole)
+
+module _ (r : Stored) (z : Sized r) where
+  flags : List ℕ
+  flags = map flagWord (r .placed)
+
+  rest : List ℕ
+  rest = removalWords (r .removals) ++ (r .steps ∷ [])
+
+  flags-is : length flags ≡ 48
+  unfolding flags
+  flags-is = length-map (r .placed) flagWord ∙ z .placed-long
+
+  -- past the patterns, and past the flags
+  past-patterns : (j : ℕ) → getD (wordsOfRecord r) (48 + j) 0 ≡ getD (flags ++ rest) j 0
+  unfolding wordsOfRecord flags rest
+  past-patterns j = ap (λ (n : ℕ). getD (wordsOfRecord r) (n + j) 0) (sym (z .patterns-long)) ∙ getD-append-add (r .patterns) (flags ++ rest) j 0
+
+  past-flags : (j : ℕ) → getD (wordsOfRecord r) (48 + (48 + j)) 0 ≡ getD rest j 0
+  past-flags j = past-patterns (48 + j) ∙ ap (λ (n : ℕ). getD (flags ++ rest) (n + j) 0) (sym flags-is) ∙ getD-append-add flags rest j 0
+
+  pub word-pattern : (i : ℕ) → i < 48 → getD (r .patterns) i 0 ≡ getD (wordsOfRecord r) i 0
+  unfolding wordsOfRecord
+  word-pattern i h = let l = z .patterns-long in sym (List·getD-append (r .patterns) _ 0 i (omega arith))
+
+  pub word-flag : (i : ℕ) {x : ℕ} → 48 ≤ i → i < 96 → x ≡ flagWord (getD (r .placed) (i - 48) false) → x ≡ getD (wordsOfRecord r) i 0
+  unfolding flags
+  word-flag i k h e =
+      let l = flags-is in
+      let q : 48 + (i - 48) ≡ i = omega arith in
+      e
+      ∙ sym (List·getD-map flagWord (r .placed) (i - 48) false)
+      ∙ sym (List·getD-append flags rest 0 (i - 48) (omega arith))
+      ∙ sym (past-patterns (i - 48))
+      ∙ ap (λ (n : ℕ). getD (wordsOfRecord r) n 0) q
+
+  pub word-removal : (i : ℕ) {x : ℕ} → 96 ≤ i → i < 288 → x ≡ removalWord (getD (r .removals) ((i - 96) / 3) noRemoval) ((i - 96) % 3) → x ≡ getD (wordsOfRecord r) i 0
+  unfolding rest
+  word-removal i k h e =
+      let l = z .removals-long in
+      let m = removal-words-long (r .removals) in
+      let q : 48 + (48 + (i - 96)) ≡ i = omega arith in
+      e
+      ∙ removal-written (r .removals) (i - 96) (omega arith)
+      ∙ sym (List·getD-append (removalWords (r .removals)) (r .steps ∷ []) 0 (i - 96) (omega arith))
+      ∙ sym (past-flags (i - 96))
+      ∙ ap (λ (n : ℕ). getD (wordsOfRecord r) n 0) q
+
+  pub word-steps : (i : ℕ) → 288 ≤ i → i < 289 → r .steps ≡ getD (wordsOfRecord r) i 0
+  unfolding rest
+  word-steps i k h =
+      let l = z .removals-long in
+      let m = removal-words-long (r .removals) in
+      let q : 48 + (48 + (length (removalWords (r .removals)) + 0)) ≡ i = omega arith in
+      sym (getD-append-add (removalWords (r .removals)) (r .steps ∷ []) 0 0)
+      ∙ sym (past-flags (length (removalWords (r .removals)) + 0))
+      ∙ ap (λ (n : ℕ). getD (wordsOfRecord r) n 0) q
+
+  pub words-long : length (wordsOfRecord r) ≡ 289
+  unfolding wordsOfRecord
+  words-long =
+      let l = z .patterns-long in
+      let lf = z .placed-long in
+      let lr = z .removals-long in
+      let m = removal-words-long (r .removals) in
+      simp (length-append, length-map) (omega arith)

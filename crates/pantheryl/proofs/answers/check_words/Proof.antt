@@ -1,0 +1,30 @@
+-- `check_words` meets its contract, by the cases of the answer.
+use borrow.Author.Needs.{needs}
+use Rattle.pantheryl.proofs.answers.check_words.Statement.{statement}
+use Rattle.pantheryl.proofs.answers.check_words.Tie as tie
+
+enum-known-checked : tie.Need-enum-known-checked
+enum-known-checked c = search needs
+
+cast-t5 : tie.Need-cast-t5
+cast-t5 c = search needs
+
+enum-told : tie.Need-enum-told
+enum-told c = search needs
+
+enum-told-2 : tie.Need-enum-told-2
+enum-told-2 c = search needs
+
+returns : tie.Need-returns
+returns c = rw (c .before .checked .given .1)
+
+returns-2 : tie.Need-returns-2
+returns-2 c = search needs
+
+returns-3 : tie.Need-returns-3
+returns-3 c = search needs
+
+pub check-words-spec : {M : Type 1} → statement M
+check-words-spec =
+    tie.close
+    (tie.spec enum-known-checked cast-t5 enum-told enum-told-2 returns returns-2 returns-3)

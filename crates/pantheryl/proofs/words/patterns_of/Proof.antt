@@ -1,0 +1,59 @@
+-- `patterns_of` meets its contract.
+use Prim.Native.Nat.{_-_, _≤_}
+use mathlib.Core.Path.{_≡_, refl}
+use native.Mathlib.Omega.{arith}
+use lib.ListN.{length, take}
+use Rattle.pantheryl.proofs.CopyLaws.{Copied, copied-start, copied-turn, copied-end}
+use Rattle.pantheryl.proofs.WordLaws.{patterns-long, pattern-read}
+use borrow.Author.Needs.{needs}
+use Rattle.pantheryl.proofs.words.patterns_of.Statement.{statement}
+use Rattle.pantheryl.proofs.words.patterns_of.Tie as tie
+
+abbrev Inv-loop : tie.InvT-loop
+Inv-loop words patterns₀ i₀ patterns i = Copied patterns₀ (take 48 words) 48 patterns i
+
+abbrev μ-loop : tie.MeasureT-loop
+μ-loop words patterns₀ i₀ patterns i = 48 - i
+
+loop-holds : tie.Need-loop-holds Inv-loop μ-loop
+loop-holds c = let l = patterns-long (c .args .t1) (search needs) in copied-start _ _ _ (search needs) (omega arith)
+
+mul-patterns : tie.Need-mul-patterns Inv-loop μ-loop
+mul-patterns c = search needs
+
+array-read-patterns : tie.Need-array-read-patterns Inv-loop μ-loop
+array-read-patterns c = search needs
+
+mul-patterns-2 : tie.Need-mul-patterns-2 Inv-loop μ-loop
+mul-patterns-2 c = search needs
+
+array-write-patterns : tie.Need-array-write-patterns Inv-loop μ-loop
+array-write-patterns c = search needs
+
+add-i : tie.Need-add-i Inv-loop μ-loop
+add-i c = search needs
+
+loop-less : tie.Need-loop-less Inv-loop μ-loop
+loop-less c = search needs
+
+loop-again : tie.Need-loop-again Inv-loop μ-loop
+loop-again c = copied-turn 0 (c .before .loop .inv) (c .loop-test .taken) (pattern-read (c .before .before .args .t1) (search needs) (c .before .loop .i) (c .loop-test .taken))
+
+returns : tie.Need-returns Inv-loop μ-loop
+returns c = copied-end (c .before .loop .inv) (search needs) (search needs) (patterns-long (c .before .before .args .t1) (search needs))
+
+pub patterns-of-spec : {M : Type 1} → statement M
+patterns-of-spec =
+    tie.close
+    (tie.spec
+    Inv-loop
+    μ-loop
+    loop-holds
+    mul-patterns
+    array-read-patterns
+    mul-patterns-2
+    array-write-patterns
+    add-i
+    loop-less
+    loop-again
+    returns)

@@ -1,0 +1,26 @@
+-- `record_of` meets its contract, field by field.
+use Rattle.pantheryl.specs.Words.{recordOfWords}
+use borrow.Author.Needs.{needs}
+use Rattle.pantheryl.proofs.words.record_of.Statement.{statement}
+use Rattle.pantheryl.proofs.words.record_of.Tie as tie
+
+patterns-of-requires : tie.Need-patterns-of-requires
+patterns-of-requires c κs = search needs
+
+flags-of-requires : tie.Need-flags-of-requires
+flags-of-requires c κs = search needs
+
+removals-of-requires : tie.Need-removals-of-requires
+removals-of-requires c κs = search needs
+
+array-read-t9 : tie.Need-array-read-t9
+array-read-t9 c = search needs
+
+returns : tie.Need-returns
+unfolding recordOfWords
+returns c = rw (c .before .before .patterns-of .ensures, c .before .flags-of .ensures, c .removals-of .ensures)
+
+pub record-of-spec : {M : Type 1} → statement M
+record-of-spec =
+    tie.close
+    (tie.spec patterns-of-requires flags-of-requires removals-of-requires array-read-t9 returns)

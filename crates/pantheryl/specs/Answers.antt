@@ -1,0 +1,78 @@
+-- The six words of an answer (question, place, outcome, steps made, penalty, count), and what each call leaves in its caller's memory.
+use Prim.Native.Nat.{ℕ}
+use mathlib.Core.Bool.{Bool, true, false}
+use mathlib.Core.List.{List, [], _∷_}
+use lib.ListN.{length}
+use Rattle.ward.specs.declared.Answer.{Answer as WardAnswer}
+use Rattle.ward.specs.declared.Answer.the-variants.{Yes, No}
+use Rattle.ward.specs.declared.Ward.{Ward}
+use Rattle.ward.specs.declared.Reading.{Reading}
+use Rattle.ward.specs.declared.Writing.{Writing}
+use Rattle.search.specs.declared.Record.{Record as Stored}
+use Rattle.search.specs.Phase.{Answer, refused, ended, End, End·zero, End·asked, End·none}
+use Rattle.planner.specs.Advances.{advanceNights}
+use Rattle.planner.specs.Answers.{Said, said}
+use Rattle.planner.specs.Answers as checks
+use Rattle.planner.specs.Outcomes.{callOf}
+use Rattle.pantheryl.specs.Words.{recordOfWords, wordsOfRecord}
+
+-- a refusal: the question's number and its place, and all else 0
+abbrev pub refusalWords : ℕ → ℕ → List ℕ
+refusalWords question place = question ∷ place ∷ 0 ∷ 0 ∷ 0 ∷ 0 ∷ []
+
+-- not refused
+abbrev pub doneWords : ℕ → ℕ → ℕ → ℕ → List ℕ
+doneWords outcome steps penalty count = 0 ∷ 0 ∷ outcome ∷ steps ∷ penalty ∷ count ∷ []
+
+-- ---- the ward
+
+-- a count of numbers read or of bytes written
+abbrev pub countWords : WardAnswer → ℕ → List ℕ
+countWords (No question place) count = refusalWords question place
+countWords Yes count = doneWords 0 0 0 count
+
+abbrev pub readWords : Reading → List ℕ
+readWords r = countWords (r .answer) (r .ward .count)
+
+-- what the reader leaves in the numbers; a refused call leaves them as they were
+abbrev pub unlessRefused : WardAnswer → List ℕ → List ℕ → List ℕ
+unlessRefused (No question place) read before = before
+unlessRefused Yes read before = read
+
+abbrev pub numbersLeft : Reading → List ℕ → List ℕ
+numbersLeft r before = unlessRefused (r .answer) (r .ward .numbers) before
+
+abbrev pub wardOf : List ℕ → ℕ → Ward
+wardOf numbers count = record { numbers = numbers; count = count }
+
+abbrev pub writeWords : Writing → List ℕ
+writeWords r = countWords (r .answer) (r .bytes)
+
+-- ---- the advances
+
+abbrev pub endWord : End → ℕ
+endWord End·zero = 1
+endWord End·asked = 2
+endWord End·none = 3
+
+-- the count is that of the roster's letters
+unfoldable pub advanceWords : Answer → List ℕ
+advanceWords (refused n) = refusalWords (n .question) (n .place)
+advanceWords (ended e made penalty letters) = doneWords (endWord e) made penalty (length letters)
+
+-- the record's words after an advance; a refused one leaves them as they were
+unfoldable pub wordsLeft : Answer × Stored → List ℕ → List ℕ
+wordsLeft (refused n, r) before = before
+wordsLeft (ended e made penalty letters, r) before = wordsOfRecord r
+
+-- what a night advance answers, and the record that it hands back, where the record is handed in as words
+abbrev pub nightsFrom : List ℕ → List ℕ → ℕ → List ℕ → Answer × Stored
+nightsFrom file words k buffer = advanceNights file (callOf k (length buffer)) (recordOfWords words)
+
+-- ---- the check
+
+-- 1 for a yes, 2 for a no
+abbrev pub checkWords : Said → List ℕ
+checkWords (checks.refused n) = refusalWords (n .question) (n .place)
+checkWords (said true) = doneWords 1 0 0 0
+checkWords (said false) = doneWords 2 0 0 0

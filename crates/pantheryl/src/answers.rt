@@ -1,0 +1,55 @@
+// The six words of an answer.
+use planner::Checked;
+use planner::Outcome;
+use ward::Answer;
+ghost use mathlib.Core.Path.{_≡_};
+ghost use Rattle.planner.specs.Answers.{saidBy};
+ghost use Rattle.pantheryl.specs.Answers.{countWords, checkWords};
+ghost use Rattle.pantheryl.specs.Walk.{outcomeWords, isRefused};
+
+// The reader's and the writer's.
+pub(crate) fn count_words(said: Answer, count: u64) -> [u64; 6]
+    ensures { λ r. ⌜ r ≡ countWords said count ⌝ }
+{
+    match said {
+        Answer::No { question, place } => [question as u64, place as u64, 0, 0, 0, 0],
+        Answer::Yes => [0, 0, 0, 0, 0, count],
+    }
+}
+
+// An advance's.
+pub(crate) fn outcome_words(outcome: Outcome, steps: u32, penalty: u64, count: u64) -> [u64; 6]
+    ensures { λ r. ⌜ r ≡ outcomeWords outcome steps penalty count ⌝ }
+{
+    match outcome {
+        Outcome::Refused { question, place } => [question as u64, place as u64, 0, 0, 0, 0],
+        Outcome::Zero => [0, 0, 1, steps as u64, penalty, count],
+        Outcome::Asked => [0, 0, 2, steps as u64, penalty, count],
+        Outcome::Stuck => [0, 0, 3, steps as u64, penalty, count],
+    }
+}
+
+pub(crate) fn is_refused(outcome: Outcome) -> bool
+    ensures { λ r. ⌜ r ≡ isRefused outcome ⌝ }
+{
+    match outcome {
+        Outcome::Refused {
+            question: _,
+            place: _,
+        } => true,
+        Outcome::Zero => false,
+        Outcome::Asked => false,
+        Outcome::Stuck => false,
+    }
+}
+
+// The check's.
+pub(crate) fn check_words(checked: Checked) -> [u64; 6]
+    ensures { λ r. ⌜ r ≡ checkWords (saidBy checked) ⌝ }
+{
+    match checked {
+        Checked::Refused { question, place } => [question as u64, place as u64, 0, 0, 0, 0],
+        Checked::Passed => [0, 0, 1, 0, 0, 0],
+        Checked::Broken => [0, 0, 2, 0, 0, 0],
+    }
+}

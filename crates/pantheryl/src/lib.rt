@@ -1,0 +1,92 @@
+// The C interface, over the planner's published calls. include/pantheryl.h says it for C.
+mod answers;
+mod words;
+
+use ward::Answer;
+ghost use mathlib.Core.Path.{_≡_};
+ghost use lib.ListN.{length};
+ghost use Rattle.ward.specs.Answers.{readingOf, readWard, counted, checkWard, writingOf, leftOf};
+ghost use Rattle.planner.specs.Answers.{checkSays};
+ghost use Rattle.planner.specs.Outcomes.{nightLeft};
+ghost use Rattle.pantheryl.specs.Words.{recordOfWords};
+ghost use Rattle.pantheryl.specs.Answers.{readWords, numbersLeft, wardOf, writeWords, advanceWords, wordsLeft, nightsFrom, checkWords};
+
+// Reads a ward file into numbers; the count says how many.
+#[no_mangle]
+pub extern "C" fn pantheryl_read(file: &[u8], numbers: &mut [u64; 4094], answer: &mut [u64; 6])
+    ensures says { λ _. ⌜ now (answer .exit) ≡ readWords (readingOf (readWard (now (file .entry)))) ⌝ }
+    ensures leaves { λ _. ⌜ now (numbers .exit) ≡ numbersLeft (readingOf (readWard (now (file .entry)))) (now (numbers .entry)) ⌝ }
+{
+    let reading = planner::read(file);
+    let asked = reading.answer;
+    let said = answers::count_words(asked, reading.ward.count as u64);
+    *answer = said;
+    match asked {
+        Answer::No {
+            question: _,
+            place: _,
+        } => {}
+        Answer::Yes => {
+            let read = reading.ward.numbers;
+            *numbers = read;
+        }
+    }
+}
+
+// Writes the counted numbers as a ward file into buffer; the count says how many bytes.
+#[no_mangle]
+pub extern "C" fn pantheryl_write(
+    numbers: &[u64; 4094],
+    count: u64,
+    buffer: &mut [u8],
+    answer: &mut [u64; 6],
+)
+    ensures says { λ _. ⌜ now (answer .exit) ≡ writeWords (writingOf (length (now (buffer .entry))) (checkWard (counted (wardOf (now (numbers .entry)) count)))) ⌝ }
+    ensures leaves { λ _. ⌜ now (buffer .exit) ≡ leftOf (now (buffer .entry)) (checkWard (counted (wardOf (now (numbers .entry)) count))) ⌝ }
+{
+    let numbers = *numbers;
+    let ward = ward::Ward {
+        numbers,
+        count: count as usize,
+    };
+    let writing = planner::write(ward, buffer);
+    let asked = writing.answer;
+    let said = answers::count_words(asked, writing.bytes as u64);
+    *answer = said;
+}
+
+// Advances the night search whose record is in words by up to k steps.
+#[no_mangle]
+pub extern "C" fn pantheryl_advance_nights(
+    file: &[u8],
+    words: &mut [u32; 289],
+    k: u32,
+    buffer: &mut [u32],
+    answer: &mut [u64; 6],
+)
+    ensures says { λ _. ⌜ now (answer .exit) ≡ advanceWords (nightsFrom (now (file .entry)) (now (words .entry)) k (now (buffer .entry)) .0) ⌝ }
+    ensures keeps { λ _. ⌜ now (words .exit) ≡ wordsLeft (nightsFrom (now (file .entry)) (now (words .entry)) k (now (buffer .entry))) (now (words .entry)) ⌝ }
+    ensures leaves { λ _. ⌜ now (buffer .exit) ≡ nightLeft (now (file .entry)) (recordOfWords (now (words .entry))) k (now (buffer .entry)) ⌝ }
+{
+    let before = *words;
+    let rec = words::record_of(before);
+    let done = planner::advance_nights(rec, file, k, buffer);
+    let outcome = done.outcome;
+    let said = answers::outcome_words(outcome, done.steps, done.penalty, 0);
+    *answer = said;
+    if !answers::is_refused(outcome) {
+        let kept = done.kept;
+        let after = words::words_of(kept);
+        *words = after;
+    }
+}
+
+// Checks a roster against a ward file.
+#[no_mangle]
+pub extern "C" fn pantheryl_check(file: &[u8], roster: &[u8], answer: &mut [u64; 6])
+    ensures { λ _. ⌜ now (answer .exit) ≡ checkWords (checkSays (now (file .entry)) (now (roster .entry))) ⌝ }
+{
+    let checked = planner::check(file, roster);
+    let said = answers::check_words(checked);
+    *answer = said;
+}
