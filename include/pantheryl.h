@@ -1,0 +1,93 @@
+/* Pantheryl: a hospital ward's monthly two-shift roster.
+ *
+ * A ward is handed over as the bytes of a ward file. No call keeps anything between calls, allocates, or prints. Every call takes any
+ * content: it either answers or refuses. The buffers of one call must not overlap. A pointer must not be null, also where its length is 0.
+ *
+ * Every call writes six words into answer:
+ *
+ *   answer[0]  question  0: not refused; else the number of the question that was answered no (see below)
+ *   answer[1]  place     where: an offset, an index or a nurse's number, as the question says; 0 if not refused
+ *   answer[2]  outcome   of an advance: 1 zero (the penalty is 0), 2 asked (k steps were made), 3 none (no exchange is left)
+ *                        of the check: 1 yes, 2 no (a rule is broken); of the reader and the writer 0
+ *   answer[3]  steps     made by this advance
+ *   answer[4]  penalty   after them
+ *   answer[5]  count     numbers read, bytes written, or letters given
+ *
+ * On a refusal words 2 to 5 are 0, and nothing but answer is written.
+ *
+ * The questions, in the order in which they are asked:
+ *
+ *    1  the file ends before a number does, or a number is missing     place: offset of the number; for the writer its index
+ *    2  a number has more than 7 groups, or is not in its shortest form       offset
+ *    3  a number is out of its field's range, or below the pair's first       offset or index
+ *    4  a duty of the seven days before the month does not follow the last    offset or index
+ *    5  something follows the last number                                     first extra offset or index
+ *    6  the writer's buffer is too short                                      0
+ *    7  k is above 10,000, or the steps so far plus k above 1,000,000         0
+ *    8  by day: a night pattern is not hers, or the nights have a penalty     0
+ *    9  the buffer does not hold the list of patterns, or the lists           0; by day the first nurse who does not fit, from 1
+ *   10  a nurse has no pattern                                                the lowest such nurse, from 1
+ *   11  the record is not one of this ward                                    0
+ *   12  the roster has another letter than / - N n +, or not m times n        first bad index, else the count given
+ */
+#ifndef PANTHERYL_H
+#define PANTHERYL_H
+
+#include <stddef.h>
+#include <stdint.h>
+
+#define PANTHERYL_NUMBERS 4094 /* the most numbers that a ward has */
+#define PANTHERYL_RECORD 289   /* words of a search record */
+#define PANTHERYL_NURSES 48    /* the most nurses that a ward has */
+#define PANTHERYL_ROSTER 1488  /* the most letters that a roster has */
+#define PANTHERYL_ANSWER 6
+
+#ifdef __cplusplus
+extern "C" {
+#endif
+
+/* Reads a ward file: questions 1 to 5.
+ *
+ * file, file_len   the file's bytes
+ * numbers          written: the ward's numbers in file order, then 0 in all places after them
+ * answer           written: count is how many numbers there are
+ */
+void pantheryl_read(const uint8_t *file, size_t file_len, uint64_t *numbers /* [4094] */, uint64_t *answer /* [6] */);
+
+/* Writes a ward file: questions 1, 3, 4, 5 (places are indexes into numbers) and 6.
+ *
+ * numbers, count      the ward is the first count numbers; the others are not looked at. Of a count above 4,094 the missing ones are 0
+ * buffer, buffer_len  written from its start: the file's bytes; the places after them are untouched. 4,190 bytes hold any ward
+ * answer              written: count is how many bytes there are
+ */
+void pantheryl_write(const uint64_t *numbers /* [4094] */, uint64_t count, uint8_t *buffer, size_t buffer_len,
+                     uint64_t *answer /* [6] */);
+
+/* Advances the night search by up to k steps: questions 1 to 5, 7, 9, 10 and 11.
+ *
+ * file, file_len      the ward file's bytes, the same throughout a search
+ * record              the search so far, in and out; 289 zeros begin one. Words 0 to 47 are the nurses' night patterns (day d is bit d-1);
+ *                     48 to 95 their flags, 1 where she is placed; 96 to 287 the 64 removals, the newest first, each a nurse's number from 1,
+ *                     a flag and the pattern that she gave up, if any; 288 all steps so far. A flag is read as set if it is not 0, and
+ *                     written as 0 or 1. Written unless the call is refused, also where no step was made
+ * k                   the most steps to make, at most 10,000
+ * buffer, buffer_len  room for the common list of patterns, counted in 32-bit numbers. Written from its start; the places after the list are
+ *                     untouched. It carries nothing from call to call
+ * answer              written: outcome, steps and penalty; count is 0
+ */
+void pantheryl_advance_nights(const uint8_t *file, size_t file_len, uint32_t *record /* [289] */, uint32_t k, uint32_t *buffer,
+                              size_t buffer_len, uint64_t *answer /* [6] */);
+
+/* Checks a roster: questions 1 to 5 and 12.
+ *
+ * file, file_len      the ward file's bytes
+ * roster, roster_len  m times n letters, row after row: / rest, - day, N night's first day, n its second, + other
+ * answer              written: outcome is 1 where every row and every day keeps the rules, else 2
+ */
+void pantheryl_check(const uint8_t *file, size_t file_len, const uint8_t *roster, size_t roster_len, uint64_t *answer /* [6] */);
+
+#ifdef __cplusplus
+}
+#endif
+
+#endif
