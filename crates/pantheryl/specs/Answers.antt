@@ -1,8 +1,8 @@
 -- The six words of an answer (question, place, outcome, steps made, penalty, count), and what each call leaves in its caller's memory.
 use Prim.Native.Nat.{ℕ}
 use mathlib.Core.Bool.{Bool, true, false}
-use mathlib.Core.List.{List, [], _∷_}
-use lib.ListN.{length}
+use mathlib.Core.List.{List, [], _∷_, _++_}
+use lib.ListN.{length, drop}
 use Rattle.ward.specs.declared.Answer.{Answer as WardAnswer}
 use Rattle.ward.specs.declared.Answer.the-variants.{Yes, No}
 use Rattle.ward.specs.declared.Ward.{Ward}
@@ -10,7 +10,7 @@ use Rattle.ward.specs.declared.Reading.{Reading}
 use Rattle.ward.specs.declared.Writing.{Writing}
 use Rattle.search.specs.declared.Record.{Record as Stored}
 use Rattle.search.specs.Phase.{Answer, refused, ended, End, End·zero, End·asked, End·none}
-use Rattle.planner.specs.Advances.{advanceNights}
+use Rattle.planner.specs.Advances.{advanceNights, advanceDays}
 use Rattle.planner.specs.Answers.{Said, said}
 use Rattle.planner.specs.Answers as checks
 use Rattle.planner.specs.Outcomes.{callOf}
@@ -55,7 +55,7 @@ endWord End·zero = 1
 endWord End·asked = 2
 endWord End·none = 3
 
--- the count is that of the roster's letters
+-- the count is that of the roster's letters, 0 where none is given out
 unfoldable pub advanceWords : Answer → List ℕ
 advanceWords (refused n) = refusalWords (n .question) (n .place)
 advanceWords (ended e made penalty letters) = doneWords (endWord e) made penalty (length letters)
@@ -65,9 +65,22 @@ unfoldable pub wordsLeft : Answer × Stored → List ℕ → List ℕ
 wordsLeft (refused n, r) before = before
 wordsLeft (ended e made penalty letters, r) before = wordsOfRecord r
 
+-- the letters that are given out: by day at penalty zero, else none
+abbrev pub lettersOf : Answer → List ℕ
+lettersOf (refused n) = []
+lettersOf (ended e made penalty letters) = letters
+
+-- the roster's places after a day advance: the letters from the start, the rest untouched
+unfoldable pub rosterLeft : Answer → List ℕ → List ℕ
+rosterLeft a before = lettersOf a ++ drop (length (lettersOf a)) before
+
 -- what a night advance answers, and the record that it hands back, where the record is handed in as words
 abbrev pub nightsFrom : List ℕ → List ℕ → ℕ → List ℕ → Answer × Stored
 nightsFrom file words k buffer = advanceNights file (callOf k (length buffer)) (recordOfWords words)
+
+-- and a day advance
+abbrev pub daysFrom : List ℕ → List ℕ → List ℕ → ℕ → List ℕ → Answer × Stored
+daysFrom file nights words k buffer = advanceDays file nights (callOf k (length buffer)) (recordOfWords words)
 
 -- ---- the check
 

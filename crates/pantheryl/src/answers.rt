@@ -3,6 +3,9 @@ use planner::Checked;
 use planner::Outcome;
 use ward::Answer;
 ghost use mathlib.Core.Path.{_≡_};
+ghost use mathlib.Core.List.{_++_};
+ghost use Prim.Native.Nat.{_≤_};
+ghost use lib.ListN.{take, drop};
 ghost use Rattle.planner.specs.Answers.{saidBy};
 ghost use Rattle.pantheryl.specs.Answers.{countWords, checkWords};
 ghost use Rattle.pantheryl.specs.Walk.{outcomeWords, isRefused};
@@ -40,6 +43,30 @@ pub(crate) fn is_refused(outcome: Outcome) -> bool
         Outcome::Zero => false,
         Outcome::Asked => false,
         Outcome::Stuck => false,
+    }
+}
+
+// The roster with the letters at its start.
+fn with_letters(before: [u8; 1488], letters: [u8; 1488], count: usize) -> [u8; 1488]
+    requires { ⌜ count ≤ 1488 ⌝ }
+    ensures { λ r. ⌜ r ≡ take count letters ++ drop count before ⌝ }
+{
+    let mut roster = before;
+    for i in 0..count {
+        roster[i] = letters[i];
+    }
+    roster
+}
+
+// Writes the letters, if any are given out.
+pub(crate) fn put_letters(roster: &mut [u8; 1488], letters: [u8; 1488], count: usize)
+    requires { ⌜ count ≤ 1488 ⌝ }
+    ensures { λ _. ⌜ now (roster .exit) ≡ take count letters ++ drop count (now (roster .entry)) ⌝ }
+{
+    if 0 < count {
+        let before = *roster;
+        let after = with_letters(before, letters, count);
+        *roster = after;
     }
 }
 

@@ -7,9 +7,9 @@ ghost use mathlib.Core.Path.{_≡_};
 ghost use lib.ListN.{length};
 ghost use Rattle.ward.specs.Answers.{readingOf, readWard, counted, checkWard, writingOf, leftOf};
 ghost use Rattle.planner.specs.Answers.{checkSays};
-ghost use Rattle.planner.specs.Outcomes.{nightLeft};
+ghost use Rattle.planner.specs.Outcomes.{nightLeft, dayLeft};
 ghost use Rattle.pantheryl.specs.Words.{recordOfWords};
-ghost use Rattle.pantheryl.specs.Answers.{readWords, numbersLeft, wardOf, writeWords, advanceWords, wordsLeft, nightsFrom, checkWords};
+ghost use Rattle.pantheryl.specs.Answers.{readWords, numbersLeft, wardOf, writeWords, advanceWords, wordsLeft, nightsFrom, daysFrom, rosterLeft, checkWords};
 
 // Reads a ward file into numbers; the count says how many.
 #[no_mangle]
@@ -74,6 +74,38 @@ pub extern "C" fn pantheryl_advance_nights(
     let outcome = done.outcome;
     let said = answers::outcome_words(outcome, done.steps, done.penalty, 0);
     *answer = said;
+    if !answers::is_refused(outcome) {
+        let kept = done.kept;
+        let after = words::words_of(kept);
+        *words = after;
+    }
+}
+
+// Advances the day search over these nights whose record is in words by up to k steps.
+#[no_mangle]
+pub extern "C" fn pantheryl_advance_days(
+    file: &[u8],
+    nights: &[u32; 48],
+    words: &mut [u32; 289],
+    k: u32,
+    buffer: &mut [u32],
+    roster: &mut [u8; 1488],
+    answer: &mut [u64; 6],
+)
+    ensures says { λ _. ⌜ now (answer .exit) ≡ advanceWords (daysFrom (now (file .entry)) (now (nights .entry)) (now (words .entry)) k (now (buffer .entry)) .0) ⌝ }
+    ensures keeps { λ _. ⌜ now (words .exit) ≡ wordsLeft (daysFrom (now (file .entry)) (now (nights .entry)) (now (words .entry)) k (now (buffer .entry))) (now (words .entry)) ⌝ }
+    ensures leaves { λ _. ⌜ now (buffer .exit) ≡ dayLeft (now (file .entry)) (now (nights .entry)) (recordOfWords (now (words .entry))) k (now (buffer .entry)) ⌝ }
+    ensures gives { λ _. ⌜ now (roster .exit) ≡ rosterLeft (daysFrom (now (file .entry)) (now (nights .entry)) (now (words .entry)) k (now (buffer .entry)) .0) (now (roster .entry)) ⌝ }
+{
+    let before = *words;
+    let rec = words::record_of(before);
+    let done = planner::advance_days(rec, file, nights, k, buffer);
+    let outcome = done.outcome;
+    let letters = done.roster.letters;
+    let count = done.roster.count;
+    let said = answers::outcome_words(outcome, done.steps, done.penalty, count as u64);
+    *answer = said;
+    answers::put_letters(roster, letters, count);
     if !answers::is_refused(outcome) {
         let kept = done.kept;
         let after = words::words_of(kept);

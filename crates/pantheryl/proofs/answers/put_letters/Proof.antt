@@ -1,0 +1,18 @@
+-- `put_letters` meets its contract: with no letters the roster is as it was.
+use mathlib.Core.Path.{_≡_, sym}
+use native.Mathlib.Omega.{arith}
+use borrow.Author.Needs.{needs}
+use Rattle.pantheryl.proofs.answers.put_letters.Statement.{statement}
+use Rattle.pantheryl.proofs.answers.put_letters.Tie as tie
+
+with-letters-requires : tie.Need-with-letters-requires
+with-letters-requires c κs = search needs
+
+returns : tie.Need-returns
+returns c = search needs
+
+returns-2 : tie.Need-returns-2
+returns-2 c = let none : c .before .args .count ≡ 0 = omega arith in rw none
+
+pub put-letters-spec : {M : Type 1} → statement M
+put-letters-spec = tie.close (tie.spec with-letters-requires returns returns-2)
