@@ -78,6 +78,21 @@ void pantheryl_write(const uint64_t *numbers /* [4094] */, uint64_t count, uint8
 void pantheryl_advance_nights(const uint8_t *file, size_t file_len, uint32_t *record /* [289] */, uint32_t k, uint32_t *buffer,
                               size_t buffer_len, uint64_t *answer /* [6] */);
 
+/* Advances the day search over one choice of nights by up to k steps: questions 1 to 5 and 7 to 11.
+ *
+ * file, file_len      as at night
+ * nights              each nurse's night pattern, as words 0 to 47 of a night record that ended at zero; the same throughout a search
+ * record              as at night, with the nurses' day patterns; 289 zeros begin a search
+ * k                   as at night
+ * buffer, buffer_len  room for all nurses' lists of day patterns, each after the one before. Written from its start; the places after the
+ *                     lists are untouched
+ * roster              written where the outcome is 1, zero: m times n letters from its start, row after row (see pantheryl_check); the
+ *                     places after them are untouched. At any other outcome none is written
+ * answer              written: outcome, steps and penalty; count is the number of letters given out, 0 where there are none
+ */
+void pantheryl_advance_days(const uint8_t *file, size_t file_len, const uint32_t *nights /* [48] */, uint32_t *record /* [289] */,
+                            uint32_t k, uint32_t *buffer, size_t buffer_len, uint8_t *roster /* [1488] */, uint64_t *answer /* [6] */);
+
 /* Checks a roster: questions 1 to 5 and 12.
  *
  * file, file_len      the ward file's bytes

@@ -1,10 +1,9 @@
-/* Plans the nights of a ward of two nurses and three days, and checks a roster.
+/* Plans a ward of two nurses and three days, first the nights, then the days, and checks the roster.
  *
  *   rt staticlib pantheryl
  *   cc -I include tests/c/example.c target/staticlib/libpantheryl.a -o target/example && target/example
  */
 #include <stdio.h>
-#include <string.h>
 
 #include "pantheryl.h"
 
@@ -27,15 +26,21 @@ static void print(const char *call, const uint64_t answer[6])
 int main(void)
 {
     static uint32_t buffer[16384];
-    uint32_t record[PANTHERYL_RECORD] = {0};
+    uint32_t nights[PANTHERYL_RECORD] = {0}, days[PANTHERYL_RECORD] = {0};
+    uint8_t roster[PANTHERYL_ROSTER];
     uint64_t answer[PANTHERYL_ANSWER];
-    const char *roster = "Nn/--/";
 
-    pantheryl_advance_nights(ward, sizeof ward, record, 1000, buffer, 16384, answer);
+    pantheryl_advance_nights(ward, sizeof ward, nights, 1000, buffer, 16384, answer);
     print("nights", answer);
-    printf("patterns: %u %u\n", record[0], record[1]);
 
-    pantheryl_check(ward, sizeof ward, (const uint8_t *)roster, strlen(roster), answer);
+    /* The night patterns are the first 48 words of the night record. */
+    pantheryl_advance_days(ward, sizeof ward, nights, days, 1000, buffer, 16384, roster, answer);
+    print("days", answer);
+    size_t letters = answer[5];
+    for (size_t i = 0; i < letters; i += 3)
+        printf("%.3s\n", (const char *)roster + i);
+
+    pantheryl_check(ward, sizeof ward, roster, letters, answer);
     print("check", answer);
     return 0;
 }
