@@ -1,3 +1,4 @@
 pub mod CopyLaws
 pub mod WordLaws
 pub mod AnswerLaws
+pub mod BackLaws

@@ -3,9 +3,9 @@ use Prim.Native.Nat.{ℕ, zero, suc, _+_, _-_, _*_, _/_, _%_, _≤_, _<_}
 use mathlib.Core.Path.{_≡_, refl, sym, ap, _∙_}
 use mathlib.Core.Bool.{Bool, false}
 use mathlib.Core.List.{List, [], _∷_, _++_, map}
-use native.Mathlib.Nat.{zero-add, div-add-mod', mod-lt}
+use native.Mathlib.Nat.{zero-add}
 use native.Mathlib.Omega.{arith}
-use lib.ListN.{length, getD, take, drop, length-append, length-map, length-take, length-drop, List·getD-append, List·getD-map}
+use lib.ListN.{length, getD, take, drop, length-append, length-map, length-drop, List·getD-append, List·getD-map}
 use lib.Seq.{getD-append-add, getD-take, getD-drop, length-take-le}
 use Rattle.numbers.specs.Range.{upFrom}
 use Rattle.numbers.proofs.RangeLaws.{length-range, range-at}
@@ -115,6 +115,19 @@ module _ (r : Stored) (z : Sized r) where
       ∙ sym (List·getD-append (removalWords (r .removals)) (r .steps ∷ []) 0 (i - 96) (omega arith))
       ∙ sym (past-flags (i - 96))
       ∙ ap (λ (n : ℕ). getD (wordsOfRecord r) n 0) q
+
+  -- word t of removal q, from the front
+  pub removal-place : (q t i : ℕ) → q < 64 → t < 3 → i ≡ 96 + t + q * 3 → getD (wordsOfRecord r) i 0 ≡ removalWord (getD (r .removals) q noRemoval) t
+  unfolding rest
+  removal-place q t i h k e =
+      let l = z .removals-long in
+      let m = removal-words-long (r .removals) in
+      let a = at3-is q t in
+      let p : i ≡ 48 + (48 + at3 q t) = omega arith in
+      ap (λ (n : ℕ). getD (wordsOfRecord r) n 0) p
+      ∙ past-flags (at3 q t)
+      ∙ List·getD-append (removalWords (r .removals)) (r .steps ∷ []) 0 (at3 q t) (omega arith)
+      ∙ removal-at3 (r .removals) q t (omega arith) k
 
   pub word-steps : (i : ℕ) → 288 ≤ i → i < 289 → r .steps ≡ getD (wordsOfRecord r) i 0
   unfolding rest

@@ -1,6 +1,6 @@
 -- The six words of an answer (question, place, outcome, steps made, penalty, count), and what each call leaves in its caller's memory.
 use Prim.Native.Nat.{ℕ}
-use mathlib.Core.Bool.{Bool, true, false}
+use mathlib.Core.Bool.{true, false}
 use mathlib.Core.List.{List, [], _∷_, _++_}
 use lib.ListN.{length, drop}
 use Rattle.ward.specs.declared.Answer.{Answer as WardAnswer}

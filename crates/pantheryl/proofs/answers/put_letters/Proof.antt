@@ -1,5 +1,5 @@
 -- `put_letters` meets its contract: with no letters the roster is as it was.
-use mathlib.Core.Path.{_≡_, sym}
+use mathlib.Core.Path.{_≡_}
 use native.Mathlib.Omega.{arith}
 use borrow.Author.Needs.{needs}
 use Rattle.pantheryl.proofs.answers.put_letters.Statement.{statement}

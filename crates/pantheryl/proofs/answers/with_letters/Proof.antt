@@ -1,6 +1,6 @@
 -- `with_letters` meets its contract.
-use Prim.Native.Nat.{_-_, _≤_}
-use mathlib.Core.Path.{_≡_, refl}
+use Prim.Native.Nat.{_-_}
+use mathlib.Core.Path.{refl}
 use Rattle.pantheryl.proofs.CopyLaws.{Copied, copied-start, copied-turn, copied-front}
 use borrow.Author.Needs.{needs}
 use Rattle.pantheryl.proofs.answers.with_letters.Statement.{statement}

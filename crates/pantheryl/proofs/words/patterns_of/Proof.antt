@@ -1,8 +1,7 @@
 -- `patterns_of` meets its contract.
-use Prim.Native.Nat.{_-_, _≤_}
-use mathlib.Core.Path.{_≡_, refl}
+use Prim.Native.Nat.{_-_}
 use native.Mathlib.Omega.{arith}
-use lib.ListN.{length, take}
+use lib.ListN.{take}
 use Rattle.pantheryl.proofs.CopyLaws.{Copied, copied-start, copied-turn, copied-end}
 use Rattle.pantheryl.proofs.WordLaws.{patterns-long, pattern-read}
 use borrow.Author.Needs.{needs}

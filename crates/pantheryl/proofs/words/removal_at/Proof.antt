@@ -1,9 +1,4 @@
 -- `removal_at` meets its contract.
-use mathlib.Core.Path.{_≡_, ap}
-use Prim.Native.Nat.{_+_, _*_}
-use mathlib.Core.Bool.{Bool}
-use lib.ListN.{getD}
-use Rattle.search.specs.declared.Removal.{Removal}
 use borrow.Author.Needs.{needs}
 use Rattle.pantheryl.proofs.words.removal_at.Statement.{statement}
 use Rattle.pantheryl.proofs.words.removal_at.Tie as tie

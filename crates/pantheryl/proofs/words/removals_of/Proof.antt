@@ -1,9 +1,7 @@
 -- `removals_of` meets its contract.
-use Prim.Native.Nat.{_-_, _≤_}
-use mathlib.Core.Path.{_≡_, refl}
+use Prim.Native.Nat.{_-_}
 use mathlib.Core.List.{map}
 use native.Mathlib.Omega.{arith}
-use lib.ListN.{length}
 use Rattle.numbers.specs.Range.{upFrom}
 use Rattle.pantheryl.specs.Words.{removalAt}
 use Rattle.pantheryl.proofs.CopyLaws.{Copied, copied-start, copied-turn, copied-end}

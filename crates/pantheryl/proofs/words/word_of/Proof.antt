@@ -1,5 +1,4 @@
 -- `word_of` meets its contract, by the part of the record that the word is in.
-use mathlib.Core.Path.{_≡_}
 use lib.ListN.{length-map}
 use Rattle.search.specs.Stored.{Sized}
 use Rattle.pantheryl.proofs.WordLaws.{word-pattern, word-flag, word-removal, word-steps}
