@@ -2,7 +2,7 @@
 
 use crate::penalty::{columns, OnDuty};
 use crate::rows::{day_bit, letters};
-use crate::ward::{parse, refusal, Bounds, Refusal, Ward};
+use crate::ward::{parse, refusal, Demand, Refusal, Ward};
 use crate::{days, nights};
 
 /// The days of a row with one letter, as a number.
@@ -29,18 +29,21 @@ fn row_follows(ward: &Ward, nurse: usize, row: &[u8]) -> bool {
         && letters(ward, nurse, night, day) == row
 }
 
-fn shift_holds(need: u64, bounds: &[Bounds], groups: &[u64], on: u64) -> bool {
+fn shift_holds(demand: &Demand, groups: &[u64], on: u64) -> bool {
     let members = |group: &u64| u64::from((on & group).count_ones());
-    u64::from(on.count_ones()) >= need
-        && bounds.iter().zip(groups).all(|(b, g)| b.low <= members(g) && members(g) <= b.high)
+    u64::from(on.count_ones()) >= demand.need
+        && demand
+            .bounds
+            .iter()
+            .zip(groups)
+            .all(|(b, g)| b.low <= members(g) && members(g) <= b.high)
 }
 
 /// "Every day's needs, lows and highs hold."
 fn day_holds(ward: &Ward, on_duty: &[OnDuty], day: usize) -> bool {
     let at = &ward.days[day - 1];
     let (nights, days) = columns(on_duty, day);
-    shift_holds(at.night_need, &at.night, &ward.groups, nights)
-        && shift_holds(at.day_need, &at.day, &ward.groups, days)
+    shift_holds(&at.night, &ward.groups, nights) && shift_holds(&at.day, &ward.groups, days)
 }
 
 /// Yes or no, on a ward already read.

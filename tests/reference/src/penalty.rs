@@ -2,7 +2,7 @@
 
 use crate::days::worked_unplaced;
 use crate::rows::{available_days, has_day, marked_days, start_days, states};
-use crate::ward::{Bounds, Ward, Weights};
+use crate::ward::{Bounds, Demand, Ward, Weights};
 
 /// Points of one search, by their cause.
 #[derive(Clone, Copy, Debug, Default, PartialEq, Eq)]
@@ -60,36 +60,17 @@ fn size(nurses: u64) -> u64 {
     u64::from(nurses.count_ones())
 }
 
-/// w for each nurse short, u for each member short of low.
-fn short_points(weights: Weights, need: u64, bounds: &[Bounds], groups: &[u64], on: u64) -> u64 {
-    let members_short: u64 =
-        bounds.iter().zip(groups).map(|(b, &group)| b.low.saturating_sub(size(on & group))).sum();
-    weights.w * need.saturating_sub(size(on)) + weights.u * members_short
-}
-
-/// v for each member above high.
-fn over_points(weights: Weights, bounds: &[Bounds], groups: &[u64], on: u64) -> u64 {
-    let members_over: u64 =
-        bounds.iter().zip(groups).map(|(b, &group)| size(on & group).saturating_sub(b.high)).sum();
-    weights.v * members_over
-}
-
-fn night_points(ward: &Ward, day: usize, nights: u64) -> Penalty {
-    let at = &ward.days[day - 1];
-    let weights = ward.night_weights;
+/// Points of one shift on one day: w for each nurse short of the need, u for each member short
+/// of low, v for each member above high.
+fn points(weights: Weights, groups: &[u64], demand: &Demand, on: u64) -> Penalty {
+    let of_groups = |part: &dyn Fn(&Bounds, u64) -> u64| -> u64 {
+        demand.bounds.iter().zip(groups).map(|(b, &group)| part(b, size(on & group))).sum()
+    };
+    let members_short = of_groups(&|b, members| b.low.saturating_sub(members));
+    let members_over = of_groups(&|b, members| members.saturating_sub(b.high));
     Penalty {
-        short: short_points(weights, at.night_need, &at.night, &ward.groups, nights),
-        over: over_points(weights, &at.night, &ward.groups, nights),
-        unplaced: 0,
-    }
-}
-
-fn day_points(ward: &Ward, day: usize, days: u64) -> Penalty {
-    let at = &ward.days[day - 1];
-    let weights = ward.day_weights;
-    Penalty {
-        short: short_points(weights, at.day_need, &at.day, &ward.groups, days),
-        over: over_points(weights, &at.day, &ward.groups, days),
+        short: weights.w * demand.need.saturating_sub(size(on)) + weights.u * members_short,
+        over: weights.v * members_over,
         unplaced: 0,
     }
 }
@@ -97,12 +78,13 @@ fn day_points(ward: &Ward, day: usize, days: u64) -> Penalty {
 /// Points of one day; the columns hold nurse i as bit i - 1.
 /// By night the day highs are ignored, by day the night terms are zero.
 pub fn points_of_day(ward: &Ward, search: Search, day: usize, nights: u64, days: u64) -> Penalty {
-    let mut points = day_points(ward, day, days);
+    let at = &ward.days[day - 1];
+    let mut sum = points(ward.day_weights, &ward.groups, &at.day, days);
     if search == Search::Night {
-        points.over = 0;
-        points.add(night_points(ward, day, nights));
+        sum.over = 0;
+        sum.add(points(ward.night_weights, &ward.groups, &at.night, nights));
     }
-    points
+    sum
 }
 
 /// The nurses on duty on one day, by night and by day.

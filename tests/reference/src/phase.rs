@@ -50,7 +50,8 @@ impl<'a> NightPhase<'a> {
             None => return refusal(9, 0),
             Some(list) => list,
         };
-        let lists = (0..ward.nurse_count).map(|nurse| nights::her_list(ward, nurse, &common)).collect();
+        let lists =
+            (0..ward.nurse_count).map(|nurse| nights::her_list(ward, nurse, &common)).collect();
         Ok(NightPhase { ward, common, lists })
     }
 }

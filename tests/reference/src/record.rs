@@ -181,7 +181,12 @@ fn make_steps(phase: &dyn Phase, record: &mut Record, k: u64) -> (End, u64) {
 }
 
 /// A night advance on a ward already read.
-pub fn advance_night_in(ward: &Ward, record: &Record, k: u64, places: usize) -> Result<Answer, Refusal> {
+pub fn advance_night_in(
+    ward: &Ward,
+    record: &Record,
+    k: u64,
+    places: usize,
+) -> Result<Answer, Refusal> {
     ask_steps(u64::from(record.steps), k)?;
     advance(&NightPhase::open(ward, places)?, record, k)
 }
@@ -199,7 +204,12 @@ pub fn advance_day_in(
 }
 
 /// A night advance: the ward as file bytes, questions 1 to 5 first.
-pub fn advance_night(file: &[u8], record: &Record, k: u64, places: usize) -> Result<Answer, Refusal> {
+pub fn advance_night(
+    file: &[u8],
+    record: &Record,
+    k: u64,
+    places: usize,
+) -> Result<Answer, Refusal> {
     advance_night_in(&parse(file)?, record, k, places)
 }
 

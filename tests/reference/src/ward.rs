@@ -47,12 +47,18 @@ pub struct Bounds {
     pub high: u64,
 }
 
+/// What one day wants of one shift.
+#[derive(Clone, Debug, PartialEq, Eq)]
+pub struct Demand {
+    pub need: u64,
+    /// of each group
+    pub bounds: Vec<Bounds>,
+}
+
 #[derive(Clone, Debug, PartialEq, Eq)]
 pub struct Day {
-    pub night_need: u64,
-    pub day_need: u64,
-    pub night: Vec<Bounds>,
-    pub day: Vec<Bounds>,
+    pub night: Demand,
+    pub day: Demand,
 }
 
 #[derive(Clone, Debug, PartialEq, Eq)]
@@ -285,11 +291,11 @@ fn nurse(part: &[u64]) -> Nurse {
 }
 
 fn day(part: &[u64]) -> Day {
-    let groups = &part[2..];
-    Day {
-        night_need: part[0],
-        day_need: part[1],
-        night: groups.chunks(4).map(|g| Bounds { low: g[0], high: g[1] }).collect(),
-        day: groups.chunks(4).map(|g| Bounds { low: g[2], high: g[3] }).collect(),
-    }
+    Day { night: demand(part[0], &part[2..], 0), day: demand(part[1], &part[2..], 2) }
+}
+
+/// Of each group's four bounds the two that begin at `first`.
+fn demand(need: u64, groups: &[u64], first: usize) -> Demand {
+    let bounds = |g: &[u64]| Bounds { low: g[first], high: g[first + 1] };
+    Demand { need, bounds: groups.chunks(4).map(bounds).collect() }
 }

@@ -31,7 +31,9 @@ fn every_roster_of_the_worked_ward() {
             for &x in day.list(0) {
                 for &y in day.list(1) {
                     if penalty::day(&ward, &[a, b], &[Some(x), Some(y)]).total() == 0 {
-                        made.push([rows::letters(&ward, 0, a, x), rows::letters(&ward, 1, b, y)].concat());
+                        made.push(
+                            [rows::letters(&ward, 0, a, x), rows::letters(&ward, 1, b, y)].concat(),
+                        );
                     }
                 }
             }
