@@ -164,6 +164,29 @@ pub fn count(ward: &Ward, nurse: usize, night: u32) -> u64 {
     Walk::new(ward, nurse, night).ways(&mut before, 0)
 }
 
+/// The pattern at an index below the count, in the order of the walk, without the list.
+pub fn nth(ward: &Ward, nurse: usize, night: u32, index: u64) -> u32 {
+    let mut walk = Walk::new(ward, nurse, night);
+    let mut all = duties_before(&ward.nurses[nurse]);
+    let (mut rests, mut left, mut pattern) = (0, index, 0);
+    for day in 1..=ward.day_count {
+        for worked in walk.choices(day) {
+            let today = walk.duty_on(day, worked);
+            let rests_then = rests + u64::from(today == Duty::Rest);
+            all.push(today);
+            let ways = if window_kept(ward, &all) { walk.ways(&mut all, rests_then) } else { 0 };
+            if left < ways {
+                rests = rests_then;
+                pattern |= if worked { day_bit(day) } else { 0 };
+                break;
+            }
+            left -= ways;
+            all.pop();
+        }
+    }
+    pattern
+}
+
 /// Her list by depth-first generation, sorted.
 pub fn list_by_walk(ward: &Ward, nurse: usize, night: u32) -> Vec<u32> {
     let mut list = Vec::new();

@@ -10,6 +10,7 @@ pub mod phase;
 pub mod program;
 pub mod record;
 pub mod rows;
+pub mod samples;
 pub mod tally;
 pub mod ward;
 

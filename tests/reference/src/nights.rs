@@ -4,7 +4,7 @@ use crate::rows::{day_bit, has_day, mark_allows, states};
 use crate::ward::Ward;
 
 /// Months this short are listed by filter over all numbers below 2^n.
-pub const FILTER_DAYS: usize = 20;
+pub const FILTER_DAYS: usize = 12;
 
 /// Start days of the month in order.
 fn month_starts(ward: &Ward, pattern: u32) -> Vec<i64> {

@@ -57,7 +57,7 @@ impl Record {
     }
 
     /// The pattern in use by her and those that she gave up.
-    fn barred(&self, nurse: usize) -> Vec<u32> {
+    pub fn barred(&self, nurse: usize) -> Vec<u32> {
         let hers = |r: &&Removal| r.given_up && r.nurse as usize == nurse + 1;
         let given_up = self.removals.iter().filter(hers).map(|r| r.pattern);
         self.in_use(nurse).into_iter().chain(given_up).collect()
@@ -143,12 +143,29 @@ fn removal_good(phase: &dyn Phase, removal: &Removal) -> bool {
     }
 }
 
-/// Questions 10 and 11, then steps until zero, asked or none.
+/// Which exchange comes next, none where there is none.
+pub type Choice<'a> = dyn Fn(&Record) -> Option<Exchange> + 'a;
+
 fn advance(phase: &dyn Phase, record: &Record, k: u64) -> Result<Answer, Refusal> {
+    let duties = duties_of(phase);
+    let least = |record: &Record| {
+        let in_use = record.all_in_use(phase.ward());
+        least_exchange(phase, &duties, &in_use, &|nurse| record.barred(nurse))
+    };
+    advance_by(phase, record, k, &least)
+}
+
+/// Questions 10 and 11, then steps until zero, asked or none, each as chosen.
+pub fn advance_by(
+    phase: &dyn Phase,
+    record: &Record,
+    k: u64,
+    choice: &Choice,
+) -> Result<Answer, Refusal> {
     ask_patterns(phase)?;
     ask_record(phase, record)?;
     let mut record = record.clone();
-    let (end, made) = make_steps(phase, &mut record, k);
+    let (end, made) = make_steps(phase, &mut record, k, choice);
     let in_use = record.all_in_use(phase.ward());
     Ok(Answer {
         end,
@@ -160,9 +177,8 @@ fn advance(phase: &dyn Phase, record: &Record, k: u64) -> Result<Answer, Refusal
     })
 }
 
-fn make_steps(phase: &dyn Phase, record: &mut Record, k: u64) -> (End, u64) {
+fn make_steps(phase: &dyn Phase, record: &mut Record, k: u64, choice: &Choice) -> (End, u64) {
     let ward = phase.ward();
-    let duties = duties_of(phase);
     let mut made = 0;
     loop {
         let in_use = record.all_in_use(ward);
@@ -172,7 +188,7 @@ fn make_steps(phase: &dyn Phase, record: &mut Record, k: u64) -> (End, u64) {
         if made == k {
             return (End::Asked, made);
         }
-        match least_exchange(phase, &duties, &in_use, &|nurse| record.barred(nurse)) {
+        match choice(record) {
             None => return (End::None, made),
             Some(exchange) => record.exchange(ward.tabu_length, exchange),
         }

@@ -1,9 +1,9 @@
 //! The roster check: the worked roster, its spoilings, and rosters given out.
 
-use super::samples::*;
 use crate::check::{check, check_in};
 use crate::phase::{DayPhase, End, NightPhase, Phase};
 use crate::record::{advance_day, advance_day_in, advance_night, advance_night_in, fresh};
+use crate::samples::*;
 use crate::{penalty, rows};
 
 #[test]

@@ -1,8 +1,8 @@
 //! Day patterns: the rules one by one, filter against walk.
 
-use super::samples::*;
 use crate::days::*;
 use crate::nights;
+use crate::samples::*;
 use crate::ward::parse;
 
 fn day_ward(days: u64) -> One {
@@ -92,6 +92,10 @@ fn filter_and_walk_agree() {
                 let list = list_by_filter(&ward, nurse, night);
                 assert_eq!(list, list_by_walk(&ward, nurse, night));
                 assert_eq!(list.len() as u64, count(&ward, nurse, night));
+                let all = 0..list.len() as u64;
+                let mut each: Vec<u32> = all.map(|at| nth(&ward, nurse, night, at)).collect();
+                each.sort_unstable();
+                assert_eq!(list, each);
                 seen += list.len();
             }
         }

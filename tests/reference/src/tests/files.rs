@@ -1,6 +1,6 @@
 //! Ward file: bytes, reader, writer, round trip.
 
-use super::samples::*;
+use crate::samples::*;
 use crate::ward::{decode, encode, padded, parse, write};
 
 #[test]

@@ -6,5 +6,4 @@ mod files;
 mod night_lists;
 mod programs;
 mod questions;
-mod samples;
 mod searches;

@@ -1,8 +1,8 @@
 //! Night patterns: the counts and cases of document 01, filter against recursion.
 
-use super::samples::*;
 use crate::nights::*;
 use crate::rows::{letters, states, State};
+use crate::samples::*;
 
 fn starts(days: &[usize]) -> u32 {
     days.iter().map(|day| 1 << (day - 1)).sum()

@@ -1,9 +1,9 @@
 //! The roster program on the ward files. The large one is run in release only.
 
-use super::samples::*;
 use crate::phase::End;
 use crate::program::run;
 use crate::record::{advance_night, fresh};
+use crate::samples::*;
 
 #[test]
 fn worked_out() {

@@ -1,9 +1,9 @@
 //! Every question at least once, with its place, and their order.
 
-use super::samples::*;
 use crate::check::check;
 use crate::history::{self, Call, History};
 use crate::record::{advance_day, advance_night, fresh, Answer, Record, Removal};
+use crate::samples::*;
 use crate::ward::{padded, parse, write, Refusal};
 
 fn no(question: u32, place: u64) -> Refusal {

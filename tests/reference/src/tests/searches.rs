@@ -1,10 +1,10 @@
 //! Penalties, steps, and the record against the history.
 
-use super::samples::*;
 use crate::history::{self, Call, History};
 use crate::penalty::{self, Penalty};
 use crate::phase::{DayPhase, End, NightPhase, Phase};
 use crate::record::{self, fresh, record_of, Record};
+use crate::samples::*;
 use crate::tally::{duties_of, least_exchange};
 use crate::ward::Ward;
 

@@ -2,11 +2,11 @@
 
 use crate::ward::{encode, parse, Ward};
 
-pub const WORKED: &[u8] = include_bytes!("../../wards/worked.ward");
-pub const STUCK: &[u8] = include_bytes!("../../wards/stuck.ward");
-pub const SURGICAL: &[u8] = include_bytes!("../../wards/surgical.ward");
-pub const DEAD_ENDS: &[u8] = include_bytes!("../../wards/dead-ends.ward");
-pub const LARGE: &[u8] = include_bytes!("../../wards/large.ward");
+pub const WORKED: &[u8] = include_bytes!("../wards/worked.ward");
+pub const STUCK: &[u8] = include_bytes!("../wards/stuck.ward");
+pub const SURGICAL: &[u8] = include_bytes!("../wards/surgical.ward");
+pub const DEAD_ENDS: &[u8] = include_bytes!("../wards/dead-ends.ward");
+pub const LARGE: &[u8] = include_bytes!("../wards/large.ward");
 
 /// The numbers of "A ward worked through".
 pub const WORKED_NUMBERS: [u64; 50] = [
@@ -84,13 +84,22 @@ impl Dice {
         least + self.upto(most - least)
     }
 
-    fn one_in(&mut self, chances: u64) -> bool {
+    pub fn one_in(&mut self, chances: u64) -> bool {
         self.upto(chances - 1) == 0
+    }
+
+    /// An index of a list with this many places.
+    pub fn index(&mut self, length: usize) -> usize {
+        self.upto(length as u64 - 1) as usize
+    }
+
+    pub fn pick<T: Copy>(&mut self, choices: &[T]) -> T {
+        choices[self.index(choices.len())]
     }
 }
 
-fn random_before(dice: &mut Dice) -> Vec<u64> {
-    let mut before = vec![if dice.one_in(6) { 3 } else { 0 }];
+pub fn random_before(dice: &mut Dice) -> Vec<u64> {
+    let mut before = if dice.one_in(6) { vec![3] } else { vec![] };
     while before.len() < 7 {
         before.push(if dice.one_in(4) { 2 } else { [0, 1, 1, 4][dice.upto(3) as usize] });
         if before[before.len() - 1] == 2 {
