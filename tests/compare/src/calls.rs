@@ -1,0 +1,65 @@
+//! The five calls of the C interface, as safe Rust.
+
+/// Most numbers of a ward.
+pub const NUMBERS: usize = 4094;
+/// Words of a record: patterns, placed flags, removals of three words, steps.
+pub const RECORD: usize = 289;
+pub const NURSES: usize = 48;
+/// Most letters of a roster.
+pub const ROSTER: usize = 1488;
+
+pub type Numbers = [u64; NUMBERS];
+pub type Words = [u32; RECORD];
+pub type Nights = [u32; NURSES];
+pub type Letters = [u8; ROSTER];
+/// Question, place, outcome, steps made, penalty, count.
+pub type Answer = [u64; 6];
+
+pub const QUESTION: usize = 0;
+pub const PLACE: usize = 1;
+pub const OUTCOME: usize = 2;
+pub const STEPS: usize = 3;
+pub const PENALTY: usize = 4;
+pub const COUNT: usize = 5;
+
+/// Outcomes of an advance.
+pub const ZERO: u64 = 1;
+pub const ASKED: u64 = 2;
+pub const NONE: u64 = 3;
+/// Outcomes of the check.
+pub const YES: u64 = 1;
+pub const NO: u64 = 2;
+
+pub trait Calls: Sync {
+    /// Whether the day advance can be called.
+    fn has_days(&self) -> bool {
+        true
+    }
+
+    fn read(&self, file: &[u8], numbers: &mut Numbers, answer: &mut Answer);
+
+    fn write(&self, numbers: &Numbers, count: u64, buffer: &mut [u8], answer: &mut Answer);
+
+    fn advance_nights(
+        &self,
+        file: &[u8],
+        record: &mut Words,
+        k: u32,
+        buffer: &mut [u32],
+        answer: &mut Answer,
+    );
+
+    #[allow(clippy::too_many_arguments)] // as many as the C function has
+    fn advance_days(
+        &self,
+        file: &[u8],
+        nights: &Nights,
+        record: &mut Words,
+        k: u32,
+        buffer: &mut [u32],
+        roster: &mut Letters,
+        answer: &mut Answer,
+    );
+
+    fn check(&self, file: &[u8], roster: &[u8], answer: &mut Answer);
+}

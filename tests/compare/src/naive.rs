@@ -1,0 +1,122 @@
+//! The naive reference behind the signatures of the C interface.
+
+use crate::calls::*;
+use crate::words::{record_of_words, words_of_record};
+use reference::check::check_in;
+use reference::phase::End;
+use reference::record::{self, advance_day_in, advance_night_in, Record};
+use reference::ward::{padded, parse, write, Refusal, Ward};
+
+/// What an advance on a record is asked to do by night and by day, the ward being read.
+pub type Advanced = Result<record::Answer, Refusal>;
+
+pub struct Reference;
+
+pub fn refused(no: Refusal) -> Answer {
+    [u64::from(no.question), no.place, 0, 0, 0, 0]
+}
+
+/// What a search hands back; a refusal writes the answer only.
+pub fn hand_back(
+    advanced: Advanced,
+    record: &mut Words,
+    buffer: &mut [u32],
+    roster: Option<&mut Letters>,
+    answer: &mut Answer,
+) {
+    let done = match advanced {
+        Err(no) => {
+            *answer = refused(no);
+            return;
+        }
+        Ok(done) => done,
+    };
+    *record = words_of_record(&done.record);
+    buffer[..done.buffer.len()].copy_from_slice(&done.buffer);
+    let letters = done.roster.unwrap_or_default();
+    if let Some(roster) = roster {
+        roster[..letters.len()].copy_from_slice(&letters);
+    }
+    let outcome = match done.end {
+        End::Zero => ZERO,
+        End::Asked => ASKED,
+        End::None => NONE,
+    };
+    *answer = [0, 0, outcome, done.made, done.penalty, letters.len() as u64];
+}
+
+/// The reading of a file, as the C interface gives it.
+pub fn give_reading(read: Result<Ward, Refusal>, numbers: &mut Numbers, answer: &mut Answer) {
+    match read {
+        Err(no) => *answer = refused(no),
+        Ok(ward) => {
+            let (all, count) = padded(&ward);
+            numbers.copy_from_slice(&all);
+            *answer = [0, 0, 0, 0, 0, count];
+        }
+    }
+}
+
+pub fn give_check(checked: Result<bool, Refusal>) -> Answer {
+    match checked {
+        Err(no) => refused(no),
+        Ok(yes) => [0, 0, if yes { YES } else { NO }, 0, 0, 0],
+    }
+}
+
+/// A night advance on the words of a record.
+pub fn nights(ward: &Ward, words: &Words, k: u32, places: usize) -> Advanced {
+    advance_night_in(ward, &record_of_words(words), u64::from(k), places)
+}
+
+/// A day advance on the words of a record.
+pub fn days(ward: &Ward, nights: &Nights, words: &Words, k: u32, places: usize) -> Advanced {
+    let record: Record = record_of_words(words);
+    advance_day_in(ward, nights, &record, u64::from(k), places)
+}
+
+impl Calls for Reference {
+    fn read(&self, file: &[u8], numbers: &mut Numbers, answer: &mut Answer) {
+        give_reading(parse(file), numbers, answer);
+    }
+
+    fn write(&self, numbers: &Numbers, count: u64, buffer: &mut [u8], answer: &mut Answer) {
+        match write(numbers, count, buffer.len()) {
+            Err(no) => *answer = refused(no),
+            Ok(bytes) => {
+                buffer[..bytes.len()].copy_from_slice(&bytes);
+                *answer = [0, 0, 0, 0, 0, bytes.len() as u64];
+            }
+        }
+    }
+
+    fn advance_nights(
+        &self,
+        file: &[u8],
+        record: &mut Words,
+        k: u32,
+        buffer: &mut [u32],
+        answer: &mut Answer,
+    ) {
+        let advanced = parse(file).and_then(|ward| nights(&ward, record, k, buffer.len()));
+        hand_back(advanced, record, buffer, None, answer);
+    }
+
+    fn advance_days(
+        &self,
+        file: &[u8],
+        nights: &Nights,
+        record: &mut Words,
+        k: u32,
+        buffer: &mut [u32],
+        roster: &mut Letters,
+        answer: &mut Answer,
+    ) {
+        let advanced = parse(file).and_then(|ward| days(&ward, nights, record, k, buffer.len()));
+        hand_back(advanced, record, buffer, Some(roster), answer);
+    }
+
+    fn check(&self, file: &[u8], roster: &[u8], answer: &mut Answer) {
+        *answer = give_check(parse(file).and_then(|ward| check_in(&ward, roster)));
+    }
+}

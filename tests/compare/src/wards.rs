@@ -1,0 +1,305 @@
+//! Random wards. Each is made around a planned roster, so that most have patterns for everyone
+//! and a roster at penalty zero; some are then spoiled.
+
+use reference::rows::{day_bit, duties, has_day, states, Duty, State};
+use reference::samples::{file_of, random_before, ward_of, Dice};
+use reference::ward::Ward;
+use reference::{days, nights};
+
+/// Where a nurse's numbers stand: seven duties, bounds of nights and of rests, marks.
+const NIGHT_BOUNDS: usize = 7;
+const REST_BOUNDS: usize = 9;
+const MARKS: usize = 11;
+
+/// From least to most.
+type Span = (u64, u64);
+
+/// What is drawn for a ward before anything is planned.
+#[derive(Clone, Copy)]
+pub struct Size {
+    pub nurses: Span,
+    pub days: Span,
+    pub groups: Span,
+    /// V, L and each gap
+    pub most_nights: Span,
+    pub run: Span,
+    pub gap: Span,
+    pub tabu: Span,
+    /// one day in so many keeps mark 0 where the plan would allow another
+    pub free: u64,
+}
+
+pub const TINY: Size = Size {
+    nurses: (1, 3),
+    days: (1, 5),
+    groups: (0, 2),
+    most_nights: (0, 3),
+    run: (1, 3),
+    gap: (1, 3),
+    tabu: (0, 4),
+    free: 2,
+};
+pub const SMALL: Size = Size {
+    nurses: (2, 6),
+    days: (4, 10),
+    groups: (0, 3),
+    most_nights: (1, 5),
+    tabu: (0, 12),
+    ..TINY
+};
+/// Every field within its whole range, but for the month's length.
+pub const WIDE: Size = Size {
+    nurses: (1, 6),
+    days: (1, 10),
+    groups: (0, 16),
+    most_nights: (0, 15),
+    run: (1, 3),
+    gap: (1, 5),
+    tabu: (0, 64),
+    free: 3,
+};
+pub const MIDDLE: Size = Size {
+    nurses: (4, 14),
+    days: (9, 16),
+    groups: (0, 5),
+    most_nights: (1, 5),
+    gap: (1, 4),
+    tabu: (0, 20),
+    free: 3,
+    ..TINY
+};
+pub const MONTH: Size = Size {
+    nurses: (10, 28),
+    days: (28, 31),
+    groups: (0, 6),
+    most_nights: (2, 5),
+    run: (1, 1),
+    gap: (3, 5),
+    tabu: (0, 40),
+    free: 9,
+};
+pub const FULL: Size = Size {
+    nurses: (48, 48),
+    days: (31, 31),
+    groups: (16, 16),
+    most_nights: (2, 4),
+    tabu: (64, 64),
+    ..MONTH
+};
+
+/// The numbers of a ward by their parts.
+#[derive(Clone)]
+pub struct Draft {
+    head: Vec<u64>,
+    nurses: Vec<Vec<u64>>,
+    groups: Vec<u64>,
+    days: Vec<Vec<u64>>,
+}
+
+impl Draft {
+    pub fn numbers(&self) -> Vec<u64> {
+        [self.head.clone(), self.nurses.concat(), self.groups.clone(), self.days.concat()].concat()
+    }
+
+    fn ward(&self) -> Ward {
+        ward_of(&self.numbers())
+    }
+}
+
+/// A ward with the patterns that it was made around.
+#[derive(Clone)]
+pub struct Planned {
+    pub file: Vec<u8>,
+    pub ward: Ward,
+    pub nights: Vec<u32>,
+    /// none where some nurse has no day pattern over those nights
+    pub days: Option<Vec<u32>>,
+}
+
+/// A ward around a plan.
+pub fn planned(dice: &mut Dice, size: &Size) -> Planned {
+    let mut draft = unbound(dice, size);
+    let open = draft.ward();
+    let nights: Vec<u32> = (0..open.nurse_count).map(|i| plan_nights(dice, &open, i)).collect();
+    for nurse in 0..open.nurse_count {
+        mark_days_off(dice, size, &open, &mut draft, nurse, nights[nurse]);
+    }
+    let open = draft.ward();
+    let days: Option<Vec<u32>> =
+        (0..open.nurse_count).map(|i| plan_days(dice, &open, i, nights[i])).collect();
+    let worked = days.clone().unwrap_or(vec![0; open.nurse_count]);
+    for nurse in 0..open.nurse_count {
+        bind_nurse(dice, size, &open, &mut draft, nurse, (nights[nurse], worked[nurse]));
+    }
+    bind_days(dice, &open, &mut draft, &nights, &worked);
+    finish(draft, nights, days)
+}
+
+/// The same with one thing spoiled, so that someone may have no pattern or zero be out of reach.
+pub fn spoiled(dice: &mut Dice, size: &Size) -> Planned {
+    let planned = planned(dice, size);
+    let mut draft = draft_of(&planned.ward);
+    let nurse = dice.index(draft.nurses.len());
+    let her = &mut draft.nurses[nurse];
+    let n = her.len() - MARKS;
+    match dice.upto(5) {
+        0 => her[MARKS + dice.index(n)] = dice.upto(6),
+        1 => her[NIGHT_BOUNDS..REST_BOUNDS].fill(dice.upto(15)),
+        2 => her[REST_BOUNDS..MARKS].fill(dice.upto(n as u64)),
+        3 => her[..7].copy_from_slice(&random_before(dice)),
+        4 => two_starts_together(dice, her),
+        _ => {
+            let day = dice.index(draft.days.len());
+            let shift = dice.index(2);
+            draft.days[day][shift] += dice.from(1, 2);
+        }
+    }
+    draft.days.iter_mut().flatten().for_each(|number| *number = (*number).min(48));
+    finish(draft, planned.nights, planned.days)
+}
+
+/// Marks 3 on two days next to each other: no pattern allows them.
+fn two_starts_together(dice: &mut Dice, her: &mut [u64]) {
+    let n = her.len() - MARKS;
+    let first = dice.index(n);
+    her[MARKS + first] = 3;
+    her[MARKS + (first + 1).min(n - 1)] = 3;
+}
+
+fn finish(draft: Draft, nights: Vec<u32>, days: Option<Vec<u32>>) -> Planned {
+    let numbers = draft.numbers();
+    Planned { file: file_of(&numbers), ward: ward_of(&numbers), nights, days }
+}
+
+/// The parts of a ward already read.
+pub fn draft_of(ward: &Ward) -> Draft {
+    let numbers = &ward.numbers;
+    let (per_nurse, per_day) = (MARKS + ward.day_count, 2 + 4 * ward.group_count);
+    let groups = 16 + ward.nurse_count * per_nurse;
+    let days = groups + ward.group_count;
+    Draft {
+        head: numbers[..16].to_vec(),
+        nurses: numbers[16..groups].chunks(per_nurse).map(<[u64]>::to_vec).collect(),
+        groups: numbers[groups..days].to_vec(),
+        days: numbers[days..].chunks(per_day).map(<[u64]>::to_vec).collect(),
+    }
+}
+
+fn draw(dice: &mut Dice, span: Span) -> u64 {
+    dice.from(span.0, span.1)
+}
+
+/// Head and groups drawn, last month's duties too; no marks, no bounds, no needs.
+fn unbound(dice: &mut Dice, size: &Size) -> Draft {
+    let (m, n, r) = (draw(dice, size.nurses), draw(dice, size.days), draw(dice, size.groups));
+    let mut head = vec![m, n, r, draw(dice, size.most_nights), draw(dice, size.run)];
+    head.extend([draw(dice, size.gap), draw(dice, size.gap), draw(dice, size.gap)]);
+    head.extend([draw(dice, size.tabu), dice.from(1, 6)]);
+    let heaviest = dice.pick(&[1, 5, 100]);
+    head.extend((0..6).map(|_| dice.from(1, heaviest)));
+    let nurse = |dice: &mut Dice| {
+        let before = if dice.one_in(3) { vec![0; 7] } else { random_before(dice) };
+        [before, vec![0, 15, 0, 31], vec![0; n as usize]].concat()
+    };
+    let mut any_day = vec![0, 0];
+    any_day.extend([0, 48, 0, 48].repeat(r as usize));
+    Draft {
+        head,
+        nurses: (0..m).map(|_| nurse(dice)).collect(),
+        groups: (0..r).map(|_| dice.from(1, (1 << m) - 1)).collect(),
+        days: vec![any_day; n as usize],
+    }
+}
+
+/// Starts put in from day 1 on wherever they keep the rule.
+fn plan_nights(dice: &mut Dice, ward: &Ward, nurse: usize) -> u32 {
+    let rarely = dice.from(1, 4);
+    let mut pattern = 0;
+    for day in 1..=ward.day_count {
+        let longer = pattern | day_bit(day);
+        if dice.one_in(rarely) && nights::hers(ward, nurse, longer) {
+            pattern = longer;
+        }
+    }
+    pattern
+}
+
+/// Any of her day patterns, each as likely.
+fn plan_days(dice: &mut Dice, ward: &Ward, nurse: usize, night: u32) -> Option<u32> {
+    let count = days::count(ward, nurse, night);
+    (count > 0).then(|| days::nth(ward, nurse, night, dice.upto(count - 1)))
+}
+
+/// Some open days get a mark under which she is not available.
+fn mark_days_off(
+    dice: &mut Dice,
+    size: &Size,
+    ward: &Ward,
+    draft: &mut Draft,
+    nurse: usize,
+    night: u32,
+) {
+    for (at, state) in states(ward, nurse, night).into_iter().enumerate() {
+        if state == State::Open && dice.one_in(6) && !dice.one_in(size.free) {
+            draft.nurses[nurse][MARKS + at] = dice.pick(&[1, 4, 6]);
+        }
+    }
+}
+
+/// Marks and bounds that her planned row keeps.
+fn bind_nurse(
+    dice: &mut Dice,
+    size: &Size,
+    ward: &Ward,
+    draft: &mut Draft,
+    nurse: usize,
+    (night, worked): (u32, u32),
+) {
+    let her = &mut draft.nurses[nurse];
+    for (at, state) in states(ward, nurse, night).into_iter().enumerate() {
+        if her[MARKS + at] == 0 && !dice.one_in(size.free) {
+            her[MARKS + at] = fitting_mark(dice, state, has_day(worked, at + 1));
+        }
+    }
+    let rests = duties(ward, nurse, night, worked).into_iter().filter(|&d| d == Duty::Rest).count();
+    her[NIGHT_BOUNDS..REST_BOUNDS].copy_from_slice(&around(dice, night.count_ones().into(), 15));
+    her[REST_BOUNDS..MARKS].copy_from_slice(&around(dice, rests as u64, 31));
+}
+
+/// A mark that allows the state and leaves the day as it is planned.
+fn fitting_mark(dice: &mut Dice, state: State, worked: bool) -> u64 {
+    match state {
+        State::Start => dice.pick(&[0, 3, 6]),
+        State::Second => dice.pick(&[0, 5, 6]),
+        State::OwedRest => dice.pick(&[0, 1, 5, 6]),
+        State::Open if worked => dice.pick(&[0, 2, 5]),
+        State::Open => dice.pick(&[0, 1, 5, 6]),
+    }
+}
+
+/// A least and a most, with the number between them.
+fn around(dice: &mut Dice, number: u64, limit: u64) -> [u64; 2] {
+    let slack = dice.upto(3);
+    [number.saturating_sub(dice.upto(slack)), (number + dice.upto(slack)).min(limit)]
+}
+
+/// Needs, lows and highs that the plan keeps, some of them exactly.
+fn bind_days(dice: &mut Dice, ward: &Ward, draft: &mut Draft, nights: &[u32], worked: &[u32]) {
+    let loose = dice.upto(3);
+    let on = |patterns: &[u32], day: usize, group: u64| -> u64 {
+        let member = |&i: &usize| group >> i & 1 == 1 && has_day(patterns[i], day);
+        (0..ward.nurse_count).filter(member).count() as u64
+    };
+    for (at, day) in draft.days.iter_mut().enumerate() {
+        for (shift, patterns) in [nights, worked].into_iter().enumerate() {
+            let everyone = on(patterns, at + 1, u64::MAX);
+            day[shift] = everyone.saturating_sub(dice.upto(loose));
+            for (g, &group) in draft.groups.iter().enumerate() {
+                let members = on(patterns, at + 1, group);
+                let bounds = &mut day[2 + 4 * g + 2 * shift..][..2];
+                bounds[0] = members.saturating_sub(dice.upto(loose));
+                bounds[1] = (members + dice.upto(2 * loose)).min(48);
+            }
+        }
+    }
+}
