@@ -4,6 +4,7 @@ pub mod by_history;
 pub mod calls;
 pub mod case;
 pub mod files;
+pub mod hostile;
 #[cfg(library)]
 mod library;
 pub mod naive;

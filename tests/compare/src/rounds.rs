@@ -15,9 +15,9 @@ pub const FRESH: Words = [0; RECORD];
 /// Longer lists are not built, only refused.
 const LONGEST: usize = 60_000;
 
-/// Most wards keep to their plan, every third is spoiled.
+/// Half of the wards keep to their plan.
 fn any_ward(dice: &mut Dice, size: &Size) -> Planned {
-    if dice.one_in(3) {
+    if dice.one_in(2) {
         spoiled(dice, size)
     } else {
         planned(dice, size)

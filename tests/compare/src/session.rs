@@ -7,13 +7,8 @@ use std::io::Write;
 
 pub type Round = fn(&mut Trial, &mut Dice, &Size);
 
-/// So many rounds of one kind on wards of one size.
-pub struct Stint {
-    pub name: &'static str,
-    pub round: Round,
-    pub size: &'static Size,
-    pub rounds: u64,
-}
+/// A call, some of its answers, and how often each must come up.
+pub type Least<'a> = (&'static str, &'a [&'a str], u64);
 
 /// A number from the environment.
 fn setting(name: &str, otherwise: u64) -> u64 {
@@ -30,35 +25,35 @@ fn seed() -> u64 {
     setting("COMPARE_SEED", 1)
 }
 
-/// Neighbouring seeds give unlike numbers (Steele, Lea and Flood's mixer).
-fn dice(seed: u64, stint: u64, round: u64) -> Dice {
-    let mut z = seed.wrapping_mul(0x9e37_79b9_7f4a_7c15) ^ (stint << 40) ^ round;
+/// Neighbouring seeds and rounds give unlike numbers (Steele, Lea and Flood's mixer).
+fn dice(seed: u64, round: u64) -> Dice {
+    let mut z = seed.wrapping_mul(0x9e37_79b9_7f4a_7c15) ^ round;
     z = (z ^ (z >> 30)).wrapping_mul(0xbf58_476d_1ce4_e5b9);
     z = (z ^ (z >> 27)).wrapping_mul(0x94d0_49bb_1331_11eb);
     Dice((z ^ (z >> 31)).max(1))
 }
 
-/// All rounds in turn, until enough differences are found.
-pub fn run(trial: &mut Trial, stints: &[Stint]) {
-    for (number, stint) in stints.iter().enumerate() {
-        for round in 0..stint.rounds * longer() {
-            trial.at = format!("COMPARE_SEED={}, {}, round {round}", seed(), stint.name);
-            (stint.round)(trial, &mut dice(seed(), number as u64, round), stint.size);
-            if trial.enough() {
-                return;
-            }
+/// So many rounds on wards of one size, or until enough differences are found.
+pub fn run(trial: &mut Trial, name: &str, round: Round, size: &Size, rounds: u64) {
+    for number in 0..rounds * longer() {
+        if trial.enough() {
+            return;
         }
+        trial.at = format!("{name}, seed {}, {} ward {number}", seed(), size.name);
+        round(trial, &mut dice(seed(), number), size);
     }
 }
 
 /// Prints the table, past the test's captured output, then says whether all agreed and whether
 /// every answer named came up often enough.
-pub fn conclude(name: &str, trial: &Trial, least: &[(&'static str, &str, u64)]) {
+pub fn conclude(name: &str, trial: &Trial, least: &[Least]) {
     let text = format!("\n## {name}\n\n{}", trial.table());
     let _ = std::io::stdout().write_all(text.as_bytes());
     assert!(trial.differences.is_empty(), "{}", trial.differences.join("\n\n"));
-    for &(call, answer, times) in least {
-        let came = trial.answered(call, answer);
-        assert!(came >= times, "{call} was answered '{answer}' only {came} times");
+    for &(call, answers, times) in least {
+        for answer in answers {
+            let came = trial.answered(call, answer);
+            assert!(came >= times, "{call} was answered '{answer}' only {came} times");
+        }
     }
 }

@@ -17,6 +17,7 @@ type Span = (u64, u64);
 /// What is drawn for a ward before anything is planned.
 #[derive(Clone, Copy)]
 pub struct Size {
+    pub name: &'static str,
     pub nurses: Span,
     pub days: Span,
     pub groups: Span,
@@ -30,6 +31,7 @@ pub struct Size {
 }
 
 pub const TINY: Size = Size {
+    name: "tiny",
     nurses: (1, 3),
     days: (1, 5),
     groups: (0, 2),
@@ -40,6 +42,7 @@ pub const TINY: Size = Size {
     free: 2,
 };
 pub const SMALL: Size = Size {
+    name: "small",
     nurses: (2, 6),
     days: (4, 10),
     groups: (0, 3),
@@ -49,6 +52,7 @@ pub const SMALL: Size = Size {
 };
 /// Every field within its whole range, but for the month's length.
 pub const WIDE: Size = Size {
+    name: "wide",
     nurses: (1, 6),
     days: (1, 10),
     groups: (0, 16),
@@ -59,6 +63,7 @@ pub const WIDE: Size = Size {
     free: 3,
 };
 pub const MIDDLE: Size = Size {
+    name: "middle",
     nurses: (4, 14),
     days: (9, 16),
     groups: (0, 5),
@@ -69,6 +74,7 @@ pub const MIDDLE: Size = Size {
     ..TINY
 };
 pub const MONTH: Size = Size {
+    name: "month",
     nurses: (10, 28),
     days: (28, 31),
     groups: (0, 6),
@@ -79,6 +85,7 @@ pub const MONTH: Size = Size {
     free: 9,
 };
 pub const FULL: Size = Size {
+    name: "full",
     nurses: (48, 48),
     days: (31, 31),
     groups: (16, 16),
@@ -124,7 +131,14 @@ pub fn planned(dice: &mut Dice, size: &Size) -> Planned {
     for nurse in 0..open.nurse_count {
         mark_days_off(dice, size, &open, &mut draft, nurse, nights[nurse]);
     }
-    let open = draft.ward();
+    let mut open = draft.ward();
+    for nurse in 0..open.nurse_count {
+        if !dice.one_in(6) && days::count(&open, nurse, nights[nurse]) == 0 {
+            draft.nurses[nurse][..7].fill(0);
+            draft.nurses[nurse][MARKS..].fill(0);
+        }
+    }
+    open = draft.ward();
     let days: Option<Vec<u32>> =
         (0..open.nurse_count).map(|i| plan_days(dice, &open, i, nights[i])).collect();
     let worked = days.clone().unwrap_or(vec![0; open.nurse_count]);
@@ -135,27 +149,45 @@ pub fn planned(dice: &mut Dice, size: &Size) -> Planned {
     finish(draft, nights, days)
 }
 
-/// The same with one thing spoiled, so that someone may have no pattern or zero be out of reach.
+/// The same with one thing changed, so that someone may have no pattern or zero be far.
 pub fn spoiled(dice: &mut Dice, size: &Size) -> Planned {
     let planned = planned(dice, size);
     let mut draft = draft_of(&planned.ward);
+    if dice.one_in(2) {
+        spoil_nurse(dice, &mut draft);
+    } else {
+        spoil_days(dice, &mut draft);
+    }
+    finish(draft, planned.nights, planned.days)
+}
+
+fn spoil_nurse(dice: &mut Dice, draft: &mut Draft) {
     let nurse = dice.index(draft.nurses.len());
     let her = &mut draft.nurses[nurse];
     let n = her.len() - MARKS;
-    match dice.upto(5) {
+    match dice.upto(4) {
         0 => her[MARKS + dice.index(n)] = dice.upto(6),
         1 => her[NIGHT_BOUNDS..REST_BOUNDS].fill(dice.upto(15)),
         2 => her[REST_BOUNDS..MARKS].fill(dice.upto(n as u64)),
         3 => her[..7].copy_from_slice(&random_before(dice)),
-        4 => two_starts_together(dice, her),
-        _ => {
-            let day = dice.index(draft.days.len());
-            let shift = dice.index(2);
-            draft.days[day][shift] += dice.from(1, 2);
+        _ => two_starts_together(dice, her),
+    }
+}
+
+/// More is wanted of a shift than was planned, or less allowed, on one day in so many.
+fn spoil_days(dice: &mut Dice, draft: &mut Draft) {
+    let (shift, rarely, by_need) = (dice.index(2), dice.from(1, 4), dice.one_in(2));
+    for day in &mut draft.days {
+        if !dice.one_in(rarely) {
+            continue;
+        }
+        if by_need || day.len() == 2 {
+            day[shift] = (day[shift] + 1).min(48);
+        }
+        for bounds in day[2..].chunks_mut(4).filter(|_| !by_need) {
+            bounds[2 * shift + 1] = bounds[2 * shift];
         }
     }
-    draft.days.iter_mut().flatten().for_each(|number| *number = (*number).min(48));
-    finish(draft, planned.nights, planned.days)
 }
 
 /// Marks 3 on two days next to each other: no pattern allows them.

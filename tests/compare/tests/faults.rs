@@ -4,7 +4,7 @@
 use compare::calls::*;
 use compare::naive::{self, give_check, hand_back, Advanced, Reference};
 use compare::rounds::*;
-use compare::session::{run, Round, Stint};
+use compare::session::{run, Round};
 use compare::trial::Trial;
 use compare::wards::*;
 use compare::words::{record_of_words, FLAGS, REMOVALS, STEPS_AT};
@@ -13,6 +13,7 @@ use reference::phase::{ask_steps, DayPhase, NightPhase, Phase};
 use reference::record::{advance_by, Record};
 use reference::tally::Exchange;
 use reference::ward::{parse, Ward};
+use std::io::Write;
 
 /// The memory lent to an advance.
 struct Handed<'a> {
@@ -522,36 +523,34 @@ fn other_faults() -> Vec<(&'static str, Fault)> {
     ]
 }
 
-/// Small wards, every round: about a second.
-fn rounds() -> Vec<Stint> {
-    let stint = |round: Round, size, rounds| Stint { name: "faults", round, size, rounds };
-    vec![
-        stint(reading, &TINY, 10),
-        stint(writing, &TINY, 10),
-        stint(checking, &SMALL, 60),
-        stint(by_nights, &SMALL, 60),
-        stint(by_days, &SMALL, 60),
-        stint(chains, &TINY, 100),
-        stint(long_advances, &TINY, 60),
-        stint(long_advances, &SMALL, 10),
-    ]
-}
+/// Small wards, every kind of round.
+const ROUNDS: [(Round, Size, u64); 8] = [
+    (reading, TINY, 10),
+    (writing, TINY, 10),
+    (checking, SMALL, 60),
+    (by_nights, SMALL, 60),
+    (by_days, SMALL, 60),
+    (chains, TINY, 100),
+    (long_advances, TINY, 60),
+    (long_advances, SMALL, 10),
+];
 
 fn differences(calls: &dyn Calls) -> usize {
     let mut trial = Trial::new(calls, &Reference);
-    run(&mut trial, &rounds());
+    for (round, size, rounds) in &ROUNDS {
+        run(&mut trial, "faults", *round, size, *rounds);
+    }
     trial.differences.len()
 }
 
 #[test]
 fn every_fault_is_found() {
-    let mut missed = Vec::new();
-    for (name, fault) in faults() {
-        if differences(&Faulty(fault)) == 0 {
-            missed.push(name);
-        }
-    }
+    let all = faults();
+    let text = format!("\n{} faults tried, each found in a comparison of its own\n", all.len());
+    let missed = |(name, fault)| (differences(&Faulty(fault)) == 0).then_some(name);
+    let missed: Vec<&str> = all.into_iter().filter_map(missed).collect();
     assert!(missed.is_empty(), "not found: {missed:?}");
+    let _ = std::io::stdout().write_all(text.as_bytes());
 }
 
 #[test]

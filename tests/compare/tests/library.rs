@@ -1,11 +1,15 @@
-//! The proved planner against the reference. Longer: COMPARE_ROUNDS=20 COMPARE_SEED=7.
+//! The proved planner against the reference.
 
 use compare::calls::Calls;
+use compare::hostile;
 use compare::naive::Reference;
 use compare::rounds::*;
-use compare::session::{conclude, run, Stint};
+use compare::session::{conclude, run, Least, Round};
 use compare::trial::Trial;
 use compare::wards::*;
+
+const FILES: &[&str] = &["refused 1", "refused 2", "refused 3", "refused 4", "refused 5"];
+const ENDS: &[&str] = &["zero", "asked", "none"];
 
 fn planner() -> Box<dyn Calls> {
     if std::env::var("COMPARE_SELF").is_ok() {
@@ -14,80 +18,105 @@ fn planner() -> Box<dyn Calls> {
     compare::library().expect("target/staticlib/libpantheryl.a is missing: rt staticlib pantheryl")
 }
 
-fn stint(round: compare::session::Round, size: &'static Size, rounds: u64) -> Stint {
-    Stint { name: "", round, size, rounds }
+/// Rounds against the reference; every answer named must come up so often.
+fn compare_rounds(name: &str, rounds: &[(Round, Size, u64)], least: &[Least]) {
+    let planner = planner();
+    let mut trial = Trial::new(&*planner, &Reference);
+    for (round, size, times) in rounds {
+        run(&mut trial, name, *round, size, *times);
+    }
+    conclude(name, &trial, least);
 }
 
 #[test]
 fn reading_and_writing() {
-    let planner = planner();
-    let mut trial = Trial::new(&*planner, &Reference);
-    let stints = [
-        stint(reading, &TINY, 300),
-        stint(reading, &WIDE, 300),
-        stint(reading, &MONTH, 20),
-        stint(reading, &FULL, 4),
-        stint(writing, &TINY, 200),
-        stint(writing, &WIDE, 200),
-        stint(writing, &MONTH, 20),
-        stint(writing, &FULL, 4),
+    let rounds: [(Round, Size, u64); 8] = [
+        (reading, TINY, 1_000),
+        (reading, WIDE, 1_000),
+        (reading, MONTH, 60),
+        (reading, FULL, 10),
+        (writing, TINY, 1_000),
+        (writing, WIDE, 1_000),
+        (writing, MONTH, 60),
+        (writing, FULL, 10),
     ];
-    run(&mut trial, &stints);
-    conclude("Reading and writing", &trial, &[]);
+    let least: [Least; 4] = [
+        ("read", &["done"], 1_000),
+        ("read", FILES, 300),
+        ("write", &["done"], 1_000),
+        ("write", &["refused 1", "refused 3", "refused 4", "refused 5", "refused 6"], 300),
+    ];
+    compare_rounds("Reading and writing", &rounds, &least);
 }
 
 #[test]
-fn nights() {
-    let planner = planner();
-    let mut trial = Trial::new(&*planner, &Reference);
-    let stints = [
-        stint(by_nights, &TINY, 300),
-        stint(by_nights, &SMALL, 300),
-        stint(by_nights, &WIDE, 100),
-        stint(by_nights, &MIDDLE, 20),
-        stint(by_nights, &MONTH, 1),
-        stint(long_advances, &TINY, 50),
-        stint(long_advances, &SMALL, 20),
+fn night_advances() {
+    let rounds: [(Round, Size, u64); 9] = [
+        (by_nights, TINY, 1_500),
+        (by_nights, SMALL, 1_500),
+        (by_nights, WIDE, 1_000),
+        (by_nights, MIDDLE, 150),
+        (by_nights, MONTH, 12),
+        (by_nights, FULL, 1),
+        (long_advances, TINY, 600),
+        (long_advances, SMALL, 150),
+        (long_advances, MIDDLE, 10),
     ];
-    run(&mut trial, &stints);
-    conclude("Nights", &trial, &[]);
+    let least: [Least; 3] = [
+        ("advance_nights", ENDS, 300),
+        ("advance_nights", FILES, 200),
+        ("advance_nights", &["refused 7", "refused 9", "refused 10", "refused 11"], 1_000),
+    ];
+    compare_rounds("Night advances", &rounds, &least);
 }
 
 #[test]
-fn days() {
-    let planner = planner();
-    let mut trial = Trial::new(&*planner, &Reference);
-    let stints = [
-        stint(by_days, &TINY, 300),
-        stint(by_days, &SMALL, 200),
-        stint(by_days, &WIDE, 100),
-        stint(by_days, &MIDDLE, 10),
-        stint(by_days, &MONTH, 1),
+fn day_advances() {
+    let rounds: [(Round, Size, u64); 6] = [
+        (by_days, TINY, 1_500),
+        (by_days, SMALL, 1_500),
+        (by_days, WIDE, 1_000),
+        (by_days, MIDDLE, 150),
+        (by_days, MONTH, 12),
+        (by_days, FULL, 1),
     ];
-    run(&mut trial, &stints);
-    conclude("Days", &trial, &[]);
+    let refused = &["refused 7", "refused 8", "refused 9", "refused 10", "refused 11"];
+    let least: [Least; 3] =
+        [("advance_days", ENDS, 100), ("advance_days", FILES, 200), ("advance_days", refused, 500)];
+    compare_rounds("Day advances", &rounds, &least);
 }
 
 #[test]
 fn lists_of_advances() {
-    let planner = planner();
-    let mut trial = Trial::new(&*planner, &Reference);
-    let stints = [stint(chains, &TINY, 300), stint(chains, &SMALL, 20)];
-    run(&mut trial, &stints);
-    conclude("Lists of advances", &trial, &[]);
+    let rounds: [(Round, Size, u64); 3] =
+        [(chains, TINY, 3_000), (chains, SMALL, 600), (chains, WIDE, 300)];
+    let least: [Least; 4] = [
+        ("advance_nights", ENDS, 100),
+        ("advance_nights", &["refused 7", "refused 9"], 300),
+        ("advance_days", ENDS, 50),
+        ("advance_days", &["refused 7", "refused 9"], 300),
+    ];
+    compare_rounds("Lists of advances", &rounds, &least);
 }
 
 #[test]
 fn checks() {
+    let rounds: [(Round, Size, u64); 6] = [
+        (checking, TINY, 1_000),
+        (checking, SMALL, 1_000),
+        (checking, WIDE, 1_000),
+        (checking, MIDDLE, 100),
+        (checking, MONTH, 8),
+        (checking, FULL, 1),
+    ];
+    let least: [Least; 2] = [("check", &["yes", "no", "refused 12"], 1_000), ("check", FILES, 50)];
+    compare_rounds("Checks", &rounds, &least);
+}
+
+#[test]
+fn hostile_calls() {
     let planner = planner();
     let mut trial = Trial::new(&*planner, &Reference);
-    let stints = [
-        stint(checking, &TINY, 200),
-        stint(checking, &SMALL, 200),
-        stint(checking, &WIDE, 100),
-        stint(checking, &MIDDLE, 20),
-        stint(checking, &MONTH, 1),
-    ];
-    run(&mut trial, &stints);
-    conclude("Checks", &trial, &[]);
+    hostile::all(&mut trial);
+    conclude("Hostile calls", &trial, &[]);
 }
