@@ -1,0 +1,14 @@
+//! Prints a Markdown table of times. It asserts that both sides answer alike, and no time.
+
+use bench::{measure, subjects};
+
+fn main() {
+    let Some(planner) = compare::library() else {
+        eprintln!("target/staticlib/libpantheryl.a is missing: rt staticlib pantheryl");
+        std::process::exit(1);
+    };
+    measure::head();
+    for subject in subjects::all() {
+        measure::subject(&*planner, &subject);
+    }
+}
