@@ -42,6 +42,11 @@ pub fn writing(trial: &mut Trial, dice: &mut Dice, size: &Size) {
     for room in needed.saturating_sub(2)..=needed + 2 {
         trial.compare("room around the needed", &write(dice, numbers, count, room));
     }
+    if dice.one_in(20) && needed < 200 {
+        for room in 0..needed + 9 {
+            trial.compare("every length of the buffer", &write(dice, numbers, count, room));
+        }
+    }
     let less = dice.upto(count);
     trial.compare("room too short", &write(dice, numbers, count, less as usize));
     trial.compare("numbers missing", &write(dice, numbers, less, needed));
@@ -122,7 +127,7 @@ pub fn by_nights(trial: &mut Trial, dice: &mut Dice, size: &Size) {
     let planned = any_ward(dice, size);
     let search = by_night(&planned);
     if let Some(left) = advances(trial, dice, &search) {
-        refusals(trial, dice, &search, &left.record());
+        refusals(trial, dice, &search, &left);
     }
 }
 
@@ -141,7 +146,7 @@ pub fn by_days(trial: &mut Trial, dice: &mut Dice, size: &Size) {
     }
     let search = by_day(&planned, &nights);
     if let Some(left) = advances(trial, dice, &search) {
-        refusals(trial, dice, &search, &left.record());
+        refusals(trial, dice, &search, &left);
         other_nights(trial, dice, &planned, &nights, &left.record());
     }
     if dice.one_in(3) {
@@ -188,15 +193,27 @@ fn advances(trial: &mut Trial, dice: &mut Dice, search: &Search) -> Option<Left>
     Some(left)
 }
 
-/// What an advance must refuse, or nearly.
-fn refusals(trial: &mut Trial, dice: &mut Dice, search: &Search, record: &Words) {
+/// What an advance must refuse, or nearly, after the one that left this.
+fn refusals(trial: &mut Trial, dice: &mut Dice, search: &Search, left: &Left) {
     let k = dice.upto(3) as u32;
-    let record = &if dice.one_in(2) { records::other_flags(dice, record) } else { *record };
+    let record = &match dice.one_in(2) {
+        true => records::other_flags(dice, &left.record()),
+        false => left.record(),
+    };
     for _ in 0..6 {
         let (kind, changed) = records::changed(dice, &search.planned.ward, record);
         trial.compare(kind, &search.case(&changed, k, search.needed));
     }
-    for steps in [1_000_000, 1_000_001, u32::MAX, 999_998] {
+    // ten thousand steps are asked only where none is made
+    let most = if left.answer()[OUTCOME] == ZERO { 10_000 } else { k };
+    for (steps, k) in [
+        (1_000_000, k),
+        (1_000_001, k),
+        (u32::MAX, k),
+        (999_998, k),
+        (1_000_000 - most, most),
+        (1_000_001 - most, most),
+    ] {
         let mut changed = *record;
         changed[STEPS_AT] = steps;
         trial.compare("steps near the limit", &search.case(&changed, k, search.needed));

@@ -84,6 +84,9 @@ pub const MONTH: Size = Size {
     tabu: (0, 40),
     free: 9,
 };
+/// A month with runs of nights.
+pub const RUNS: Size =
+    Size { name: "runs", nurses: (6, 12), most_nights: (2, 3), run: (2, 3), gap: (1, 5), ..MONTH };
 pub const FULL: Size = Size {
     name: "full",
     nurses: (48, 48),

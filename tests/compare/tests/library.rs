@@ -51,12 +51,13 @@ fn reading_and_writing() {
 
 #[test]
 fn night_advances() {
-    let rounds: [(Round, Size, u64); 9] = [
+    let rounds: [(Round, Size, u64); 10] = [
         (by_nights, TINY, 1_500),
         (by_nights, SMALL, 1_500),
         (by_nights, WIDE, 1_000),
         (by_nights, MIDDLE, 150),
         (by_nights, MONTH, 12),
+        (by_nights, RUNS, 20),
         (by_nights, FULL, 1),
         (long_advances, TINY, 600),
         (long_advances, SMALL, 150),
@@ -78,7 +79,7 @@ fn day_advances() {
         (by_days, WIDE, 1_000),
         (by_days, MIDDLE, 150),
         (by_days, MONTH, 12),
-        (by_days, FULL, 1),
+        (by_days, FULL, 4),
     ];
     let refused = &["refused 7", "refused 8", "refused 9", "refused 10", "refused 11"];
     let least: [Least; 3] =
@@ -89,7 +90,7 @@ fn day_advances() {
 #[test]
 fn lists_of_advances() {
     let rounds: [(Round, Size, u64); 3] =
-        [(chains, TINY, 3_000), (chains, SMALL, 600), (chains, WIDE, 300)];
+        [(chains, TINY, 6_000), (chains, SMALL, 1_500), (chains, WIDE, 1_000)];
     let least: [Least; 4] = [
         ("advance_nights", ENDS, 100),
         ("advance_nights", &["refused 7", "refused 9"], 300),
