@@ -85,8 +85,15 @@ pub const MONTH: Size = Size {
     free: 9,
 };
 /// A month with runs of nights.
-pub const RUNS: Size =
-    Size { name: "runs", nurses: (6, 12), most_nights: (2, 3), run: (2, 3), gap: (1, 5), ..MONTH };
+pub const RUNS: Size = Size {
+    name: "runs",
+    nurses: (3, 8),
+    days: (14, 31),
+    most_nights: (4, 4),
+    run: (2, 3),
+    gap: (1, 5),
+    ..MONTH
+};
 pub const FULL: Size = Size {
     name: "full",
     nurses: (48, 48),

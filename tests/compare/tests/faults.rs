@@ -524,7 +524,7 @@ fn other_faults() -> Vec<(&'static str, Fault)> {
 }
 
 /// Small wards, every kind of round.
-const ROUNDS: [(Round, Size, u64); 8] = [
+const ROUNDS: [(Round, Size, u64); 9] = [
     (reading, TINY, 10),
     (writing, TINY, 10),
     (checking, SMALL, 60),
@@ -533,6 +533,7 @@ const ROUNDS: [(Round, Size, u64); 8] = [
     (chains, TINY, 100),
     (long_advances, TINY, 60),
     (long_advances, SMALL, 10),
+    (by_nights, RUNS, 15),
 ];
 
 fn differences(calls: &dyn Calls) -> usize {
