@@ -51,25 +51,60 @@ fn last_month(nurse: &Nurse) -> Before {
     })
 }
 
-/// One nurse's own part of the rule, beside the common list.
+/// One nurse's own part of the rule, beside the common list: where she may start, where n and
+/// owed rest may fall, where she must start.
 pub struct Hers<'a> {
     ward: &'a Ward,
     nurse: &'a Nurse,
     before: Before,
+    never_start: u32,
+    never_second: u32,
+    never_rest: u32,
+    must_start: u32,
 }
 
 impl<'a> Hers<'a> {
     pub fn of(ward: &'a Ward, nurse: &'a Nurse) -> Self {
-        Hers { ward, nurse, before: last_month(nurse) }
+        let marks = &nurse.marks;
+        let free = marks[0] | marks[6];
+        Hers {
+            ward,
+            nurse,
+            before: last_month(nurse),
+            never_start: ward.month() & !(free | marks[3]),
+            never_second: ward.month() & !(free | marks[5]),
+            never_rest: ward.month() & !(free | marks[1] | marks[5]),
+            must_start: marks[3],
+        }
     }
 
     /// Whether a pattern of the common list is hers.
     pub fn takes(&self, pattern: u32) -> bool {
-        let nights = pattern.count_ones();
-        nights >= self.nurse.least_nights
+        let (row, nights) = (self.nurse.row(pattern), pattern.count_ones());
+        let barred = row.starts & self.never_start
+            | row.seconds & self.never_second
+            | row.rests & self.never_rest
+            | self.must_start & !row.starts;
+        barred == 0
+            && nights >= self.nurse.least_nights
             && nights <= self.nurse.most_nights
-            && self.nurse.allows(self.nurse.row(pattern), self.ward.month())
-            && (self.before.is_none() || keeps_rule(self.ward, self.before, pattern))
+            && self.keeps_last_month(pattern)
+    }
+
+    /// Only starts that lengthen last month's run, and the one after them, are not yet judged.
+    fn keeps_last_month(&self, pattern: u32) -> bool {
+        if self.before.is_none() {
+            return true;
+        }
+        let mut before = self.before;
+        for day in starts(pattern) {
+            match follow(self.ward, before, day) {
+                None => return false,
+                Some(Some((_, 1))) => return true,
+                Some(longer) => before = longer,
+            }
+        }
+        true
     }
 }
 

@@ -70,15 +70,6 @@ impl Nurse {
     fn may_work(&self) -> u32 {
         self.marks[0] | self.marks[2] | self.marks[5]
     }
-
-    /// Whether her marks allow a row of a month with these days.
-    pub fn allows(&self, row: Row, month: u32) -> bool {
-        let free = self.marks[0] | self.marks[6];
-        row.starts & !(free | self.marks[3]) == 0
-            && self.marks[3] & !row.starts == 0
-            && row.seconds & month & !(free | self.marks[5]) == 0
-            && row.rests & month & !(free | self.marks[1] | self.marks[5]) == 0
-    }
 }
 
 impl Ward {
