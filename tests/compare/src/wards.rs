@@ -138,25 +138,30 @@ pub fn planned(dice: &mut Dice, size: &Size) -> Planned {
     let mut draft = unbound(dice, size);
     let open = draft.ward();
     let nights: Vec<u32> = (0..open.nurse_count).map(|i| plan_nights(dice, &open, i)).collect();
-    for nurse in 0..open.nurse_count {
-        mark_days_off(dice, size, &open, &mut draft, nurse, nights[nurse]);
+    for (nurse, &night) in nights.iter().enumerate() {
+        mark_days_off(dice, size, &open, &mut draft, nurse, night);
     }
-    let mut open = draft.ward();
-    for nurse in 0..open.nurse_count {
-        if !dice.one_in(6) && days::count(&open, nurse, nights[nurse]) == 0 {
+    give_days(dice, &mut draft, &nights);
+    let open = draft.ward();
+    let days: Option<Vec<u32>> =
+        (0..open.nurse_count).map(|i| plan_days(dice, &open, i, nights[i])).collect();
+    let worked = days.clone().unwrap_or(vec![0; open.nurse_count]);
+    for (nurse, row) in nights.iter().copied().zip(worked.iter().copied()).enumerate() {
+        bind_nurse(dice, size, &open, &mut draft, nurse, row);
+    }
+    bind_days(dice, &open, &mut draft, &nights, &worked);
+    finish(draft, nights, days)
+}
+
+/// Nearly everyone who has no day pattern loses what stands in its way.
+fn give_days(dice: &mut Dice, draft: &mut Draft, nights: &[u32]) {
+    let open = draft.ward();
+    for (nurse, &night) in nights.iter().enumerate() {
+        if !dice.one_in(6) && days::count(&open, nurse, night) == 0 {
             draft.nurses[nurse][..7].fill(0);
             draft.nurses[nurse][MARKS..].fill(0);
         }
     }
-    open = draft.ward();
-    let days: Option<Vec<u32>> =
-        (0..open.nurse_count).map(|i| plan_days(dice, &open, i, nights[i])).collect();
-    let worked = days.clone().unwrap_or(vec![0; open.nurse_count]);
-    for nurse in 0..open.nurse_count {
-        bind_nurse(dice, size, &open, &mut draft, nurse, (nights[nurse], worked[nurse]));
-    }
-    bind_days(dice, &open, &mut draft, &nights, &worked);
-    finish(draft, nights, days)
 }
 
 /// The same with one thing changed, so that someone may have no pattern or zero be far.
