@@ -13,7 +13,7 @@ use reference::{days, nights};
 
 pub const FRESH: Words = [0; RECORD];
 /// Longer lists are not built, only refused.
-const LONGEST: usize = 60_000;
+const LONGEST: usize = 120_000;
 
 /// Half of the wards keep to their plan.
 fn any_ward(dice: &mut Dice, size: &Size) -> Planned {

@@ -153,11 +153,14 @@ pub fn planned(dice: &mut Dice, size: &Size) -> Planned {
     finish(draft, nights, days)
 }
 
-/// Nearly everyone who has no day pattern loses what stands in its way.
+/// In most wards everyone who has no day pattern loses what stands in its way.
 fn give_days(dice: &mut Dice, draft: &mut Draft, nights: &[u32]) {
+    if dice.one_in(6) {
+        return;
+    }
     let open = draft.ward();
     for (nurse, &night) in nights.iter().enumerate() {
-        if !dice.one_in(6) && days::count(&open, nurse, night) == 0 {
+        if days::count(&open, nurse, night) == 0 {
             draft.nurses[nurse][..7].fill(0);
             draft.nurses[nurse][MARKS..].fill(0);
         }
@@ -316,11 +319,11 @@ fn bind_nurse(
 /// A mark that allows the state and leaves the day as it is planned.
 fn fitting_mark(dice: &mut Dice, state: State, worked: bool) -> u64 {
     match state {
-        State::Start => dice.pick(&[0, 3, 6]),
-        State::Second => dice.pick(&[0, 5, 6]),
-        State::OwedRest => dice.pick(&[0, 1, 5, 6]),
-        State::Open if worked => dice.pick(&[0, 2, 5]),
-        State::Open => dice.pick(&[0, 1, 5, 6]),
+        State::Start => dice.pick(&[3, 6]),
+        State::Second => dice.pick(&[5, 6]),
+        State::OwedRest => dice.pick(&[1, 5, 6]),
+        State::Open if worked => dice.pick(&[2, 5]),
+        State::Open => dice.pick(&[1, 5, 6]),
     }
 }
 
