@@ -4,22 +4,14 @@
 use std::path::Path;
 
 fn main() {
-    println!("cargo:rustc-check-cfg=cfg(library, day_advance)");
+    println!("cargo:rustc-check-cfg=cfg(library)");
     let root = std::env::var("CARGO_MANIFEST_DIR").expect("cargo says where the crate is");
     let folder = Path::new(&root).join("../../target/staticlib");
     let archive = folder.join("libpantheryl.a");
     println!("cargo:rerun-if-changed={}", archive.display());
-    if let Ok(content) = std::fs::read(&archive) {
+    if archive.exists() {
         println!("cargo:rustc-cfg=library");
-        if names(&content, b"pantheryl_advance_days") {
-            println!("cargo:rustc-cfg=day_advance");
-        }
         println!("cargo:rustc-link-search=native={}", folder.display());
         println!("cargo:rustc-link-lib=static=pantheryl");
     }
-}
-
-/// Whether a symbol stands in the archive.
-fn names(archive: &[u8], symbol: &[u8]) -> bool {
-    archive.windows(symbol.len()).any(|part| part == symbol)
 }

@@ -64,7 +64,7 @@ pub fn subject(planner: &dyn Calls, subject: &Subject) {
         file(planner, name, &subject.file);
         advance(planner, name, "night", k, |k| subject.by_night(k));
     }
-    let Some((nights, k)) = subject.day.filter(|_| planner.has_days()) else {
+    let Some((nights, k)) = subject.day else {
         return;
     };
     advance(planner, name, "day", k, |k| subject.by_day(&nights, k));

@@ -31,11 +31,6 @@ pub const YES: u64 = 1;
 pub const NO: u64 = 2;
 
 pub trait Calls: Sync {
-    /// Whether the day advance can be called.
-    fn has_days(&self) -> bool {
-        true
-    }
-
     fn read(&self, file: &[u8], numbers: &mut Numbers, answer: &mut Answer);
 
     fn write(&self, numbers: &Numbers, count: u64, buffer: &mut [u8], answer: &mut Answer);

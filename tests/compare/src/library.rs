@@ -21,7 +21,6 @@ extern "C" {
         buffer_len: usize,
         answer: *mut u64,
     );
-    #[cfg(day_advance)]
     fn pantheryl_advance_days(
         file: *const u8,
         file_len: usize,
@@ -46,10 +45,6 @@ pub struct Library;
 
 // Each pointer is good for the length that the C header names: the Rust types have it.
 impl Calls for Library {
-    fn has_days(&self) -> bool {
-        cfg!(day_advance)
-    }
-
     fn read(&self, file: &[u8], numbers: &mut Numbers, answer: &mut Answer) {
         unsafe {
             pantheryl_read(file.as_ptr(), file.len(), numbers.as_mut_ptr(), answer.as_mut_ptr())
@@ -89,21 +84,6 @@ impl Calls for Library {
         }
     }
 
-    #[cfg(not(day_advance))]
-    fn advance_days(
-        &self,
-        _: &[u8],
-        _: &Nights,
-        _: &mut Words,
-        _: u32,
-        _: &mut [u32],
-        _: &mut Letters,
-        _: &mut Answer,
-    ) {
-        unimplemented!("the library has no day advance yet")
-    }
-
-    #[cfg(day_advance)]
     fn advance_days(
         &self,
         file: &[u8],

@@ -45,9 +45,6 @@ impl<'a> Trial<'a> {
     /// The same with another expected side.
     pub fn compare_with(&mut self, expected: &dyn Calls, kind: &'static str, case: &Case) -> Left {
         let (wanted, _) = make(expected, case);
-        if !self.tested.has_days() && matches!(case, Case::Days { .. }) {
-            return wanted;
-        }
         let (left, time) = make(self.tested, case);
         self.count(kind, case.call(), &wanted.answer(), time);
         if left != wanted {
@@ -72,9 +69,6 @@ impl<'a> Trial<'a> {
 
     /// How often a call was answered so, on the expected side.
     pub fn answered(&self, call: &'static str, answer: &str) -> u64 {
-        if call == "advance_days" && !self.tested.has_days() {
-            return u64::MAX;
-        }
         self.answers.get(&(call, answer.to_string())).copied().unwrap_or(0)
     }
 
