@@ -239,19 +239,25 @@ fn every_room(trial: &mut Trial, search: &Search) {
     }
 }
 
-/// Many steps on a small ward, to the end if it has one.
-pub fn long_advances(trial: &mut Trial, dice: &mut Dice, size: &Size) {
+/// Many steps by night, to the end if there is one.
+pub fn long_nights(trial: &mut Trial, dice: &mut Dice, size: &Size) {
     let planned = any_ward(dice, size);
-    let search = by_night(&planned);
+    many_steps(trial, dice, &by_night(&planned));
+}
+
+/// Many steps by day over the planned nights, to the end if there is one.
+pub fn long_days(trial: &mut Trial, dice: &mut Dice, size: &Size) {
+    let planned = any_ward(dice, size);
+    let nights = nights_of(dice, &planned, &planned.nights);
+    many_steps(trial, dice, &by_day(&planned, &nights));
+}
+
+fn many_steps(trial: &mut Trial, dice: &mut Dice, search: &Search) {
     let k = dice.pick(&[100, 300, 1_000]);
-    let left = trial.compare("many steps", &search.case(&FRESH, k, search.needed));
-    every_room(trial, &search);
-    if left.answer()[OUTCOME] == ZERO {
-        let search = by_day(&planned, &nights_of(dice, &planned, &left.record()));
-        if search.needed <= LONGEST {
-            trial.compare("many steps", &search.case(&FRESH, k, search.needed));
-        }
+    if search.needed <= LONGEST {
+        trial.compare("many steps", &search.case(&FRESH, k, search.needed));
     }
+    every_room(trial, search);
 }
 
 /// A list of advances from fresh, refused ones between, against the history of the calls alone.

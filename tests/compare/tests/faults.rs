@@ -524,15 +524,16 @@ fn other_faults() -> Vec<(&'static str, Fault)> {
 }
 
 /// Small wards, every kind of round.
-const ROUNDS: [(Round, Size, u64); 9] = [
+const ROUNDS: [(Round, Size, u64); 10] = [
     (reading, TINY, 10),
     (writing, TINY, 10),
     (checking, SMALL, 60),
     (by_nights, SMALL, 60),
     (by_days, SMALL, 60),
     (chains, TINY, 100),
-    (long_advances, TINY, 60),
-    (long_advances, SMALL, 10),
+    (long_nights, TINY, 60),
+    (long_nights, SMALL, 10),
+    (long_days, SMALL, 10),
     (by_nights, RUNS, 15),
 ];
 

@@ -56,9 +56,9 @@ fn night_advances() {
         (by_nights, MONTH, 12),
         (by_nights, RUNS, 20),
         (by_nights, FULL, 1),
-        (long_advances, TINY, 600),
-        (long_advances, SMALL, 150),
-        (long_advances, MIDDLE, 10),
+        (long_nights, TINY, 600),
+        (long_nights, SMALL, 150),
+        (long_nights, MIDDLE, 10),
     ];
     let least: [Least; 3] = [
         ("advance_nights", ENDS, 300),
@@ -70,13 +70,16 @@ fn night_advances() {
 
 #[test]
 fn day_advances() {
-    let rounds: [(Round, Size, u64); 6] = [
+    let rounds: [(Round, Size, u64); 9] = [
         (by_days, TINY, 1_500),
         (by_days, SMALL, 1_500),
         (by_days, WIDE, 1_000),
         (by_days, MIDDLE, 150),
         (by_days, MONTH, 12),
         (by_days, FULL, 4),
+        (long_days, TINY, 600),
+        (long_days, SMALL, 300),
+        (long_days, MIDDLE, 20),
     ];
     let refused = &["refused 7", "refused 8", "refused 9", "refused 10", "refused 11"];
     let least: [Least; 3] =
