@@ -48,35 +48,3 @@ fn left_in_the_second_phase() {
     numbers[39] = 2;
     assert_eq!(run(&file_of(&numbers)), "left 2 2 4\n");
 }
-
-/// The calls of the proved planner's gate program, which prints the steps made, the penalty and the end of each.
-#[test]
-fn night_advances_as_proved() {
-    let calls: [(&[u8], u64, usize); 8] = [
-        (SURGICAL, 0, 6958),
-        (SURGICAL, 28, 6958),
-        (SURGICAL, 10001, 6958),
-        (SURGICAL, 1, 6957),
-        (b"A", 1, 6958),
-        (SURGICAL, 100, 6958),
-        (SURGICAL, 10000, 6958),
-        (SURGICAL, 10000, 6958),
-    ];
-    let mut record = fresh();
-    let mut text = String::new();
-    for (file, k, places) in calls {
-        text += &match advance_night(file, &record, k, places) {
-            Err(no) => format!("0 0 refused {} {}\n", no.question, no.place),
-            Ok(answer) => {
-                record = answer.record.clone();
-                let end = match answer.end {
-                    End::Zero => "zero",
-                    End::Asked => "asked",
-                    End::None => "none",
-                };
-                format!("{} {} {}\n", answer.made, answer.penalty, end)
-            }
-        };
-    }
-    assert_eq!(text, include_str!("../../../../crates/advance_run/stdout"));
-}

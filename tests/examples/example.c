@@ -1,7 +1,7 @@
 /* Plans a ward of two nurses and three days, first the nights, then the days, and checks the roster.
  *
  *   rt staticlib pantheryl
- *   cc -I include tests/c/example.c target/staticlib/libpantheryl.a -o target/example && target/example
+ *   cc -I include tests/examples/example.c target/staticlib/libpantheryl.a -o target/example && target/example
  */
 #include <stdio.h>
 

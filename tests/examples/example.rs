@@ -1,0 +1,72 @@
+//! Plans a ward of two nurses and three days, first the nights, then the days, and checks the roster.
+//!
+//!   rt staticlib pantheryl
+//!   rustc -O -L target/staticlib -l static=pantheryl -o target/example_rs tests/examples/example.rs && target/example_rs
+
+// The declarations of include/pantheryl.h; every call takes any content, so these wrappers have nothing to ask.
+mod pantheryl {
+    mod c {
+        extern "C" {
+            pub fn pantheryl_advance_nights(file: *const u8, file_len: usize, record: *mut u32, k: u32, buffer: *mut u32, buffer_len: usize, answer: *mut u64);
+            pub fn pantheryl_advance_days(
+                file: *const u8, file_len: usize, nights: *const u32, record: *mut u32, k: u32, buffer: *mut u32, buffer_len: usize, roster: *mut u8, answer: *mut u64,
+            );
+            pub fn pantheryl_check(file: *const u8, file_len: usize, roster: *const u8, roster_len: usize, answer: *mut u64);
+        }
+    }
+
+    pub type Record = [u32; 289];
+    pub type Answer = [u64; 6];
+
+    pub fn advance_nights(file: &[u8], record: &mut Record, k: u32, buffer: &mut [u32]) -> Answer {
+        let mut answer = [0; 6];
+        unsafe { c::pantheryl_advance_nights(file.as_ptr(), file.len(), record.as_mut_ptr(), k, buffer.as_mut_ptr(), buffer.len(), answer.as_mut_ptr()) };
+        answer
+    }
+
+    pub fn advance_days(file: &[u8], nights: &[u32; 48], record: &mut Record, k: u32, buffer: &mut [u32], roster: &mut [u8; 1488]) -> Answer {
+        let mut answer = [0; 6];
+        unsafe {
+            c::pantheryl_advance_days(
+                file.as_ptr(), file.len(), nights.as_ptr(), record.as_mut_ptr(), k, buffer.as_mut_ptr(), buffer.len(), roster.as_mut_ptr(), answer.as_mut_ptr(),
+            )
+        };
+        answer
+    }
+
+    pub fn check(file: &[u8], roster: &[u8]) -> Answer {
+        let mut answer = [0; 6];
+        unsafe { c::pantheryl_check(file.as_ptr(), file.len(), roster.as_ptr(), roster.len(), answer.as_mut_ptr()) };
+        answer
+    }
+}
+
+fn print(call: &str, answer: pantheryl::Answer) {
+    println!("{call}: {}", answer.map(|word| word.to_string()).join(" "));
+}
+
+fn main() {
+    // Every number is below 128, so each is one byte: the head, the two nurses, the needs of each day.
+    let ward: Vec<u8> = [
+        &[2, 3, 0, 1, 1, 1, 1, 1, 2, 3, 1, 1, 1, 1, 1, 1][..],
+        &[0, 0, 0, 0, 0, 0, 0, 0, 1, 0, 3, 0, 0, 0],
+        &[0, 0, 0, 0, 0, 0, 0, 0, 1, 0, 3, 0, 0, 1],
+        &[1, 1, 0, 1, 0, 0],
+    ]
+    .concat();
+    let mut buffer = vec![0; 16_384];
+    let mut night_record = [0; 289];
+    let mut day_record = [0; 289];
+    let mut roster = [0; 1488];
+
+    print("nights", pantheryl::advance_nights(&ward, &mut night_record, 1000, &mut buffer));
+    // The night patterns are the first 48 words of the night record.
+    let nights = std::array::from_fn(|i| night_record[i]);
+    let answer = pantheryl::advance_days(&ward, &nights, &mut day_record, 1000, &mut buffer, &mut roster);
+    print("days", answer);
+    let letters = &roster[..answer[5] as usize];
+    for row in letters.chunks(3) {
+        println!("{}", String::from_utf8_lossy(row));
+    }
+    print("check", pantheryl::check(&ward, letters));
+}
