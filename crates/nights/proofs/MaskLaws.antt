@@ -1,6 +1,6 @@
 -- The masks' meaning: which days bar a row, which are available under it, and when last month's run does not matter.
 use mathlib.Core.Path.{_≡_, refl, sym, ap, ap₂, _∙_, subst}
-use mathlib.Core.Bool.{Bool, true, false, cond, not, _&&_, _||_, and-false, and-comm}
+use mathlib.Core.Bool.{Bool, true, false, cond, not, _&&_, _||_, and-false, and-comm, true≢false}
 use mathlib.Core.List.{List}
 use Prim.Native.Nat.{ℕ, zero, suc, _+_, _-_, _*_, _/_, _^_, _≤_, _<_, suc-le-suc}
 use native.Mathlib.Nat.{add-zero, lt-of-le-of-lt}
@@ -243,6 +243,22 @@ available-where : (b : List ℕ) (p d : ℕ) → (workable b (suc d) && eqb (row
 unfolding availableOn
 available-where b p d = and-comm (workable b (suc d)) (eqb (rowState b p (suc d)) 0)
 
+middle-of : (s t u v : Bool) → (((s || t) || u) || v) ≡ false → (t || u) ≡ false
+middle-of false t false v e = middle t v e
+  where
+    middle : (t v : Bool) → ((t || false) || v) ≡ false → (t || false) ≡ false
+    middle true v e = e
+    middle false v e = refl
+middle-of false true true v e = e
+middle-of false false true v e = e
+middle-of true t u v e = absurd (true≢false e)
+
+or-middle : (s t u v d : ℕ) → has (bitOr (bitOr (bitOr s t) u) v) d ≡ false → has (bitOr t u) d ≡ false
+or-middle s t u v d e =
+    let q : has (bitOr (bitOr (bitOr s t) u) v) d ≡ (((has s d || has t d) || has u d) || has v d)
+    = has-or (bitOr (bitOr s t) u) v d ∙ ap (λ (x : Bool). x || has v d) (has-or (bitOr s t) u d ∙ ap (λ (x : Bool). x || has u d) (has-or s t d)) in
+    has-or t u d ∙ middle-of (has s d) (has t d) (has u d) (has v d) (sym q ∙ e)
+
 -- the days that bar the row, as the code has them
 abbrev barring : ℕ → List ℕ → Row → ℕ
 barring n b x =
@@ -318,6 +334,30 @@ module _ (b : List ℕ) (n p : ℕ) (x : Row) (ok : RowOf b p x) where
       go false false e f = e ∙ sym f
       go false true e f = absurd (eqb-false (barring n b x) 0 e (none-zero 64 (barring n b x) (barring-small small) (barred-not small f)))
 
+  -- one of her N or n days is barred: her marks don't allow the row
+  pub nights-by-sets : n ≤ 31 → (bitOr (bitAnd (x .night) (numberOf (barred b 1) (suc n))) (bitAnd (x .second) (numberOf (barred b 2) (suc n))) ≡ 0 → ⊥) → false ≡ marksAllow b n p
+  nights-by-sets small f = go (marksAllow b n p) refl
+    where
+      starts : ℕ
+      starts = bitAnd (x .night) (numberOf (barred b 1) (suc n))
+
+      seconds : ℕ
+      seconds = bitAnd (x .second) (numberOf (barred b 2) (suc n))
+
+      unbarred : marksAllow b n p ≡ true → (d : ℕ) → d < 64 → has (bitOr starts seconds) d ≡ false
+      unbarred e d l =
+          or-middle (bitAnd ((2 ^ 64 - 1) - bitOr (bitOr (x .night) (x .second)) (x .rest)) (numberOf (barred b 0) (suc n))) starts seconds
+          (bitAnd (x .rest) (numberOf (barred b 3) (suc n))) d (barred-not small e d l)
+
+      fits : bitOr starts seconds < 2 ^ 64
+      fits =
+          or-lt 64 starts seconds (omega (arith, and-le-r (x .night) (numberOf (barred b 1) (suc n)), set-small (barred b 1) n small))
+          (omega (arith, and-le-r (x .second) (numberOf (barred b 2) (suc n)), set-small (barred b 2) n small))
+
+      go : (t : Bool) → marksAllow b n p ≡ t → false ≡ marksAllow b n p
+      go true e = absurd (f (none-zero 64 (bitOr starts seconds) fits (unbarred e)))
+      go false e = sym e
+
   -- ---- the days on which she is available
 
   pub available-by-sets : n ≤ 31 → AvailableDays b n p (bitAnd (numberOf (workable b) (suc n)) ((2 ^ 64 - 1) - bitOr (bitOr (x .night) (x .second)) (x .rest)) / 2)
@@ -353,6 +393,12 @@ module _ (r : Rules) (n p : ℕ) (b : List ℕ) (m : Masks) (is : m ≡ masksOf 
       (bitAnd (x .rest) (m .bars .rest))) 0 ≡ marksAllow b n p
   unfolding masksOf
   masks-allow small x ok = rw (ap (λ (k : Masks). k .bars) is) (marks-by-sets b n p x ok small)
+
+  pub masks-bar : n ≤ 31 → (x : Row) → RowOf b p x → (bitOr (bitAnd (x .night) (m .bars .night)) (bitAnd (x .second) (m .bars .second)) ≡ 0 → ⊥) → false ≡ marksAllow b n p
+  unfolding masksOf
+  masks-bar small x ok f =
+      nights-by-sets b n p x ok small
+      (λ q. f (ap (λ (k : Bars). bitOr (bitAnd (x .night) (k .night)) (bitAnd (x .second) (k .second))) (ap (λ (k : Masks). k .bars) is) ∙ q))
 
   pub masks-available : n ≤ 31 → (x : Row) → RowOf b p x
       → AvailableDays b n p (bitAnd (m .workable) ((2 ^ 64 - 1) - bitOr (bitOr (x .night) (x .second)) (x .rest)) / 2)

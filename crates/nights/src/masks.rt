@@ -196,6 +196,10 @@ fn marks_pass(m: Masks, p: u32) -> bool
     ensures { λ h. ⌜ ((r : Rules) (n : ℕ) (b : List ℕ) → n ≤ 31 → m ≡ masksOf r n b → h ≡ marksAllow b n p) ⌝ }
 {
     let row = row_of(m, p);
+    // Nearly all patterns that are not hers fail here.
+    if (row.night & m.bars.night) | (row.second & m.bars.second) != 0 {
+        return false;
+    }
     let free = !(row.night | row.second | row.rest);
     (free & m.bars.free)
         | (row.night & m.bars.night)

@@ -1,8 +1,6 @@
 //! The roster program on the ward files. The large one is run in release only.
 
-use crate::phase::End;
 use crate::program::run;
-use crate::record::{advance_night, fresh};
 use crate::samples::*;
 
 #[test]
