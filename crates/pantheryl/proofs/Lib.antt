@@ -2,3 +2,4 @@ pub mod CopyLaws
 pub mod WordLaws
 pub mod AnswerLaws
 pub mod BackLaws
+pub mod DemandLaws

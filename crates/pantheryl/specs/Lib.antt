@@ -2,3 +2,4 @@ pub mod Words
 pub mod Answers
 pub mod Walk
 pub mod Back
+pub mod Demand

@@ -178,7 +178,7 @@ module _ (w : List ℕ) (nights : ℕ → ℕ) where
 -- ---- demand 3
 
 -- an advance over a file that reads as w is the search's over w
-advance-read : (phase : List ℕ → Phase) (file w : List ℕ) → readWard file ≡ good w → (λ c r. advanceOver phase (readWard file) c r) ≡ advanceStored (phase w)
+pub advance-read : (phase : List ℕ → Phase) (file w : List ℕ) → readWard file ≡ good w → (λ c r. advanceOver phase (readWard file) c r) ≡ advanceStored (phase w)
 unfolding advanceOver
 advance-read phase file w e = ap (advanceOver phase) e
 

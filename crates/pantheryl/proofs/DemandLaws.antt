@@ -1,0 +1,120 @@
+-- Demand 3 holds through the C interface: a record kept as words goes alike.
+use Prim.Native.Nat.{ℕ, suc, _≤_}
+use mathlib.Core.Path.{_≡_, refl, sym, ap, _∙_, subst}
+use mathlib.Core.List.{List, [], _∷_}
+use mathlib.Core.Option.{Option, none, some}
+use native.Mathlib.Omega.{arith}
+use lib.ListN.{length, replicate, length-take}
+use Rattle.ward.specs.Fields.{Accepted}
+use Rattle.ward.specs.Grammar.{good}
+use Rattle.ward.specs.Answers.{readWard}
+use Rattle.ward.proofs.RoundTrip.{ward-back}
+use Rattle.ward.proofs.BothWaysLaws.{all-bytes}
+use Rattle.ward.proofs.AcceptedLaws.{accepted-ward}
+use Rattle.search.specs.Phase.{Phase, Step, Call, No, Answer, inTurn}
+use Rattle.search.specs.Record.{Record, total, best, stepped, proceed, replyOf}
+use Rattle.search.specs.Claim.{Demand3}
+use Rattle.search.specs.Stored.{view, viewOf, store, allZero, refusalStored, replyStored, advanceStored, Sized, Fits}
+use Rattle.search.specs.declared.Record.{Record as Stored}
+use Rattle.search.proofs.RunLaws.{by-turns}
+use Rattle.search.proofs.StoredLaws.{view-held, store-sized, store-fresh}
+use Rattle.search.proofs.AdvanceLaws.{stored-refused, stored-goes}
+use Rattle.planner.specs.Phases.{nightPhase, dayPhase}
+use Rattle.planner.specs.Advances.{advanceOver, nightOf}
+use Rattle.planner.proofs.PhaseLaws.{night-fits, day-fits}
+use Rattle.planner.proofs.DemandLaws.{advance-read, demand}
+use Rattle.pantheryl.specs.Words.{recordOfWords, wordsOfRecord}
+use Rattle.pantheryl.specs.Answers.{wordsLeft}
+use Rattle.pantheryl.specs.Demand.{byWords, keptWords, WordDemand, WordsDemanded}
+use Rattle.pantheryl.proofs.BackLaws.{read-back}
+
+-- ---- a record handed back has its declared sizes
+
+stepped-few : (tl : ℕ) (s : Step) (R : Record) → tl ≤ 64 → length (stepped tl s R .removals) ≤ 64
+unfolding stepped
+stepped-few tl s R l = omega (arith, length-take tl (record { nurse = suc (s .nurse); pattern = R .slots (s .nurse) } ∷ R .removals))
+
+module _ (P : Phase) (fits : Fits P) where
+  proceed-few : (k : ℕ) (R : Record) → length (R .removals) ≤ 64 → length (proceed P k R .0 .removals) ≤ 64
+  unfolding proceed
+  proceed-few =
+      by-turns (total P) (best P) (stepped (P .tabu)) (λ k s r. length (s .removals) ≤ 64 → length (r .0 .removals) ≤ 64)
+      (λ k s e h. h) (λ s n h. h) (λ k s n b h. h) (λ k s e r n b g h. g (stepped-few (P .tabu) e s (fits .tabu-most)))
+
+  view-few : (r : Stored) → Sized r → length (viewOf P r .removals) ≤ 64
+  view-few r z = omega (arith, view-held (P .nurses) (P .tabu) r z (fits .tabu-most) .count, fits .tabu-most)
+
+  reply-sized : (k : ℕ) (r : Stored) → Sized r → Sized (replyStored P k r .1)
+  unfolding replyStored replyOf
+  reply-sized k r z = store-sized (proceed P k (viewOf P r) .0) (proceed-few k (viewOf P r) (view-few r z))
+
+  advanced-sized : (c : Call) (r : Stored) → Sized r → Sized (advanceStored P c r .1)
+  advanced-sized c r z = go (refusalStored P c r) refl
+    where
+      go : (o : Option No) → refusalStored P c r ≡ o → Sized (advanceStored P c r .1)
+      go none e = subst (λ (x : Answer × Stored). Sized (x .1)) (sym (stored-goes P c r e)) (reply-sized (c .steps) r z)
+      go (some n) e = subst (λ (x : Answer × Stored). Sized (x .1)) (sym (stored-refused P c r n e)) z
+
+  -- ---- the words that an advance leaves are those of the record that it hands back
+
+  reply-left : (k : ℕ) (r : Stored) (before : List ℕ) → wordsLeft (replyStored P k r) before ≡ wordsOfRecord (replyStored P k r .1)
+  unfolding replyStored replyOf wordsLeft
+  reply-left k r before = refl
+
+  words-left : (c : Call) (r : Stored) → wordsLeft (advanceStored P c r) (wordsOfRecord r) ≡ wordsOfRecord (advanceStored P c r .1)
+  unfolding wordsLeft
+  words-left c r = go (refusalStored P c r) refl
+    where
+      go : (o : Option No) → refusalStored P c r ≡ o → wordsLeft (advanceStored P c r) (wordsOfRecord r) ≡ wordsOfRecord (advanceStored P c r .1)
+      go none e = rw (stored-goes P c r e) (reply-left (c .steps) r (wordsOfRecord r))
+      go (some n) e = rw (stored-refused P c r n e)
+
+  one-turn : (c : Call) (r : Stored) → Sized r → byWords (advanceStored P) c (wordsOfRecord r) ≡ (advanceStored P c r .0, wordsOfRecord (advanceStored P c r .1))
+  one-turn c r z =
+      ap (λ (x : Stored). (advanceStored P c x .0, wordsLeft (advanceStored P c x) (wordsOfRecord r))) (read-back .same r z)
+      ∙ ap (λ (l : List ℕ). (advanceStored P c r .0, l)) (words-left c r)
+
+  in-turn : (cs : List Call) (r : Stored) → Sized r
+      → inTurn (byWords (advanceStored P)) cs (wordsOfRecord r) ≡ (inTurn (advanceStored P) cs r .0, wordsOfRecord (inTurn (advanceStored P) cs r .1))
+  in-turn [] r z = refl
+  in-turn (c ∷ cs) r z =
+      ap (λ (x : Answer × List ℕ). (x .0 ∷ inTurn (byWords (advanceStored P)) cs (x .1) .0, inTurn (byWords (advanceStored P)) cs (x .1) .1)) (one-turn c r z)
+      ∙ ap (λ (x : List Answer × List ℕ). (advanceStored P c r .0 ∷ x .0, x .1)) (in-turn cs (advanceStored P c r .1) (advanced-sized c r z))
+
+  fresh-sized : Sized allZero
+  fresh-sized = record { patterns-long = refl; placed-long = refl; removals-long = refl }
+
+  fresh-words : wordsOfRecord allZero ≡ replicate 289 0
+  unfolding wordsOfRecord
+  fresh-words = refl
+
+  -- the claim about stored records is one about their words
+  by-words : (cs : List Call) → Demand3 P allZero (advanceStored P) store cs → Demand3 P (replicate 289 0) (byWords (advanceStored P)) keptWords cs
+  by-words cs d = record {
+    follows = ap (inTurn (byWords (advanceStored P)) cs) (sym fresh-words) ∙ in-turn cs allZero fresh-sized
+        ∙ ap (λ (x : List Answer × Stored). (x .0, wordsOfRecord (x .1))) (d .follows);
+    each = d .each;
+    steps = d .steps;
+    placed = d .placed;
+  }
+
+-- ---- from the file's bytes
+
+module _ (phase : List ℕ → Phase) (file w : List ℕ) (reads : readWard file ≡ good w) (fits : Fits (phase w)) where
+  abbrev advances : Call → Stored → Answer × Stored
+  advances c r = advanceOver phase (readWard file) c r
+
+  from-file : (cs : List Call) → Demand3 (phase w) allZero advances store cs → Demand3 (phase w) (replicate 289 0) (byWords advances) keptWords cs
+  from-file cs d =
+      let same = advance-read phase file w reads in
+      subst (λ (adv : Call → Stored → Answer × Stored). Demand3 (phase w) (replicate 289 0) (byWords adv) keptWords cs) (sym same)
+      (by-words (phase w) fits cs (subst (λ (adv : Call → Stored → Answer × Stored). Demand3 (phase w) allZero adv store cs) same d))
+
+pub words-demand : WordsDemanded
+words-demand file w bytes e =
+    let a = accepted-ward w w (ward-back file w (all-bytes file bytes) e .1) in
+    let d = demand file w bytes e in
+    record {
+      nights = λ has cs. from-file nightPhase file w e (night-fits w a) cs (d .nights has cs);
+      days = λ nights has cs. from-file (λ v. dayPhase v (nightOf nights)) file w e (day-fits w (nightOf nights) a) cs (d .days nights has cs .claim);
+    }
