@@ -3,6 +3,7 @@
 pub mod by_history;
 pub mod calls;
 pub mod case;
+pub mod edges;
 pub mod files;
 pub mod hostile;
 #[cfg(library)]

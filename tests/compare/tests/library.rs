@@ -1,6 +1,7 @@
 //! The proved planner against the reference.
 
 use compare::calls::Calls;
+use compare::edges::{AtEdge, Edge};
 use compare::hostile;
 use compare::naive::Reference;
 use compare::rounds::*;
@@ -120,4 +121,32 @@ fn hostile_calls() {
     let mut trial = Trial::new(&*planner, &Reference);
     hostile::all(&mut trial);
     conclude("Hostile calls", &trial, &[]);
+}
+
+/// Every kind of call with all lent memory at the edge of a page: it must stay within it.
+#[test]
+fn memory_at_page_edges() {
+    let rounds: [(Round, Size, u64); 12] = [
+        (reading, WIDE, 60),
+        (reading, FULL, 1),
+        (writing, WIDE, 60),
+        (writing, FULL, 1),
+        (by_nights, SMALL, 60),
+        (by_nights, WIDE, 60),
+        (by_nights, MONTH, 1),
+        (by_days, SMALL, 60),
+        (by_days, WIDE, 60),
+        (by_days, MONTH, 1),
+        (checking, WIDE, 60),
+        (checking, MONTH, 1),
+    ];
+    let planner = planner();
+    for edge in [Edge::Begin, Edge::End] {
+        let at_edge = AtEdge { planner: &*planner, edge };
+        let mut trial = Trial::new(&at_edge, &Reference);
+        for (round, size, times) in &rounds {
+            run(&mut trial, "Page edges", *round, size, *times);
+        }
+        conclude("Memory at page edges", &trial, &[("check", &["yes", "no"], 50)]);
+    }
 }

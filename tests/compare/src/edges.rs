@@ -1,0 +1,137 @@
+//! Calls on memory that begins right after, or ends right before, a page that may not be touched:
+//! a read or write outside what was lent ends the process.
+
+use crate::calls::*;
+
+extern "C" {
+    fn mmap(at: *mut u8, size: usize, access: i32, flags: i32, file: i32, offset: i64) -> *mut u8;
+    fn mprotect(at: *mut u8, size: usize, access: i32) -> i32;
+    fn munmap(at: *mut u8, size: usize) -> i32;
+}
+
+const NO_ACCESS: i32 = 0;
+const READ_WRITE: i32 = 3;
+const PRIVATE_ANONYMOUS: i32 = 0x22;
+const PAGE: usize = 4096;
+
+/// Which edge of its pages the memory is at.
+#[derive(Clone, Copy)]
+pub enum Edge {
+    Begin,
+    End,
+}
+
+/// Memory between two pages that may not be touched.
+struct Fenced<T> {
+    pages: *mut u8,
+    size: usize,
+    part: *mut T,
+    length: usize,
+}
+
+impl<T: Copy> Fenced<T> {
+    fn holding(content: &[T], edge: Edge) -> Self {
+        let bytes = std::mem::size_of_val(content);
+        let inner = bytes.div_ceil(PAGE) * PAGE;
+        let size = inner + 2 * PAGE;
+        // The fence is made first; only the pages between are opened.
+        let pages =
+            unsafe { mmap(std::ptr::null_mut(), size, NO_ACCESS, PRIVATE_ANONYMOUS, -1, 0) };
+        assert!(!pages.is_null() && pages as isize != -1, "no memory");
+        let first = pages.wrapping_add(PAGE);
+        if inner > 0 {
+            assert_eq!(unsafe { mprotect(first, inner, READ_WRITE) }, 0);
+        }
+        let part = match edge {
+            Edge::Begin => first,
+            Edge::End => first.wrapping_add(inner - bytes),
+        };
+        let mut fenced = Fenced { pages, size, part: part.cast(), length: content.len() };
+        fenced.part().copy_from_slice(content);
+        fenced
+    }
+
+    fn part(&mut self) -> &mut [T] {
+        unsafe { std::slice::from_raw_parts_mut(self.part, self.length) }
+    }
+
+    fn array<const N: usize>(&mut self) -> &mut [T; N] {
+        self.part().try_into().expect("lent with this length")
+    }
+}
+
+impl<T> Drop for Fenced<T> {
+    fn drop(&mut self) {
+        unsafe { munmap(self.pages, self.size) };
+    }
+}
+
+/// The calls of another planner, on copies at an edge.
+pub struct AtEdge<'a> {
+    pub planner: &'a dyn Calls,
+    pub edge: Edge,
+}
+
+impl AtEdge<'_> {
+    fn lend<T: Copy>(&self, content: &[T]) -> Fenced<T> {
+        Fenced::holding(content, self.edge)
+    }
+}
+
+impl Calls for AtEdge<'_> {
+    fn read(&self, file: &[u8], numbers: &mut Numbers, answer: &mut Answer) {
+        let (mut f, mut n, mut a) = (self.lend(file), self.lend(numbers), self.lend(answer));
+        self.planner.read(f.part(), n.array(), a.array());
+        numbers.copy_from_slice(n.part());
+        answer.copy_from_slice(a.part());
+    }
+
+    fn write(&self, numbers: &Numbers, count: u64, buffer: &mut [u8], answer: &mut Answer) {
+        let (mut n, mut b, mut a) = (self.lend(numbers), self.lend(buffer), self.lend(answer));
+        self.planner.write(n.array(), count, b.part(), a.array());
+        buffer.copy_from_slice(b.part());
+        answer.copy_from_slice(a.part());
+    }
+
+    fn advance_nights(
+        &self,
+        file: &[u8],
+        record: &mut Words,
+        k: u32,
+        buffer: &mut [u32],
+        answer: &mut Answer,
+    ) {
+        let (mut f, mut r) = (self.lend(file), self.lend(record));
+        let (mut b, mut a) = (self.lend(buffer), self.lend(answer));
+        self.planner.advance_nights(f.part(), r.array(), k, b.part(), a.array());
+        record.copy_from_slice(r.part());
+        buffer.copy_from_slice(b.part());
+        answer.copy_from_slice(a.part());
+    }
+
+    fn advance_days(
+        &self,
+        file: &[u8],
+        nights: &Nights,
+        record: &mut Words,
+        k: u32,
+        buffer: &mut [u32],
+        roster: &mut Letters,
+        answer: &mut Answer,
+    ) {
+        let (mut f, mut n, mut r) = (self.lend(file), self.lend(nights), self.lend(record));
+        let (mut b, mut l, mut a) = (self.lend(buffer), self.lend(roster), self.lend(answer));
+        let (n, l) = (n.array(), l.array());
+        self.planner.advance_days(f.part(), n, r.array(), k, b.part(), l, a.array());
+        record.copy_from_slice(r.part());
+        buffer.copy_from_slice(b.part());
+        roster.copy_from_slice(l);
+        answer.copy_from_slice(a.part());
+    }
+
+    fn check(&self, file: &[u8], roster: &[u8], answer: &mut Answer) {
+        let (mut f, mut l, mut a) = (self.lend(file), self.lend(roster), self.lend(answer));
+        self.planner.check(f.part(), l.part(), a.array());
+        answer.copy_from_slice(a.part());
+    }
+}
