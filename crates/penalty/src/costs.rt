@@ -1,7 +1,7 @@
 // A nurse's table: what each day costs in each of her three states, from which a trial is a sum.
 use crate::columns::Columns;
 use crate::duty;
-use crate::fields;
+use crate::weights;
 ghost use mathlib.Core.Path.{_≡_};
 ghost use mathlib.Core.Bool.{cond};
 ghost use Prim.Native.Nat.{ℕ, _<_};
@@ -34,8 +34,8 @@ fn night_day(w: &[u64], d: usize, i: usize, night: u64, day: u64) -> Three
 {
     let masks = ward::fields::masks(w);
     let row = ward::fields::needs(w, d);
-    let a = duty::pair_on(fields::weights(w, 0), masks, row, 0, night, i);
-    let b = duty::pair_on(fields::low_weights(w, 1), masks, row, 1, day, i);
+    let a = duty::pair_on(weights::weights(w, 0), masks, row, 0, night, i);
+    let b = duty::pair_on(weights::low_weights(w, 1), masks, row, 1, day, i);
     Three {
         night: a.on + b.off,
         free: a.off + b.on,
@@ -50,7 +50,7 @@ fn day_day(w: &[u64], d: usize, i: usize, day: u64) -> Three
 {
     let masks = ward::fields::masks(w);
     let row = ward::fields::needs(w, d);
-    let b = duty::pair_on(fields::weights(w, 1), masks, row, 1, day, i);
+    let b = duty::pair_on(weights::weights(w, 1), masks, row, 1, day, i);
     Three {
         night: b.off,
         free: b.on,
@@ -69,7 +69,7 @@ pub fn nurse_costs_night(w: &[u64], cols: Columns, i: usize) -> Costs
         free: [0; 33],
         none: [0; 33],
     };
-    let n = fields::days(w);
+    let n = ward::fields::days(w);
     for d in 0..n {
         let t = night_day(w, d, i, cols.night[d], cols.day[d]);
         c.night[d] = t.night;
@@ -90,7 +90,7 @@ pub fn nurse_costs_day(w: &[u64], cols: Columns, i: usize) -> Costs
         free: [0; 33],
         none: [0; 33],
     };
-    let n = fields::days(w);
+    let n = ward::fields::days(w);
     for d in 0..n {
         let t = day_day(w, d, i, cols.day[d]);
         c.night[d] = t.night;

@@ -3,7 +3,7 @@ pub mod chunks;
 pub mod columns;
 pub mod costs;
 mod duty;
-mod fields;
+mod weights;
 
 use columns::Columns;
 use duty::Duty;
@@ -50,8 +50,8 @@ fn night_day(w: &[u64], d: usize, night: u64, day: u64) -> Duty
 {
     let masks = ward::fields::masks(w);
     let row = ward::fields::needs(w, d);
-    let a = duty::on_column(fields::weights(w, 0), masks, row, 0, night);
-    let b = duty::on_column(fields::weights(w, 1), masks, row, 1, day);
+    let a = duty::on_column(weights::weights(w, 0), masks, row, 0, night);
+    let b = duty::on_column(weights::weights(w, 1), masks, row, 1, day);
     Duty {
         short: a.short + b.short,
         over: a.over,
@@ -64,7 +64,7 @@ fn day_day(w: &[u64], d: usize, day: u64) -> Duty
     ensures { λ r. ⌜ DayParts (now (w .entry)) d day r ⌝ }
 {
     duty::on_column(
-        fields::weights(w, 1),
+        weights::weights(w, 1),
         ward::fields::masks(w),
         ward::fields::needs(w, d),
         1,
@@ -81,7 +81,7 @@ pub fn night_parts(w: &[u64], cols: Columns, unplaced: u64) -> Penalty
 {
     let mut short = 0;
     let mut over = 0;
-    let n = fields::days(w);
+    let n = ward::fields::days(w);
     for d in 0..n {
         let t = night_day(w, d, cols.night[d], cols.day[d]);
         short = short + t.short;
@@ -103,7 +103,7 @@ pub fn day_parts(w: &[u64], cols: Columns, unplaced: u64) -> Penalty
 {
     let mut short = 0;
     let mut over = 0;
-    let n = fields::days(w);
+    let n = ward::fields::days(w);
     for d in 0..n {
         let t = day_day(w, d, cols.day[d]);
         short = short + t.short;

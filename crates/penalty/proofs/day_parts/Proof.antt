@@ -44,8 +44,8 @@ loop-again c = day-turn _ _ _ (c .before .before .before .before .before .loop .
 
 returns : tie.Need-returns Inv-loop μ-loop
 returns c = (
-  day-bounded _ _ (c .before .loop .inv) (omega (arith, c .before .before .days .ensures, c .before .before .before .before .pre .0 .days-most)) (c .before .before .before .before .pre .1),
-  day-is _ _ (c .before .before .before .before .pre .0) (c .before .loop .inv) (c .loop-test .left) (c .before .before .days .ensures),
+  day-bounded _ _ (c .before .loop .inv) (omega (arith, c .before .before .days .ensures .0, c .before .before .before .before .pre .0 .days-most)) (c .before .before .before .before .pre .1),
+  day-is _ _ (c .before .before .before .before .pre .0) (c .before .loop .inv) (c .loop-test .left) (c .before .before .days .ensures .0),
 )
 
 pub day-parts-spec : {M : Type 1} → statement M

@@ -50,8 +50,8 @@ loop-again c = night-turn _ _ _ _ (c .before .before .before .before .before .be
 
 returns : tie.Need-returns Inv-loop μ-loop
 returns c = (
-  night-bounded _ _ _ (c .before .loop .inv) (omega (arith, c .before .before .days .ensures, c .before .before .before .before .pre .0 .days-most)) (c .before .before .before .before .pre .1),
-  night-is _ _ (c .before .before .before .before .pre .0) (c .before .loop .inv) (c .loop-test .left) (c .before .before .days .ensures),
+  night-bounded _ _ _ (c .before .loop .inv) (omega (arith, c .before .before .days .ensures .0, c .before .before .before .before .pre .0 .days-most)) (c .before .before .before .before .pre .1),
+  night-is _ _ (c .before .before .before .before .pre .0) (c .before .loop .inv) (c .loop-test .left) (c .before .before .days .ensures .0),
 )
 
 pub night-parts-spec : {M : Type 1} → statement M

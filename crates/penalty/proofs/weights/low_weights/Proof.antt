@@ -1,9 +1,9 @@
--- `fields::low_weights` meets its contract.
+-- `weights::low_weights` meets its contract.
 use borrow.Author.Needs.{needs}
 use mathlib.Core.Path.{ap}
 use Rattle.penalty.specs.Walk.{noHigh}
-use Rattle.penalty.proofs.fields.low_weights.Statement.{statement}
-use Rattle.penalty.proofs.fields.low_weights.Tie as tie
+use Rattle.penalty.proofs.weights.low_weights.Statement.{statement}
+use Rattle.penalty.proofs.weights.low_weights.Tie as tie
 
 weights-requires : tie.Need-weights-requires
 weights-requires c κs = search needs

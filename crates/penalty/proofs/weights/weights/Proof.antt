@@ -1,9 +1,9 @@
--- `fields::weights` meets its contract.
+-- `weights::weights` meets its contract.
 use mathlib.Core.Path.{refl}
 use Rattle.penalty.specs.Walk.{weightsOf}
 use borrow.Author.Needs.{needs}
-use Rattle.penalty.proofs.fields.weights.Statement.{statement}
-use Rattle.penalty.proofs.fields.weights.Tie as tie
+use Rattle.penalty.proofs.weights.weights.Statement.{statement}
+use Rattle.penalty.proofs.weights.weights.Tie as tie
 
 mul-t3 : tie.Need-mul-t3
 mul-t3 c = search needs

@@ -1,16 +1,9 @@
-// The parts of an accepted ward that the penalty reads.
+// The weights of an accepted ward.
 use crate::duty::Weights;
 ghost use mathlib.Core.Path.{_≡_};
 ghost use Prim.Native.Nat.{_<_};
-ghost use Rattle.ward.specs.Fields.{Accepted, days};
+ghost use Rattle.ward.specs.Fields.{Accepted};
 ghost use Rattle.penalty.specs.Walk.{weightsOf, noHigh};
-
-pub fn days(w: &[u64]) -> usize
-    requires { ⌜ Accepted (now w) ⌝ }
-    ensures { λ r. ⌜ r ≡ days (now (w .entry)) ⌝ }
-{
-    w[1] as usize
-}
 
 // The weights of a duty: k is 0 for night and 1 for day.
 pub fn weights(w: &[u64], k: usize) -> Weights
