@@ -1,4 +1,4 @@
-//! The proved planner's speed beside a plain Rust version of the same search.
+//! The proved planner's speed beside plain Rust versions of the same search.
 
 pub mod measure;
 pub mod plain;

@@ -1,4 +1,4 @@
-//! Prints a Markdown table of times. It asserts that both sides answer alike, and no time.
+//! Prints a Markdown table of times. It asserts that all sides answer alike, and no time.
 
 use bench::{measure, subjects};
 

@@ -1,4 +1,4 @@
-//! Times of calls on two sides, in turn, and the table of them.
+//! Times of calls on all sides, in turn, and the table of them.
 
 use crate::plain::Plain;
 use crate::subjects::{Subject, PLACES};
@@ -7,48 +7,53 @@ use compare::case::{make, Case};
 use reference::ward::{padded, parse};
 use std::time::Duration;
 
-/// Both sides are called in turn until one of them has had this time.
+/// All sides are called in turn until one of them has had this time.
 const ENOUGH: Duration = Duration::from_millis(400);
 const FEWEST: usize = 5;
 
-/// The least time of one call on each side. The memory lent is filled before the clock starts.
-fn times(planner: &dyn Calls, case: &Case) -> [Duration; 2] {
-    let mut least = [Duration::MAX; 2];
+/// The least time of one call on each side, in microseconds. The memory lent is filled before the
+/// clock starts.
+fn times<const N: usize>(sides: [&dyn Calls; N], case: &Case) -> [f64; N] {
+    let mut least = [Duration::MAX; N];
     let (mut sum, mut calls) = (Duration::ZERO, 0);
     while sum < ENOUGH || calls < FEWEST {
-        let (left, time) = make(planner, case);
-        let (expected, plain) = make(&Plain, case);
-        assert!(left == expected, "two answers to one call: {case:?}");
-        least = [least[0].min(time), least[1].min(plain)];
-        sum += time.max(plain);
+        let made = sides.map(|side| make(side, case));
+        assert!(made.iter().all(|(left, _)| *left == made[0].0), "other answers: {case:?}");
+        for (least, (_, time)) in least.iter_mut().zip(&made) {
+            *least = (*least).min(*time);
+        }
+        sum += made.iter().map(|(_, time)| *time).max().unwrap_or_default();
         calls += 1;
     }
-    least
+    least.map(|time| time.as_secs_f64() * 1e6)
 }
 
-fn line(ward: &str, what: &str, [planner, plain]: [f64; 2]) {
-    let ratio = planner / plain;
-    println!("| {ward} | {what} | {planner:.2} | {plain:.2} | {ratio:.2} |");
+/// The proved planner's time; then each plain version's, and how many times that it takes.
+fn line(ward: &str, what: &str, times: &[f64]) {
+    print!("| {ward} | {what} | {:.2} |", times[0]);
+    for side in 1..3 {
+        match times.get(side) {
+            Some(plain) => print!(" {plain:.2} | {:.2} |", times[0] / plain),
+            None => print!(" | |"),
+        }
+    }
+    println!();
 }
 
-fn microseconds(times: [Duration; 2]) -> [f64; 2] {
-    times.map(|time| time.as_secs_f64() * 1e6)
-}
-
-/// One call, in microseconds.
-fn call(planner: &dyn Calls, ward: &str, what: &str, case: &Case) -> [f64; 2] {
-    let times = microseconds(times(planner, case));
-    line(ward, what, times);
-    times
+/// A call that has nothing to do with steps.
+fn call(planner: &dyn Calls, ward: &str, what: &str, case: &Case) {
+    line(ward, what, &times([planner, &Plain::ListsKept], case));
 }
 
 /// The lists alone (an advance of no steps), many steps, and one of them.
 fn advance(planner: &dyn Calls, ward: &str, shift: &str, k: u32, case: impl Fn(u32) -> Case) {
-    let lists = call(planner, ward, &format!("{shift} lists"), &case(0));
-    let made = make(&Plain, &case(k)).0.answer()[STEPS];
-    let all = call(planner, ward, &format!("{made} {shift} steps"), &case(k));
-    let step = |side: usize| (all[side] - lists[side]).max(0.0) / made as f64;
-    line(ward, &format!("one {shift} step"), [step(0), step(1)]);
+    let made = make(&Plain::ListsKept, &case(k)).0.answer()[STEPS];
+    let [lists, all] =
+        [0, k].map(|k| times([planner, &Plain::ListsKept, &Plain::SameTables], &case(k)));
+    let one = [0, 1, 2].map(|side| (all[side] - lists[side]).max(0.0) / made as f64);
+    line(ward, &format!("{shift} lists"), &lists);
+    line(ward, &format!("{made} {shift} steps"), &all);
+    line(ward, &format!("one {shift} step"), &one);
 }
 
 fn file(planner: &dyn Calls, ward: &str, file: &[u8]) {
@@ -68,7 +73,7 @@ pub fn subject(planner: &dyn Calls, subject: &Subject) {
         return;
     };
     advance(planner, name, "day", k, |k| subject.by_day(&nights, k));
-    let left = make(&Plain, &subject.by_day(&nights, k)).0;
+    let left = make(&Plain::ListsKept, &subject.by_day(&nights, k)).0;
     if left.answer()[COUNT] > 0 {
         let (file, roster) = (subject.file.clone(), left.roster().to_vec());
         call(planner, name, "check", &Case::Check { file, roster });
@@ -77,5 +82,6 @@ pub fn subject(planner: &dyn Calls, subject: &Subject) {
 
 pub fn head() {
     println!("Least times in microseconds, {PLACES} places in the buffer.\n");
-    println!("| ward | what | proved | plain Rust | ratio |\n|---|---|---|---|---|");
+    println!("| ward | what | proved | plain, lists kept | ratio | plain, same tables | ratio |");
+    println!("|---|---|---|---|---|---|---|");
 }

@@ -88,5 +88,5 @@ fn nights_of(patterns: &[u32]) -> Nights {
 }
 
 fn plain(case: &Case) -> Left {
-    make(&Plain, case).0
+    make(&Plain::ListsKept, case).0
 }

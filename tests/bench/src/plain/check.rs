@@ -2,7 +2,7 @@
 
 use super::days::Open;
 use super::nights::{is_common, Hers};
-use super::search::{Columns, BOTH};
+use super::points::{Columns, BOTH};
 use super::ward::{Nurse, Ward};
 use super::No;
 

@@ -3,25 +3,40 @@
 
 mod check;
 mod days;
+mod kept;
 mod layout;
 mod nights;
+mod points;
 mod record;
+mod same_tables;
 mod search;
 mod ward;
 
 use compare::calls::*;
+use kept::Kept;
 use record::Record;
-use search::{Done, Search};
+use same_tables::SameTables;
+use search::{Done, Phase};
 use ward::Ward;
 
 /// A no: the question's number and its place.
 type No = (u64, u64);
 
-pub struct Plain;
+/// How a step finds its exchange; all else is one code.
+#[derive(Clone, Copy)]
+pub enum Plain {
+    /// over lists of everyone's own patterns, kept for an advance
+    ListsKept,
+    /// by the tables of the proved planner, under the same memory
+    SameTables,
+}
 
 fn refused((question, place): No) -> Answer {
     [question, place, 0, 0, 0, 0]
 }
+
+/// What an advance did, and the list that it leaves in the buffer.
+type Advanced = (Done, Vec<u32>);
 
 /// Question 7.
 fn ask_steps(record: &Words, k: u32) -> Result<(), No> {
@@ -32,35 +47,45 @@ fn ask_steps(record: &Words, k: u32) -> Result<(), No> {
     Ok(())
 }
 
-fn advance_nights(file: &[u8], words: &Words, k: u32, places: usize) -> Result<Done, No> {
-    let ward = Ward::read(file)?;
-    ask_steps(words, k)?;
-    let common = nights::common(&ward, places).ok_or((9, 0))?;
-    let search = Search::by_night(&ward, common);
-    search.advance(Record::of(words), k)
-}
-
-fn advance_days(
-    file: &[u8],
-    nights: &Nights,
-    words: &Words,
-    k: u32,
-    places: usize,
-) -> Result<Done, No> {
-    let ward = Ward::read(file)?;
-    ask_steps(words, k)?;
-    let nights = &nights[..ward.nurses.len()];
-    if !search::nights_at_zero(&ward, nights) {
-        return Err((8, 0));
+impl Plain {
+    fn by_night(self, file: &[u8], words: &Words, k: u32, places: usize) -> Result<Advanced, No> {
+        let ward = Ward::read(file)?;
+        ask_steps(words, k)?;
+        let common = nights::common(&ward, places).ok_or((9, 0))?;
+        self.advance(Phase::by_night(&ward, common), words, k)
     }
-    let lists = days::lists(&ward, nights, places)?;
-    let search = Search::by_day(&ward, nights, lists);
-    search.advance(Record::of(words), k)
+
+    fn by_day(
+        self,
+        file: &[u8],
+        nights: &Nights,
+        words: &Words,
+        k: u32,
+        places: usize,
+    ) -> Result<Advanced, No> {
+        let ward = Ward::read(file)?;
+        ask_steps(words, k)?;
+        let nights = &nights[..ward.nurses.len()];
+        if !search::nights_at_zero(&ward, nights) {
+            return Err((8, 0));
+        }
+        let lists = days::lists(&ward, nights, places)?;
+        self.advance(Phase::by_day(&ward, nights, lists), words, k)
+    }
+
+    fn advance(self, phase: Phase, words: &Words, k: u32) -> Result<Advanced, No> {
+        let record = Record::of(words);
+        let done = match self {
+            Plain::ListsKept => phase.advance(&Kept::of(&phase), record, k),
+            Plain::SameTables => phase.advance(&SameTables(&phase), record, k),
+        }?;
+        Ok((done, phase.list))
+    }
 }
 
 /// Writes what an advance hands back; of a refusal the answer only. The letters given.
 fn hand_back(
-    done: Result<Done, No>,
+    done: Result<Advanced, No>,
     record: &mut Words,
     buffer: &mut [u32],
     answer: &mut Answer,
@@ -70,9 +95,9 @@ fn hand_back(
             *answer = refused(no);
             Vec::new()
         }
-        Ok(done) => {
+        Ok((done, list)) => {
             *record = done.record.words();
-            buffer[..done.buffer.len()].copy_from_slice(&done.buffer);
+            buffer[..list.len()].copy_from_slice(&list);
             let count = done.roster.len() as u64;
             *answer = [0, 0, done.outcome, done.made, done.penalty, count];
             done.roster
@@ -107,7 +132,7 @@ impl Calls for Plain {
         buffer: &mut [u32],
         answer: &mut Answer,
     ) {
-        let done = advance_nights(file, record, k, buffer.len());
+        let done = self.by_night(file, record, k, buffer.len());
         hand_back(done, record, buffer, answer);
     }
 
@@ -121,7 +146,7 @@ impl Calls for Plain {
         roster: &mut Letters,
         answer: &mut Answer,
     ) {
-        let done = advance_days(file, nights, record, k, buffer.len());
+        let done = self.by_day(file, nights, record, k, buffer.len());
         let letters = hand_back(done, record, buffer, answer);
         roster[..letters.len()].copy_from_slice(&letters);
     }

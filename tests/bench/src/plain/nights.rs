@@ -1,6 +1,6 @@
 //! Night patterns: the common list from the last day to the first, and hers by masks.
 
-use super::ward::{Nurse, Ward};
+use super::ward::{Nurse, Row, Ward};
 
 /// Starts of a set of days in order.
 fn starts(pattern: u32) -> impl Iterator<Item = i32> {
@@ -61,34 +61,48 @@ pub struct Hers<'a> {
     never_second: u32,
     never_rest: u32,
     must_start: u32,
+    /// where a start is barred by its own day or by the next one, its n
+    never: u32,
 }
 
 impl<'a> Hers<'a> {
     pub fn of(ward: &'a Ward, nurse: &'a Nurse) -> Self {
         let marks = &nurse.marks;
         let free = marks[0] | marks[6];
+        let never_start = ward.month() & !(free | marks[3]);
+        let never_second = ward.month() & !(free | marks[5]);
         Hers {
             ward,
             nurse,
             before: last_month(nurse),
-            never_start: ward.month() & !(free | marks[3]),
-            never_second: ward.month() & !(free | marks[5]),
+            never_start,
+            never_second,
             never_rest: ward.month() & !(free | marks[1] | marks[5]),
             must_start: marks[3],
+            never: never_start | never_second >> 1,
         }
     }
 
-    /// Whether a pattern of the common list is hers.
+    /// Whether a pattern of the common list is hers. Most that are not fail by the first test.
+    #[inline]
     pub fn takes(&self, pattern: u32) -> bool {
-        let (row, nights) = (self.nurse.row(pattern), pattern.count_ones());
-        let barred = row.starts & self.never_start
+        pattern & self.never == 0
+            && self.must_start & !pattern == 0
+            && self.marks_allow(self.nurse.row(pattern))
+            && self.within_bounds(pattern)
+            && self.keeps_last_month(pattern)
+    }
+
+    fn marks_allow(&self, row: Row) -> bool {
+        row.starts & self.never_start
             | row.seconds & self.never_second
             | row.rests & self.never_rest
-            | self.must_start & !row.starts;
-        barred == 0
-            && nights >= self.nurse.least_nights
-            && nights <= self.nurse.most_nights
-            && self.keeps_last_month(pattern)
+            == 0
+    }
+
+    fn within_bounds(&self, pattern: u32) -> bool {
+        let nights = pattern.count_ones();
+        nights >= self.nurse.least_nights && nights <= self.nurse.most_nights
     }
 
     /// Only starts that lengthen last month's run, and the one after them, are not yet judged.

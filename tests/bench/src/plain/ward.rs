@@ -34,6 +34,11 @@ pub struct Nurse {
     pub most_rests: u32,
     /// days with each mark, day d as bit d - 1
     pub marks: [u32; 7],
+    /// day 1 where day 0 is N, day 1 where it is n
+    after_start: u32,
+    after_second: u32,
+    /// days that she may work where they are open
+    may_work: u32,
     /// her groups, the first as bit 0
     pub groups: u32,
 }
@@ -55,20 +60,14 @@ pub struct Row {
 
 impl Nurse {
     pub fn row(&self, starts: u32) -> Row {
-        let started = u32::from(self.before[6] == 2);
-        let second = u32::from(self.before[6] == 3);
-        let seconds = (starts << 1 | started) & !starts;
-        let rests = (seconds << 1 | second) & !starts;
+        let seconds = (starts << 1 | self.after_start) & !starts;
+        let rests = (seconds << 1 | self.after_second) & !starts;
         Row { starts, seconds, rests }
     }
 
     /// The days of a row on which she is available.
     pub fn available(&self, row: Row) -> u32 {
-        self.may_work() & !(row.starts | row.seconds | row.rests)
-    }
-
-    fn may_work(&self) -> u32 {
-        self.marks[0] | self.marks[2] | self.marks[5]
+        self.may_work & !(row.starts | row.seconds | row.rests)
     }
 }
 
@@ -115,6 +114,9 @@ fn nurse(part: &[u64], i: usize, groups: &[u64]) -> Nurse {
         least_rests: part[9] as u32,
         most_rests: part[10] as u32,
         marks,
+        after_start: u32::from(part[6] == 2),
+        after_second: u32::from(part[6] == 3),
+        may_work: marks[0] | marks[2] | marks[5],
         groups: groups.iter().enumerate().map(member).sum(),
     }
 }
