@@ -228,6 +228,24 @@ fn at_gaps(mut c: Cursor, k: u64) -> Cursor
     c
 }
 
+// Another place, all else as it is.
+fn moved(mut c: Cursor, place: usize) -> Cursor
+    ensures { λ r. ⌜ r ≡ record { place = place; outer = c .outer; inner = c .inner; before = c .before; head = c .head } ⌝ }
+{
+    c.place = place;
+    c
+}
+
+// Another place with new sizes.
+fn sized(mut c: Cursor, m: u64, n: u64, r: u64, edition: u64, place: usize) -> Cursor
+    ensures { λ x. ⌜ x ≡ record { place = place; outer = c .outer; inner = c .inner; before = c .before; head = record { m = m; n = n; r = r; edition = edition } } ⌝ }
+{
+    let h = Head { m, n, r, edition };
+    c.head = h;
+    c.place = place;
+    c
+}
+
 // The place after the number v.
 pub fn step(mut c: Cursor, v: u64) -> Cursor
     ensures { λ r. ⌜ tree r ≡ after (tree c) v ⌝ }
@@ -235,91 +253,31 @@ pub fn step(mut c: Cursor, v: u64) -> Cursor
     let place = c.place;
     let inner = c.inner;
     let outer = c.outer;
-    let m = c.head.m;
-    let n = c.head.n;
-    let r = c.head.r;
-    let edition = c.head.edition;
+    let h = c.head;
     c.before = v;
     match place {
-        0 => {
-            let h = Head {
-                m: v,
-                n: 0,
-                r: 0,
-                edition: 1,
-            };
-            c.head = h;
-            c.place = 1;
-            c
-        }
-        1 => {
-            let h = Head {
-                m,
-                n: v,
-                r,
-                edition,
-            };
-            c.head = h;
-            c.place = 2;
-            c
-        }
-        2 => {
-            let h = Head {
-                m,
-                n,
-                r: v,
-                edition,
-            };
-            c.head = h;
-            c.place = 3;
-            c
-        }
-        3 => {
-            c.place = 4;
-            c
-        }
+        0 => sized(c, v, 0, 0, 1, 1),
+        1 => sized(c, h.m, v, h.r, h.edition, 2),
+        2 => sized(c, h.m, h.n, v, h.edition, 3),
+        3 => moved(c, 4),
         4 => at_gaps(c, 3),
         5 => at_gaps(c, inner),
-        6 => {
-            c.place = 7;
-            c
-        }
+        6 => moved(c, 7),
         7 => at_weights(c, 6),
         8 => at_weights(c, inner),
         9 => at_duties(c, 6),
         10 => at_duties(c, inner),
-        11 => {
-            c.place = 12;
-            c
-        }
-        12 => {
-            c.place = 13;
-            c
-        }
-        13 => {
-            c.place = 14;
-            c
-        }
-        14 => at_marks(c, n),
+        11 => moved(c, 12),
+        12 => moved(c, 13),
+        13 => moved(c, 14),
+        14 => at_marks(c, h.n),
         15 => at_marks(c, inner),
         16 => at_groups(c, outer),
-        17 => {
-            c.place = 18;
-            c
-        }
-        18 => at_bounds(c, r),
-        19 => {
-            c.place = 20;
-            c
-        }
-        20 => {
-            c.place = 21;
-            c
-        }
-        21 => {
-            c.place = 22;
-            c
-        }
+        17 => moved(c, 18),
+        18 => at_bounds(c, h.r),
+        19 => moved(c, 20),
+        20 => moved(c, 21),
+        21 => moved(c, 22),
         22 => at_bounds(c, inner),
         _ => c,
     }
