@@ -17,7 +17,7 @@ use Rattle.search.specs.declared.Record.{Record as Stored}
 use Rattle.search.specs.Phase.{Call, No, Answer, refused, ended, End, End·zero, End·asked, End·none, given}
 use Rattle.search.specs.Record.{replyOf}
 use Rattle.search.specs.Stored.{replyStored, advanceStored, refusalStored}
-use Rattle.planner.specs.Phases.{nightPhase}
+use Rattle.phases.specs.Phases.{nightPhase}
 use Rattle.planner.specs.Advances.{advanceOver, advanceNights, advanceDays}
 use Rattle.planner.specs.Outcomes.{outcomeOf, advanceOf, rosterOf, dayAdvanceOf, callOf, nightLeft, dayLeft}
 use Rattle.rosters.specs.declared.written.Roster.{Roster}

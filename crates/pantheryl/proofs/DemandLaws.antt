@@ -19,9 +19,10 @@ use Rattle.search.specs.declared.Record.{Record as Stored}
 use Rattle.search.proofs.RunLaws.{by-turns}
 use Rattle.search.proofs.StoredLaws.{view-held, store-sized, store-fresh}
 use Rattle.search.proofs.AdvanceLaws.{stored-refused, stored-goes}
-use Rattle.planner.specs.Phases.{nightPhase, dayPhase}
-use Rattle.planner.specs.Advances.{advanceOver, nightOf}
-use Rattle.planner.proofs.PhaseLaws.{night-fits, day-fits}
+use Rattle.phases.specs.Phases.{nightPhase, dayPhase}
+use Rattle.planner.specs.Advances.{advanceOver}
+use Rattle.phases.specs.Phases.{nightOf}
+use Rattle.phases.proofs.PhaseLaws.{night-fits, day-fits}
 use Rattle.planner.proofs.DemandLaws.{advance-read, demand}
 use Rattle.pantheryl.specs.Words.{recordOfWords, wordsOfRecord}
 use Rattle.pantheryl.specs.Answers.{wordsLeft}

@@ -10,8 +10,9 @@ use Rattle.search.specs.Record.{Record}
 use Rattle.search.specs.Claim.{Demand3}
 use Rattle.search.specs.Stored.{store}
 use Rattle.search.specs.declared.Record.{Record as Stored}
-use Rattle.planner.specs.Phases.{nightPhase, dayPhase}
-use Rattle.planner.specs.Advances.{nightOf, advanceNights, advanceDays}
+use Rattle.phases.specs.Phases.{nightPhase, dayPhase}
+use Rattle.planner.specs.Advances.{advanceNights, advanceDays}
+use Rattle.phases.specs.Phases.{nightOf}
 use Rattle.planner.specs.Demand.{NightPatterns, DayPatterns}
 use Rattle.pantheryl.specs.Words.{recordOfWords, wordsOfRecord}
 use Rattle.pantheryl.specs.Answers.{wordsLeft}

@@ -28,8 +28,8 @@ use Rattle.search.specs.Seek.{Seeks, Lists, answerWith, answerOf}
 use Rattle.search.proofs.AdvanceLaws.{stored-refused, stored-goes, asks-seven, asks-room, asks-lacking, asks-sound, asks-none}
 use Rattle.planner.specs.declared.Advance.{Advance}
 use Rattle.planner.specs.declared.Outcome.the-variants as outcome
-use Rattle.planner.specs.Phases.{nightPhase, commonFits}
-use Rattle.planner.specs.Asked.{phaseOf, lackedAt}
+use Rattle.phases.specs.Phases.{nightPhase, commonFits}
+use Rattle.phases.specs.Asked.{phaseOf, lackedAt}
 use Rattle.ward.specs.Grammar.{good, bad}
 use Rattle.ward.specs.Answers.{readWard}
 use Rattle.planner.specs.Advances.{advanceOver, advanceNights}

@@ -34,9 +34,10 @@ use Rattle.rosters.specs.declared.written.Roster.{Roster}
 use Rattle.rosters.proofs.GivenLaws.{letters-length}
 use Rattle.planner.specs.declared.DayAdvance.{DayAdvance}
 use Rattle.planner.specs.declared.Outcome.the-variants as outcome
-use Rattle.planner.specs.Phases.{nightsOpen, listsFit, dayListOver, dayPhase}
-use Rattle.planner.specs.Advances.{nightOf, advanceOver, advanceDays}
-use Rattle.planner.specs.Asked.{phaseOf, lackedAt, beforeLists, afterLists, EndsOf, UnplacedZero}
+use Rattle.phases.specs.Phases.{nightsOpen, listsFit, dayListOver, dayPhase}
+use Rattle.planner.specs.Advances.{advanceOver, advanceDays}
+use Rattle.phases.specs.Phases.{nightOf}
+use Rattle.phases.specs.Asked.{phaseOf, lackedAt, beforeLists, afterLists, EndsOf, UnplacedZero}
 use Rattle.planner.specs.Outcomes.{rosterOf, dayAdvanceOf, leftBy, callOf, dayLeft}
 use Rattle.planner.proofs.AdvanceLaws.{first-none, unless-none, list-front}
 

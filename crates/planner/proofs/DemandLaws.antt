@@ -31,11 +31,12 @@ use Rattle.search.proofs.DemandLaws.{zero≢asked}
 use Rattle.search.proofs.AdvanceLaws.{demand3-stored}
 use Rattle.rosters.specs.Check.{misplaced, holds}
 use Rattle.rosters.proofs.GivenLaws.{duty-alike, members-alike, Patterns, placedAll, given-at-zero}
-use Rattle.planner.specs.Phases.{nightPhase, nightsOpen, listsFit, dayListOver, dayPhase}
-use Rattle.planner.specs.Advances.{advanceOver, nightOf, advanceDays}
+use Rattle.phases.specs.Phases.{nightPhase, nightsOpen, listsFit, dayListOver, dayPhase}
+use Rattle.planner.specs.Advances.{advanceOver, advanceDays}
+use Rattle.phases.specs.Phases.{nightOf}
 use Rattle.planner.specs.Answers.{said, checkLetters, checkOver, checkSays}
 use Rattle.planner.specs.Demand.{NightPatterns, DayPatterns, Rightly, Each, NightDemand, DayDemand, Demanded}
-use Rattle.planner.proofs.PhaseLaws.{night-fits, night-lawful, day-fits, day-lawful}
+use Rattle.phases.proofs.PhaseLaws.{night-fits, night-lawful, day-fits, day-lawful}
 
 -- ---- each pattern in use is one of hers
 

@@ -14,8 +14,8 @@ use Rattle.days.specs.Lists.{upTo, Counted}
 use Rattle.days.proofs.ListsLaws.{up-mono, stretch-is}
 use Rattle.search.specs.Phase.{unless}
 use Rattle.search.specs.Seek.{Lists, Seeks}
-use Rattle.planner.specs.Phases.{commonFits, nightPhase, nightsOpen, listsFit, dayListOver, dayPhase}
-use Rattle.planner.proofs.PhaseLaws.{night-ascending, day-ascending}
+use Rattle.phases.specs.Phases.{commonFits, nightPhase, nightsOpen, listsFit, dayListOver, dayPhase}
+use Rattle.phases.proofs.PhaseLaws.{night-ascending, day-ascending}
 
 -- ---- nights: the common list, counted up to one more than the places
 

@@ -13,8 +13,9 @@ use Rattle.nights.specs.Hers.{nightList}
 use Rattle.search.specs.Phase.{Call, Answer, refused, ended, End·zero, End·asked, End·none, inTurn}
 use Rattle.search.specs.Claim.{Demand3}
 use Rattle.search.specs.Stored.{allZero, store}
-use Rattle.planner.specs.Phases.{nightPhase, dayPhase, dayListOver}
-use Rattle.planner.specs.Advances.{advanceNights, nightOf, advanceDays}
+use Rattle.phases.specs.Phases.{nightPhase, dayPhase, dayListOver}
+use Rattle.planner.specs.Advances.{advanceNights, advanceDays}
+use Rattle.phases.specs.Phases.{nightOf}
 use Rattle.planner.specs.Answers.{said, checkSays}
 
 -- by night, every nurse has a pattern

@@ -16,8 +16,8 @@ use Rattle.planner.specs.declared.Outcome.{Outcome}
 use Rattle.planner.specs.declared.Outcome.the-variants.{Refused, Zero, Asked, Stuck}
 use Rattle.planner.specs.declared.Advance.{Advance}
 use Rattle.planner.specs.declared.DayAdvance.{DayAdvance}
-use Rattle.planner.specs.declared.questions.Question.{Question}
-use Rattle.planner.specs.declared.questions.Question.the-variants as variants
+use Rattle.phases.specs.declared.questions.Question.{Question}
+use Rattle.phases.specs.declared.questions.Question.the-variants as variants
 
 -- the end of an advance as the outcome says it
 abbrev pub outcomeOf : End → Outcome

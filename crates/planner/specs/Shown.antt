@@ -19,7 +19,7 @@ use Rattle.penalty.specs.Penalty.{onDuty, members, shortOn, overOn, unplacedIn,
 use Rattle.rosters.specs.Letters.{letters, rowLettersOf, letter}
 use Rattle.search.specs.Phase.{Step, Call, Answer, refused, ended, End·zero, End·asked, run, refusal, given}
 use Rattle.search.specs.History.{History, penalty, allowed, next, extend, reply, advance, answers, history}
-use Rattle.planner.specs.Phases.{nightPhase, dayPhase, nightsOpen, commonFits, listsFit}
+use Rattle.phases.specs.Phases.{nightPhase, dayPhase, nightsOpen, commonFits, listsFit}
 
 abbrev call : ℕ → ℕ → Call
 call k n = record { steps = k; places = n }

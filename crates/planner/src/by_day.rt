@@ -1,10 +1,10 @@
 // The day advance on a ward that was read.
 use crate::DayAdvance;
 use crate::Outcome;
-use crate::opening;
-use crate::questions;
-use crate::questions::Question;
 use days::lists::Ends;
+use phases::opening;
+use phases::questions;
+use phases::questions::Question;
 use rosters::written::Roster;
 use search::Advanced;
 use search::Ending;
@@ -22,9 +22,9 @@ ghost use Rattle.search.specs.Phase.{refused};
 ghost use Rattle.search.specs.Record.{lacking};
 ghost use Rattle.search.specs.Stored.{advanceStored};
 ghost use Rattle.search.specs.Seek.{answerOf};
-ghost use Rattle.planner.specs.Phases.{dayPhase};
-ghost use Rattle.planner.specs.Advances.{nightOf};
-ghost use Rattle.planner.specs.Asked.{lackedAt, beforeLists, afterLists, EndsOf, UnplacedZero};
+ghost use Rattle.phases.specs.Phases.{dayPhase};
+ghost use Rattle.phases.specs.Phases.{nightOf};
+ghost use Rattle.phases.specs.Asked.{lackedAt, beforeLists, afterLists, EndsOf, UnplacedZero};
 ghost use Rattle.planner.specs.Outcomes.{dayAdvanceOf, rosterOf, leftBy, callOf, noOf};
 
 fn no_roster() -> Roster

@@ -1,8 +1,8 @@
 // The night advance on a ward that was read.
 use crate::Advance;
 use crate::Outcome;
-use crate::questions;
-use crate::questions::Question;
+use phases::questions;
+use phases::questions::Question;
 use search::Advanced;
 use search::Ending;
 use search::Record;
@@ -15,7 +15,7 @@ ghost use Rattle.nights.specs.Nights.{commonOf};
 ghost use Rattle.search.specs.Phase.{Phase, refused};
 ghost use Rattle.search.specs.Stored.{refusalStored, advanceStored};
 ghost use Rattle.search.specs.Seek.{answerOf};
-ghost use Rattle.planner.specs.Phases.{nightPhase};
+ghost use Rattle.phases.specs.Phases.{nightPhase};
 ghost use Rattle.planner.specs.Outcomes.{advanceOf, leftBy, callOf, noOf};
 
 // A refusal: the record as it was, and all else 0.

@@ -1,8 +1,6 @@
 // The published calls.
 mod by_day;
 mod by_night;
-mod opening;
-mod questions;
 
 use rosters::letters::Place;
 use ward::Answer;

@@ -2,8 +2,8 @@
 use mathlib.Core.Path.{_≡_, sym, ap, _∙_}
 use Rattle.ward.specs.Fields.{nurses}
 use Rattle.days.specs.Lists.{upTo}
-use Rattle.planner.specs.Phases.{dayListOver, dayPhase}
-use Rattle.planner.specs.Advances.{nightOf}
+use Rattle.phases.specs.Phases.{dayListOver, dayPhase}
+use Rattle.phases.specs.Phases.{nightOf}
 use Rattle.planner.specs.Outcomes.{dayAdvanceOf, noOf}
 use Rattle.planner.proofs.AdvanceLaws.{told-refused}
 use Rattle.planner.proofs.DayLaws.{two-before}

@@ -6,8 +6,8 @@ use mathlib.Core.List.{List}
 use native.Mathlib.Omega.{arith}
 use Rattle.numbers.specs.Range.{upFrom}
 use Rattle.search.specs.Record.{lacking}
-use Rattle.planner.specs.Asked.{EndsOf}
-use Rattle.planner.proofs.QuestionLaws.{lacking-begin, lacking-more, lacking-stop, lacking-end}
+use Rattle.phases.specs.Asked.{EndsOf}
+use Rattle.phases.proofs.QuestionLaws.{lacking-begin, lacking-more, lacking-stop, lacking-end}
 use Rattle.planner.proofs.DayLaws.{stretch-some, stretch-none}
 use Rattle.planner.proofs.by_day.first_without.Statement.{statement}
 use Rattle.planner.proofs.by_day.first_without.Tie as tie

@@ -1,7 +1,7 @@
 -- `by_day::next_no` meets its contract: questions 9, 10 and 11.
 use mathlib.Core.Path.{_≡_, _∙_}
 use borrow.Author.Tests.{not-true, not-false}
-use Rattle.planner.proofs.QuestionLaws.{phase-day}
+use Rattle.phases.proofs.QuestionLaws.{phase-day}
 use Rattle.planner.proofs.DayLaws.{after-nine, ends-of, after-ten, after-eleven, after-none, day-sound}
 use borrow.Author.Needs.{needs}
 use Rattle.planner.proofs.by_day.next_no.Statement.{statement}

@@ -4,8 +4,8 @@ use mathlib.Core.List.{[]}
 use lib.Seq.{length-take-le}
 use Rattle.ward.specs.Fields.{nurses}
 use Rattle.days.specs.Lists.{upTo, dayLists}
-use Rattle.planner.specs.Phases.{dayListOver, dayPhase}
-use Rattle.planner.specs.Advances.{nightOf}
+use Rattle.phases.specs.Phases.{dayListOver, dayPhase}
+use Rattle.phases.specs.Phases.{nightOf}
 use Rattle.planner.specs.Outcomes.{dayAdvanceOf, noOf}
 use Rattle.planner.proofs.RoomLaws.{day-lists, day-seeks}
 use Rattle.planner.proofs.AdvanceLaws.{front-fits, told-refused, told-advanced}

@@ -4,7 +4,7 @@ use Rattle.planner.proofs.AdvanceLaws.{list-room, filled-fits}
 use mathlib.Core.Path.{_≡_, sym, _∙_, ap}
 use native.Mathlib.Omega.{arith}
 use Rattle.nights.proofs.AcceptedLaws.{rules-small}
-use Rattle.planner.specs.Phases.{nightPhase}
+use Rattle.phases.specs.Phases.{nightPhase}
 use Rattle.planner.specs.Outcomes.{noOf}
 use Rattle.planner.proofs.RoomLaws.{night-lists, night-seeks}
 use Rattle.planner.proofs.AdvanceLaws.{clear, filled-front, refusal-told, advance-told}

@@ -10,9 +10,9 @@ use Rattle.planner.proofs.by_night.first_no.Reads as reads
 use Rattle.planner.proofs.by_night.first_no.Lts as lts
 use Rattle.nights.proofs.common.common_count.Reads as common-count-reads
 use Rattle.nights.proofs.rules_of.Reads as rules-of-reads
-use Rattle.planner.proofs.questions.first_without_nights.Reads as first-without-nights-reads
-use Rattle.planner.proofs.questions.record_sound.Reads as record-sound-reads
-use Rattle.planner.proofs.questions.steps_allowed.Reads as steps-allowed-reads
+use Rattle.phases.proofs.questions.first_without_nights.Reads as first-without-nights-reads
+use Rattle.phases.proofs.questions.record_sound.Reads as record-sound-reads
+use Rattle.phases.proofs.questions.steps_allowed.Reads as steps-allowed-reads
 use Rattle.ward.proofs.fields.nurses.Reads as nurses-reads
 
 -- src/by_night.rt:71:9

@@ -1,0 +1,3 @@
+pub mod PhaseLaws
+pub mod QuestionLaws
+pub mod OpeningLaws

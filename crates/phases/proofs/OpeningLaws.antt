@@ -1,0 +1,32 @@
+-- Question 8 by the record in which everyone has her night pattern.
+use Prim.Native.Nat.{ℕ, _<_}
+use mathlib.Core.Path.{_≡_, sym, ap, ap₂, _∙_}
+use mathlib.Core.Bool.{Bool, true, false}
+use mathlib.Core.List.{List}
+use mathlib.Core.Option.{some}
+use native.Mathlib.Omega.{arith}
+use lib.Dec.{eqb}
+use lib.ListN.{getD, replicate, getD-replicate}
+use Rattle.numbers.specs.Range.{upFrom, all}
+use Rattle.ward.specs.Fields.{Accepted, nurses}
+use Rattle.nights.specs.Hers.{hersOf}
+use Rattle.penalty.specs.Penalty.{Slot, nightPenalty}
+use Rattle.search.specs.Stored.{slot}
+use Rattle.search.specs.Seek.{Agree}
+use Rattle.search.specs.declared.Record.{Record as Stored}
+use Rattle.phases.specs.Phases.{nightsOpen}
+use Rattle.phases.specs.Phases.{nightOf}
+
+pub everyone-placed : (w nights : List ℕ) (r : Stored) → Accepted w → r .placed ≡ replicate 48 true → r .patterns ≡ nights → Agree w r (λ i. some (nightOf nights i))
+unfolding Agree
+everyone-placed w nights r a e q i h =
+    sym (ap₂ (λ (b : Bool) (p : ℕ). slot b p) (ap (λ (l : List Bool). getD l i false) e ∙ getD-replicate 48 i true false (omega (arith, a .nurses-most))) (ap (λ (l : List ℕ). getD l i 0) q))
+
+module _ (w nights : List ℕ) {b : Bool} (e : b ≡ all (λ i. hersOf w i (nightOf nights i)) (upFrom 0 (nurses w))) where
+  pub opens-at-zero : {p : ℕ} → b ≡ true → p ≡ nightPenalty w (λ i. some (nightOf nights i)) → eqb p 0 ≡ nightsOpen w (nightOf nights)
+  unfolding nightsOpen
+  opens-at-zero f q = rw (← e, f, q)
+
+  pub stays-shut : b ≡ false → false ≡ nightsOpen w (nightOf nights)
+  unfolding nightsOpen
+  stays-shut f = rw (← e, f)

@@ -1,0 +1,55 @@
+-- Nights and days are phases of which demand 3 is proved: the places fit, the lists ascend, and the unplaced cost a flat 10,000,000 beside a rest below it.
+use Prim.Native.Nat.{ℕ, _^_, _<_}
+use mathlib.Core.Logic.{_≢_}
+use mathlib.Core.List.{List, []}
+use Rattle.numbers.specs.Range.{Ascending}
+use Rattle.numbers.proofs.RangeLaws.{keep-ascending}
+use Rattle.ward.specs.Fields.{Accepted, nurses, days}
+use Rattle.nights.specs.Hers.{nightList}
+use Rattle.nights.proofs.ListLaws.{list-ascending}
+use Rattle.days.specs.Days.{dayRuleOf, dayList}
+use Rattle.penalty.specs.Penalty.{rest, nightParts, dayParts, unplacedIn}
+use Rattle.penalty.proofs.BoundLaws.{night-split, day-split}
+use Rattle.search.specs.Claim.{Lawful}
+use Rattle.search.specs.Stored.{Fits}
+use Rattle.phases.specs.Phases.{nightPhase, dayPhase, dayListOver}
+
+-- ---- nights
+
+module _ (w : List ℕ) where
+  pub night-fits : Accepted w → Fits (nightPhase w)
+  unfolding nightPhase
+  night-fits a = record { nurses-most = a .nurses-most; tabu-most = a .tabu-most }
+
+  pub night-ascending : (i : ℕ) → i < nightPhase w .nurses → Ascending (nightPhase w .patterns i)
+  unfolding nightPhase
+  night-ascending i h = list-ascending w i
+
+  pub night-lawful : Accepted w → ((i : ℕ) → i < nurses w → nightList w i ≢ []) → Lawful (nightPhase w)
+  unfolding nightPhase unplacedIn
+  night-lawful a has = record {
+    some-pattern = has;
+    rest = λ slots. rest (nightParts w slots);
+    rest-below = λ slots. night-split w slots a .1;
+    flat = λ slots. night-split w slots a .0;
+  }
+
+-- ---- days
+
+module _ (w : List ℕ) (nights : ℕ → ℕ) where
+  pub day-fits : Accepted w → Fits (dayPhase w nights)
+  unfolding dayPhase
+  day-fits a = record { nurses-most = a .nurses-most; tabu-most = a .tabu-most }
+
+  pub day-ascending : (i : ℕ) → i < dayPhase w nights .nurses → Ascending (dayPhase w nights .patterns i)
+  unfolding dayPhase dayList
+  day-ascending i h = keep-ascending (dayRuleOf w i (nights i)) 0 (2 ^ days w)
+
+  pub day-lawful : Accepted w → ((i : ℕ) → i < nurses w → dayListOver w nights i ≢ []) → Lawful (dayPhase w nights)
+  unfolding dayPhase unplacedIn
+  day-lawful a has = record {
+    some-pattern = has;
+    rest = λ slots. rest (dayParts w slots);
+    rest-below = λ slots. day-split w slots a .1;
+    flat = λ slots. day-split w slots a .0;
+  }

@@ -1,0 +1,34 @@
+-- `questions::is_own` meets its contract, by those of the tests of one pattern.
+use Rattle.phases.proofs.QuestionLaws.{own-night, own-day}
+use borrow.Author.Needs.{needs}
+use Rattle.phases.proofs.questions.is_own.Statement.{statement}
+use Rattle.phases.proofs.questions.is_own.Tie as tie
+
+mul-is-day-pattern : tie.Need-mul-is-day-pattern
+mul-is-day-pattern c = search needs
+
+element-copy-out-is-day-pattern : tie.Need-element-copy-out-is-day-pattern
+element-copy-out-is-day-pattern c = search needs
+
+is-day-pattern-requires : tie.Need-is-day-pattern-requires
+is-day-pattern-requires c κs = search needs
+
+returns : tie.Need-returns
+returns c = own-day _ _ _ _ (c .before .before .if1 .taken) (c .is-day-pattern .ensures)
+
+is-hers-requires : tie.Need-is-hers-requires
+is-hers-requires c κs = search needs
+
+returns-2 : tie.Need-returns-2
+returns-2 c = own-night _ _ _ _ (c .before .if1 .left) (c .is-hers .ensures)
+
+pub is-own-spec : {M : Type 1} → statement M
+is-own-spec =
+    tie.close
+    (tie.spec
+    mul-is-day-pattern
+    element-copy-out-is-day-pattern
+    is-day-pattern-requires
+    returns
+    is-hers-requires
+    returns-2)

@@ -1,0 +1,70 @@
+-- `questions::slots_own` meets its contract. The loop's invariant: the nurses from i on decide.
+use borrow.Author.Needs.{needs}
+use Prim.Native.Nat.{_≤_, _-_}
+use mathlib.Core.Path.{_≡_, sym, _∙_}
+use native.Mathlib.Omega.{arith}
+use Rattle.numbers.specs.Range.{upFrom, all}
+use Rattle.numbers.proofs.RangeLaws.{all-more, all-stop, all-end}
+use Rattle.search.specs.Record.{hers}
+use Rattle.search.specs.Stored.{slotAt}
+use Rattle.phases.specs.Asked.{phaseOf}
+use Rattle.phases.proofs.QuestionLaws.{nurses-begin}
+use Rattle.phases.proofs.questions.slots_own.Statement.{statement}
+use Rattle.phases.proofs.questions.slots_own.Tie as tie
+
+abbrev Inv-loop : tie.InvT-loop
+Inv-loop w nights daily rec m i₀ i = (i ≤ m) × (all (λ k. hers (phaseOf daily w nights) k (slotAt rec k)) (upFrom 0 (phaseOf daily w nights .nurses)) ≡ all (λ k. hers (phaseOf daily w nights) k (slotAt rec k)) (upFrom i (m - i)))
+
+abbrev μ-loop : tie.MeasureT-loop
+μ-loop w nights daily rec m i₀ i = m - i
+
+nurses-requires : tie.Need-nurses-requires Inv-loop μ-loop
+nurses-requires c κs = search needs
+
+loop-holds : tie.Need-loop-holds Inv-loop μ-loop
+loop-holds c = (omega arith, nurses-begin _ _ _ _ (c .nurses .ensures .0))
+
+element-copy-out-slot-own : tie.Need-element-copy-out-slot-own Inv-loop μ-loop
+element-copy-out-slot-own c = search needs
+
+mul-slot-own : tie.Need-mul-slot-own Inv-loop μ-loop
+mul-slot-own c = search needs
+
+element-copy-out-slot-own-2 : tie.Need-element-copy-out-slot-own-2 Inv-loop μ-loop
+element-copy-out-slot-own-2 c = search needs
+
+slot-own-requires : tie.Need-slot-own-requires Inv-loop μ-loop
+slot-own-requires c κs = search needs
+
+add-i : tie.Need-add-i Inv-loop μ-loop
+add-i c = search needs
+
+loop-less : tie.Need-loop-less Inv-loop μ-loop
+loop-less c = search needs
+
+loop-again : tie.Need-loop-again Inv-loop μ-loop
+loop-again c = (omega arith, all-more _ _ _ (c .before .before .before .before .before .loop .inv .1) (c .before .before .before .before .loop-test .taken) (sym (c .before .slot-own .ensures) ∙ c .if1 .taken))
+
+returns : tie.Need-returns Inv-loop μ-loop
+returns c = all-stop _ _ _ (c .before .before .before .before .before .loop .inv .1) (c .before .before .before .before .loop-test .taken) (sym (c .before .slot-own .ensures) ∙ c .if1 .left)
+
+returns-2 : tie.Need-returns-2 Inv-loop μ-loop
+returns-2 c = all-end _ _ _ (c .before .loop .inv .1) (c .loop-test .left)
+
+pub slots-own-spec : {M : Type 1} → statement M
+slots-own-spec =
+    tie.close
+    (tie.spec
+    Inv-loop
+    μ-loop
+    nurses-requires
+    loop-holds
+    element-copy-out-slot-own
+    mul-slot-own
+    element-copy-out-slot-own-2
+    slot-own-requires
+    add-i
+    loop-less
+    loop-again
+    returns
+    returns-2)

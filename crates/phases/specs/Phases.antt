@@ -1,0 +1,63 @@
+-- Nights are one phase of the search; days over one choice of nights another.
+use mathlib.Core.Bool.{Bool, _&&_}
+use mathlib.Core.List.{List, []}
+use mathlib.Core.Option.{Option, some}
+use Prim.Native.Nat.{ℕ, suc}
+use lib.Dec.{leb, eqb}
+use lib.ListN.{length, getD}
+use Rattle.numbers.specs.Range.{upFrom, all}
+use Rattle.ward.specs.Fields.{nurses, tabu}
+use Rattle.nights.specs.Nights.{commonOf}
+use Rattle.nights.specs.Hers.{hersOf, nightList}
+use Rattle.days.specs.Days.{dayList}
+use Rattle.days.specs.Lists.{firstOver}
+use Rattle.penalty.specs.Penalty.{nightPenalty, dayPenalty}
+use Rattle.search.specs.Phase.{Phase, No, first, unless}
+use Rattle.search.specs.Stored.{patternOf}
+use Rattle.rosters.specs.Letters.{letters}
+
+-- ---- nights
+
+-- question 9: does the buffer hold the common list?
+unfoldable pub commonFits : List ℕ → ℕ → Option No
+commonFits w places = unless (leb (length (commonOf w)) places) 9 0
+
+unfoldable pub nightPhase : List ℕ → Phase
+nightPhase w =
+    record {
+      nurses = nurses w;
+      tabu = tabu w;
+      patterns = nightList w;
+      cost = nightPenalty w;
+      letters = λ slots. [];
+      room = commonFits w;
+    }
+
+-- ---- days over one choice of nights: nurse i's night pattern is nights i
+
+-- nurse i's night pattern among those handed in
+abbrev pub nightOf : List ℕ → ℕ → ℕ
+nightOf nights i = getD nights i 0
+
+-- question 8: is each night pattern hers, at night penalty 0?
+unfoldable pub nightsOpen : List ℕ → (ℕ → ℕ) → Bool
+nightsOpen w nights = all (λ i. hersOf w i (nights i)) (upFrom 0 (nurses w)) && eqb (nightPenalty w (λ i. some (nights i))) 0
+
+-- question 9: does the buffer hold the lists, each after the one before? The place is the first nurse who doesn't fit
+unfoldable pub listsFit : (ℕ → List ℕ) → ℕ → ℕ → Option No
+listsFit lists m places = let over = firstOver lists places 0 m in unless (eqb over m) 9 (suc over)
+
+-- her day list over her night pattern
+abbrev pub dayListOver : List ℕ → (ℕ → ℕ) → ℕ → List ℕ
+dayListOver w nights i = dayList w i (nights i)
+
+unfoldable pub dayPhase : List ℕ → (ℕ → ℕ) → Phase
+dayPhase w nights =
+    record {
+      nurses = nurses w;
+      tabu = tabu w;
+      patterns = dayListOver w nights;
+      cost = dayPenalty w;
+      letters = λ slots. letters w nights (λ i. patternOf (slots i)) (nurses w);
+      room = λ places. first (unless (nightsOpen w nights) 8 0) (listsFit (dayListOver w nights) (nurses w) places);
+    }

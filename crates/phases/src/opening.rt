@@ -1,0 +1,57 @@
+// Question 8: whether the day search opens on a choice of nights.
+use search::Record;
+use search::Removal;
+ghost use mathlib.Core.Path.{_≡_};
+ghost use mathlib.Core.Option.{some};
+ghost use Rattle.numbers.specs.Range.{upFrom, all};
+ghost use Rattle.ward.specs.Fields.{Accepted, nurses};
+ghost use Rattle.nights.specs.Hers.{hersOf};
+ghost use Rattle.penalty.specs.Penalty.{nightPenalty};
+ghost use Rattle.phases.specs.Phases.{nightsOpen};
+ghost use Rattle.phases.specs.Phases.{nightOf};
+
+// Whether each night pattern is hers.
+fn nights_hers(w: &[u64], nights: &[u32; 48]) -> bool
+    requires { ⌜ Accepted (now w) ⌝ }
+    ensures { λ r. ⌜ r ≡ all (λ i. hersOf (now (w .entry)) i (nightOf (now (nights .entry)) i)) (upFrom 0 (nurses (now (w .entry)))) ⌝ }
+{
+    let m = ward::fields::nurses(w);
+    let mut i: usize = 0;
+    while i < m {
+        if nights::hers::is_hers(w, i, nights[i]) {
+            i += 1;
+        } else {
+            return false;
+        }
+    }
+    true
+}
+
+// The night penalty, everyone placed.
+fn night_penalty(w: &[u64], nights: &[u32; 48]) -> u64
+    requires { ⌜ Accepted (now w) ⌝ }
+    ensures { λ r. ⌜ r ≡ nightPenalty (now (w .entry)) (λ i. some (nightOf (now (nights .entry)) i)) ⌝ }
+{
+    let patterns = *nights;
+    let rec = Record {
+        patterns,
+        placed: [true; 48],
+        removals: [Removal {
+            nurse: 0,
+            has: false,
+            pattern: 0,
+        }; 64],
+        steps: 0,
+    };
+    search::slots::penalty_of(w, rec, false)
+}
+
+pub fn nights_open(w: &[u64], nights: &[u32; 48]) -> bool
+    requires { ⌜ Accepted (now w) ⌝ }
+    ensures { λ r. ⌜ r ≡ nightsOpen (now (w .entry)) (nightOf (now (nights .entry))) ⌝ }
+{
+    if nights_hers(w, nights) {
+        return night_penalty(w, nights) == 0;
+    }
+    false
+}

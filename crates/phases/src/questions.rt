@@ -1,0 +1,145 @@
+// The questions that an advance asks of its steps, its record and its nurses. Where `daily` is false they are asked by night,
+// and the night patterns are not looked at; where it is true, by day over those patterns.
+ghost use mathlib.Core.Path.{_≡_};
+ghost use mathlib.Core.Bool.{_&&_};
+ghost use Prim.Native.Nat.{_+_, _<_, _≤_, min};
+ghost use lib.Dec.{leb};
+ghost use Rattle.numbers.specs.Range.{upFrom, all};
+ghost use Rattle.ward.specs.Fields.{Accepted, nurses};
+ghost use Rattle.nights.specs.Hers.{nightList};
+ghost use Rattle.search.specs.Record.{among, hers, names, lacking};
+ghost use Rattle.search.specs.Stored.{slot, slotAt, held, namesAt, soundStored};
+ghost use Rattle.phases.specs.Asked.{phaseOf, lackedAt};
+
+// A question's no, or none.
+pub enum Question {
+    Pass,
+    No { question: u32, place: usize },
+}
+
+// Question 7: k is allowed, and so are the steps so far with k more.
+pub fn steps_allowed(steps: u32, k: u32) -> bool
+    ensures { λ r. ⌜ r ≡ (leb k 10000 && leb (steps + k) 1000000) ⌝ }
+{
+    if 10000 < k {
+        return false;
+    }
+    steps as u64 + k as u64 <= 1000000
+}
+
+// Whether p is one of nurse i's own.
+pub fn is_own(w: &[u64], nights: &[u32; 48], daily: bool, i: usize, p: u32) -> bool
+    requires { ⌜ Accepted (now w) × (i < nurses (now w)) ⌝ }
+    ensures { λ r. ⌜ r ≡ among (phaseOf daily (now (w .entry)) (now (nights .entry)) .patterns i) p ⌝ }
+{
+    if daily {
+        return days::is_day_pattern(w, i, nights[i], p);
+    }
+    nights::hers::is_hers(w, i, p)
+}
+
+// Whether a slot holds one of nurse i's own, or none.
+pub fn slot_own(w: &[u64], nights: &[u32; 48], daily: bool, i: usize, placed: bool, p: u32) -> bool
+    requires { ⌜ Accepted (now w) × (i < nurses (now w)) ⌝ }
+    ensures { λ r. ⌜ r ≡ hers (phaseOf daily (now (w .entry)) (now (nights .entry))) i (slot placed p) ⌝ }
+{
+    if placed {
+        return is_own(w, nights, daily, i, p);
+    }
+    true
+}
+
+// Whether each placed nurse holds one of her own.
+pub fn slots_own(w: &[u64], nights: &[u32; 48], daily: bool, rec: search::Record) -> bool
+    requires { ⌜ Accepted (now w) ⌝ }
+    ensures { λ r. ⌜ r ≡ all (λ i. hers (phaseOf daily (now (w .entry)) (now (nights .entry))) i (slotAt rec i)) (upFrom 0 (phaseOf daily (now (w .entry)) (now (nights .entry)) .nurses)) ⌝ }
+{
+    let m = ward::fields::nurses(w);
+    let mut i: usize = 0;
+    while i < m {
+        if slot_own(w, nights, daily, i, rec.placed[i], rec.patterns[i]) {
+            i += 1;
+        } else {
+            return false;
+        }
+    }
+    true
+}
+
+// Whether a removal names a nurse, with one of hers or with none.
+pub fn removal_names(w: &[u64], nights: &[u32; 48], daily: bool, x: search::Removal) -> bool
+    requires { ⌜ Accepted (now w) ⌝ }
+    ensures { λ r. ⌜ r ≡ names (phaseOf daily (now (w .entry)) (now (nights .entry))) (x .nurse) (slot (x .has) (x .pattern)) ⌝ }
+{
+    if x.nurse == 0 {
+        return false;
+    }
+    let i = (x.nurse - 1) as usize;
+    let m = ward::fields::nurses(w);
+    if i < m {
+        return slot_own(w, nights, daily, i, x.has, x.pattern);
+    }
+    false
+}
+
+// How many removals are held after so many steps.
+pub fn removals_held(steps: u32, tl: usize) -> usize
+    ensures { λ r. ⌜ r ≡ min steps tl ⌝ }
+{
+    let made = steps as usize;
+    if made < tl {
+        return made;
+    }
+    tl
+}
+
+// Whether each removal held names a nurse, with one of hers or with none.
+pub fn removals_name(w: &[u64], nights: &[u32; 48], daily: bool, rec: search::Record) -> bool
+    requires { ⌜ Accepted (now w) ⌝ }
+    ensures { λ r. ⌜ r ≡ all (namesAt (phaseOf daily (now (w .entry)) (now (nights .entry))) (rec .removals)) (upFrom 0 (held (phaseOf daily (now (w .entry)) (now (nights .entry)) .tabu) rec)) ⌝ }
+{
+    let n = removals_held(rec.steps, ward::fields::tabu(w));
+    let list = rec.removals;
+    let mut j: usize = 0;
+    while j < n {
+        let x = list[j];
+        if removal_names(w, nights, daily, x) {
+            j += 1;
+        } else {
+            return false;
+        }
+    }
+    true
+}
+
+// Question 11: each placed nurse holds one of her own, each removal held names a nurse, and unused fields are 0.
+pub fn record_sound(w: &[u64], nights: &[u32; 48], daily: bool, rec: search::Record) -> bool
+    requires { ⌜ Accepted (now w) ⌝ }
+    ensures { λ r. ⌜ r ≡ soundStored (phaseOf daily (now (w .entry)) (now (nights .entry))) rec ⌝ }
+{
+    let zero = rec.unused_zero(ward::fields::nurses(w), ward::fields::tabu(w));
+    if slots_own(w, nights, daily, rec) {
+        if removals_name(w, nights, daily, rec) {
+            return zero;
+        }
+    }
+    false
+}
+
+// Question 10 by night: the first nurse with no night pattern, or m.
+pub fn first_without_nights(w: &[u64]) -> usize
+    requires { ⌜ Accepted (now w) ⌝ }
+    ensures is { λ r. ⌜ lackedAt (nurses (now (w .entry))) r ≡ lacking (nightList (now (w .entry))) (upFrom 0 (nurses (now (w .entry)))) ⌝ }
+    ensures within { λ r. ⌜ r ≤ nurses (now (w .entry)) ⌝ }
+{
+    let m = ward::fields::nurses(w);
+    let mut i: usize = 0;
+    while i < m {
+        if nights::some::has_pattern(w, i) {
+            i += 1;
+        } else {
+            return i;
+        }
+    }
+    m
+}
