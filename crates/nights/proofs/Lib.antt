@@ -3,6 +3,4 @@ pub mod CommonLaws
 pub mod StartLaws
 pub mod AcceptedLaws
 pub mod HersLaws
-pub mod MaskLaws
-pub mod NearLaws
 pub mod ListLaws

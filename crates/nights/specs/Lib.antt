@@ -1,4 +1,3 @@
 pub mod Nights
 pub mod Hers
 pub mod Walk
-pub mod Masks

@@ -22,7 +22,7 @@ pub enum Next {
     Never,
 }
 
-pub(crate) fn gap_after(r: Rules, run: u64) -> u64
+pub fn gap_after(r: Rules, run: u64) -> u64
     ensures { λ g. ⌜ g ≡ gap r run ⌝ }
 {
     if run <= 1 {
@@ -34,7 +34,7 @@ pub(crate) fn gap_after(r: Rules, run: u64) -> u64
     r.g3
 }
 
-pub(crate) fn is_closed(r: Rules, s: State) -> bool
+pub fn is_closed(r: Rules, s: State) -> bool
     requires { ⌜ Small r ⌝ }
     ensures { λ b. ⌜ b ≡ closed r (s .run) (s .dist) ⌝ }
 {
@@ -45,7 +45,7 @@ pub(crate) fn is_closed(r: Rules, s: State) -> bool
     2 + g <= s.dist
 }
 
-pub(crate) fn start(r: Rules, day: u64, s: State) -> Next
+pub fn start(r: Rules, day: u64, s: State) -> Next
     requires { ⌜ Small r ⌝ }
     requires { ⌜ day ≤ 31 ⌝ }
     ensures { λ t. ⌜ t ≡ startAt r day s ⌝ }
@@ -88,7 +88,7 @@ pub(crate) fn start(r: Rules, day: u64, s: State) -> Next
 }
 
 // The walk's beginning: no day is decided.
-pub(crate) fn fresh() -> State
+pub fn fresh() -> State
     ensures { λ s. ⌜ s ≡ noneYet ⌝ }
 {
     State {

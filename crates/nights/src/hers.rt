@@ -29,7 +29,7 @@ fn run_with(prev: u64, run: u64, s: u64) -> u64
 }
 
 // The run that the seven days end with, the oldest being day 1.
-pub(crate) fn last_run(b: &[u64]) -> Run
+pub fn last_run(b: &[u64]) -> Run
     requires { ⌜ 7 ≤ length (now b) ⌝ }
     ensures { λ r. ⌜ (r .prev ≡ lastRun (now (b .entry)) .0) × (r .run ≡ lastRun (now (b .entry)) .1) ⌝ }
     ensures { λ r. ⌜ (r .prev ≤ 7) × (r .run ≤ 7) ⌝ }
@@ -65,7 +65,7 @@ fn is_allowed(r: Rules, prev: u64, run: u64, s: u64) -> bool
 }
 
 // Whether the starts of p, each `off` days on, follow the run that ends at `from`.
-pub(crate) fn keeps(r: Rules, from: Run, off: u64, n: u64, p: u32) -> bool
+pub fn keeps(r: Rules, from: Run, off: u64, n: u64, p: u32) -> bool
     requires { ⌜ Small r ⌝ }
     requires { ⌜ (n ≤ 31) × (off ≤ 7) × (from .prev ≤ 7) × (from .run ≤ 7) ⌝ }
     ensures { λ b. ⌜ b ≡ follow r (from .prev) (from .run) (shifted off (starts n p)) ⌝ }

@@ -1,8 +1,6 @@
 // Night patterns: the common list, by a recursive walk over the days from the last to the first, and a nurse's own.
 pub mod common;
 pub mod hers;
-pub mod masks;
-pub mod some;
 
 ghost use mathlib.Core.Path.{_≡_};
 ghost use Rattle.ward.specs.Fields.{Accepted};

@@ -91,12 +91,12 @@ fn compare(w: &[u64], i: usize, list: &[u32]) -> Own
     requires { ⌜ Accepted (now w) ⌝ }
     requires { ⌜ i < nurses (now w) ⌝ }
 {
-    let m = nights::masks::masks_of(w, i);
+    let m = own::masks::masks_of(w, i);
     let mut count: u64 = 0;
     let mut differ: u64 = 0;
     for k in 0..list.len() {
         let p = list[k];
-        let fast = nights::masks::passes(w, m, p);
+        let fast = own::masks::passes(w, m, p);
         if fast {
             count = std::num::wrapping_add_u64(count, 1);
         }
@@ -116,7 +116,7 @@ fn show_nurse(w: &[u64], i: usize, list: &[u32])
     number(std::num::wrapping_add_u64(i as u64, 1));
     number(o.count);
     number(o.differ);
-    if nights::some::has_pattern(w, i) {
+    if own::some::has_pattern(w, i) {
         io::write_all(1, b" some");
     }
     io::write_all(1, b"\n");

@@ -135,7 +135,7 @@ pub fn first_without_nights(w: &[u64]) -> usize
     let m = ward::fields::nurses(w);
     let mut i: usize = 0;
     while i < m {
-        if nights::some::has_pattern(w, i) {
+        if own::some::has_pattern(w, i) {
             i += 1;
         } else {
             return i;

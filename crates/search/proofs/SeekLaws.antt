@@ -15,10 +15,10 @@ use Rattle.numbers.specs.Digits.{has, numberOf}
 use Rattle.numbers.proofs.SumLaws.{sum-ext}
 use Rattle.numbers.proofs.DigitLaws.{number-lt, number-suc}
 use Rattle.ward.specs.Fields.{Accepted, Block, nurses, days, tabu, block, markOn}
-use Rattle.nights.specs.declared.masks.Masks.{Masks}
+use Rattle.own.specs.declared.masks.Masks.{Masks}
 use Rattle.nights.specs.Nights.{rulesOf, commonOf, inCommon}
 use Rattle.nights.specs.Hers.{hersOf}
-use Rattle.nights.specs.Masks.{masksOf, AvailableDays}
+use Rattle.own.specs.Masks.{masksOf, AvailableDays}
 use Rattle.nights.proofs.AcceptedLaws.{block-is}
 use Rattle.nights.proofs.ListLaws.{common-below, common-keeps}
 use Rattle.penalty.specs.declared.Penalty.{Penalty}

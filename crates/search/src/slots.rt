@@ -55,8 +55,8 @@ fn with_row(cols: Columns, w: &[u64], rec: Record, i: usize, daily: bool) -> Col
     if daily {
         return cols.with_nurse(n, i, 0, p);
     }
-    let m = nights::masks::masks_of(w, i);
-    let free = nights::masks::available_days(m, p);
+    let m = own::masks::masks_of(w, i);
+    let free = own::masks::available_days(m, p);
     cols.with_nurse(n, i, p, free)
 }
 

@@ -3,7 +3,7 @@ use crate::Record;
 use crate::best;
 use crate::best::Best;
 use crate::slots;
-use nights::masks::Masks;
+use own::masks::Masks;
 use penalty::Penalty;
 use penalty::columns::Columns;
 ghost use mathlib.Core.Path.{_≡_};
@@ -14,7 +14,7 @@ ghost use Rattle.numbers.specs.Sum.{countTo, oneIf, Is};
 ghost use Rattle.ward.specs.Fields.{Accepted, nurses, days, tabu, block};
 ghost use Rattle.nights.specs.Nights.{rulesOf, commonOf};
 ghost use Rattle.nights.specs.Hers.{hersOf};
-ghost use Rattle.nights.specs.Masks.{masksOf, Masked};
+ghost use Rattle.own.specs.Masks.{masksOf, Masked};
 ghost use Rattle.penalty.specs.Penalty.{Slot};
 ghost use Rattle.penalty.specs.Costs.{ChunksSmall};
 ghost use Rattle.search.specs.Phase.{Phase};
@@ -88,8 +88,8 @@ fn over_nights(
     let mut best = held;
     for k in 0..list.len() {
         let p = list[k];
-        if nights::masks::passes(w, masks, p) {
-            let free = nights::masks::available_days(masks, p);
+        if own::masks::passes(w, masks, p) {
+            let free = own::masks::available_days(masks, p);
             let c = penalty::chunks::chunk_trial(t, p, free) + Penalty::UNPLACED * others;
             if best::improves(best, c) {
                 best = best::consider(best, rec, tl, i, p, c);
@@ -139,7 +139,7 @@ fn over_nurse(
         let e = plan.ends[i + 1];
         return over_days(&lists[a..e], &t, others, rec, tl, i, held);
     }
-    let masks = nights::masks::masks_of(w, i);
+    let masks = own::masks::masks_of(w, i);
     over_nights(w, lists, masks, &t, others, rec, tl, i, held)
 }
 

@@ -18,8 +18,8 @@ use Rattle.search.proofs.tries.over_nights.Statement.{statement}
 use Rattle.search.proofs.tries.over_nights.Tie as tie
 use Rattle.search.proofs.tries.over_nights.Reads as reads
 use Rattle.search.proofs.tries.over_nights.Lts as lts
-use Rattle.nights.proofs.masks.available_days.Reads as available-days-reads
-use Rattle.nights.proofs.masks.passes.Reads as passes-reads
+use Rattle.own.proofs.masks.available_days.Reads as available-days-reads
+use Rattle.own.proofs.masks.passes.Reads as passes-reads
 use Rattle.penalty.proofs.chunks.chunk_trial.Reads as chunk-trial-reads
 use Rattle.search.proofs.best.consider.Reads as consider-reads
 use Rattle.search.proofs.best.improves.Reads as improves-reads

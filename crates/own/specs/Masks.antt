@@ -1,0 +1,72 @@
+-- A nurse's marks, bounds and last days as sets of days: day d of the month is member d, and day 0 is member 0.
+use mathlib.Core.Path.{_≡_}
+use mathlib.Core.Bool.{Bool, false, cond, not}
+use mathlib.Core.List.{List}
+use Prim.Native.Nat.{ℕ, zero, suc, _+_, _-_, _^_, _≤_, _<_}
+use lib.Bits.{bitOr}
+use lib.Dec.{eqb}
+use lib.ListN.{getD}
+use Rattle.numbers.specs.Sum.{oneIf}
+use Rattle.numbers.specs.Digits.{has, numberOf}
+use Rattle.ward.specs.Fields.{duty, leastNightsOf, mostNightsOf}
+use Rattle.rows.specs.Rows.{allows, available, availableOn, rowState}
+use Rattle.nights.specs.declared.Rules.{Rules}
+use Rattle.own.specs.declared.masks.Bars.{Bars}
+use Rattle.own.specs.declared.masks.Masks.{Masks}
+use Rattle.own.specs.declared.masks.Row.{Row}
+use Rattle.nights.specs.Nights.{gap}
+use Rattle.nights.specs.Hers.{lastRun}
+
+-- her mark of day d bars the state
+abbrev pub barred : List ℕ → ℕ → ℕ → Bool
+barred b state zero = false
+barred b state (suc d) = not (allows (getD b (11 + d) 0) state)
+
+-- her mark of day d lets her work it where it is open
+abbrev pub workable : List ℕ → ℕ → Bool
+workable b zero = false
+workable b (suc d) = available (getD b (11 + d) 0) 0
+
+-- how many of the month's first days are near to last month's run: a start after them is a new run, and far enough from it
+abbrev pub near : Rules → ℕ → ℕ → ℕ
+near r prev run = cond (eqb run 0) 0 (prev + gap r run - 5)
+
+abbrev pub barsOf : ℕ → List ℕ → Bars
+barsOf n b = record {
+  free = numberOf (barred b 0) (suc n);
+  night = numberOf (barred b 1) (suc n);
+  second = numberOf (barred b 2) (suc n);
+  rest = numberOf (barred b 3) (suc n);
+}
+
+unfoldable pub masksOf : Rules → ℕ → List ℕ → Masks
+masksOf r n b = record {
+  bars = barsOf n b;
+  workable = numberOf (workable b) (suc n);
+  night = oneIf (eqb (duty b 6) 2);
+  second = oneIf (eqb (duty b 6) 3);
+  near = 2 ^ near r (lastRun b .0) (lastRun b .1) - 1;
+  last = record { prev = lastRun b .0; run = lastRun b .1 };
+  least = leastNightsOf b;
+  most = mostNightsOf b;
+}
+
+-- what code leans on: digits of 0 or 1, days within the month, and a run of the seven days
+pub record Masked (m : Masks) : Type 0 where
+  pub night : m .night ≤ 1
+  pub second : m .second ≤ 1
+  pub workable : m .workable < 2 ^ 32
+  pub prev : m .last .prev ≤ 7
+  pub run : m .last .run ≤ 7
+
+-- the row's N, n and R days are those of these states
+pub record RowOf (b : List ℕ) (p : ℕ) (x : Row) : Type 0 where
+  pub night : (d : ℕ) → d < 64 → has (x .night) d ≡ eqb (rowState b p d) 1
+  pub second : (d : ℕ) → d < 64 → has (x .second) d ≡ eqb (rowState b p d) 2
+  pub rest : (d : ℕ) → d < 64 → has (x .rest) d ≡ eqb (rowState b p d) 3
+  pub fits : bitOr (bitOr (x .night) (x .second)) (x .rest) < 2 ^ 64
+
+-- q is the set of the days on which she is available under p
+pub record AvailableDays (b : List ℕ) (n p q : ℕ) : Type 0 where
+  pub within : q < 2 ^ n
+  pub each : (d : ℕ) → d < n → has q d ≡ availableOn b p (suc d)

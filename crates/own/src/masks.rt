@@ -1,0 +1,241 @@
+// A fast test of a pattern of the common list for one nurse: her marks, bounds and last days as sets of days.
+// In these sets day d of the month is bit d, and day 0 is bit 0.
+use nights::Rules;
+use nights::common;
+use nights::hers;
+use nights::hers::Run;
+ghost use mathlib.Core.Path.{_≡_};
+ghost use mathlib.Core.Bool.{true, cond};
+ghost use mathlib.Core.List.{List};
+ghost use Prim.Native.Nat.{ℕ, suc, _+_, _^_, _≤_, _<_};
+ghost use lib.Dec.{eqb};
+ghost use Rattle.numbers.specs.Digits.{numberOf};
+ghost use Rattle.numbers.specs.Sum.{oneIf};
+ghost use Rattle.ward.specs.Fields.{Accepted, Block, nurses, days, block, duty};
+ghost use Rattle.rows.specs.Rows.{marksAllow};
+ghost use Rattle.nights.specs.Nights.{rulesOf, inCommon};
+ghost use Rattle.nights.specs.Walk.{Small};
+ghost use Rattle.nights.specs.Hers.{hersOf};
+ghost use Rattle.nights.specs.declared.Rules.{Rules};
+ghost use Rattle.own.specs.Masks.{barred, workable, near, barsOf, masksOf, Masked, RowOf, AvailableDays};
+
+// The days whose marks bar O, N, n and R.
+pub struct Bars {
+    pub free: u64,
+    pub night: u64,
+    pub second: u64,
+    pub rest: u64,
+}
+
+pub struct Masks {
+    pub bars: Bars,
+    // The days whose marks let her work them where they are open.
+    pub workable: u64,
+    // 1 where day 0 is N, and where it is n.
+    pub night: u64,
+    pub second: u64,
+    // The pattern of the days on which a start may be too near to last month's run, and that run.
+    pub near: u32,
+    pub last: Run,
+    // Her bounds.
+    pub least: u64,
+    pub most: u64,
+}
+
+// The day's set, or none.
+fn day_if(on: bool, day: u64) -> u64
+    requires { ⌜ day < 32 ⌝ }
+    ensures { λ x. ⌜ x ≡ cond on (2 ^ day) 0 ⌝ }
+{
+    if on {
+        return wide(numbers::bit(day));
+    }
+    0
+}
+
+fn wide(x: u32) -> u64
+    ensures { λ r. ⌜ r ≡ x ⌝ }
+{
+    x as u64
+}
+
+// The days of the month whose marks bar a state.
+fn barred_days(b: &[u64], n: u64, state: usize) -> u64
+    requires { ⌜ n ≤ 31 ⌝ }
+    requires { ⌜ Block (now b) n ⌝ }
+    requires { ⌜ state < 4 ⌝ }
+    ensures { λ r. ⌜ r ≡ numberOf (barred (now (b .entry)) state) (suc n) ⌝ }
+{
+    let mut set: u64 = 0;
+    let mut day: u64 = 0;
+    let mut i: usize = 11;
+    while day < n {
+        let mark = b[i] as usize;
+        day += 1;
+        i += 1;
+        set += day_if(!rows::mark_allows(mark, state), day);
+    }
+    set
+}
+
+// The days of the month whose marks let her work them where they are open.
+fn workable_days(b: &[u64], n: u64) -> u64
+    requires { ⌜ n ≤ 31 ⌝ }
+    requires { ⌜ Block (now b) n ⌝ }
+    ensures { λ r. ⌜ r ≡ numberOf (workable (now (b .entry))) (suc n) ⌝ }
+{
+    let mut set: u64 = 0;
+    let mut day: u64 = 0;
+    let mut i: usize = 11;
+    while day < n {
+        let mark = b[i];
+        day += 1;
+        i += 1;
+        set += day_if(rows::is_available(mark, 0), day);
+    }
+    set
+}
+
+fn bars_of(b: &[u64], n: u64) -> Bars
+    requires { ⌜ n ≤ 31 ⌝ }
+    requires { ⌜ Block (now b) n ⌝ }
+    ensures { λ r. ⌜ r ≡ barsOf n (now (b .entry)) ⌝ }
+{
+    Bars {
+        free: barred_days(b, n, 0),
+        night: barred_days(b, n, 1),
+        second: barred_days(b, n, 2),
+        rest: barred_days(b, n, 3),
+    }
+}
+
+// How many of the month's first days are near to last month's run.
+fn near_days(r: Rules, prev: u64, run: u64) -> u64
+    requires { ⌜ Small r ⌝ }
+    requires { ⌜ prev ≤ 7 ⌝ }
+    ensures is { λ k. ⌜ k ≡ near r prev run ⌝ }
+    ensures few { λ k. ⌜ k ≤ 7 ⌝ }
+{
+    if run == 0 {
+        return 0;
+    }
+    let reach = prev + common::gap_after(r, run);
+    if reach < 5 {
+        return 0;
+    }
+    reach - 5
+}
+
+fn one_if(on: bool) -> u64
+    ensures { λ x. ⌜ x ≡ oneIf on ⌝ }
+{
+    if on {
+        return 1;
+    }
+    0
+}
+
+// The masks of the nurse with block b.
+fn masks_by(r: Rules, n: u64, b: &[u64]) -> Masks
+    requires { ⌜ Small r ⌝ }
+    requires { ⌜ n ≤ 31 ⌝ }
+    requires { ⌜ Block (now b) n ⌝ }
+    ensures is { λ m. ⌜ m ≡ masksOf r n (now (b .entry)) ⌝ }
+    ensures small { λ m. ⌜ Masked m ⌝ }
+{
+    let bars = bars_of(b, n);
+    let last = hers::last_run(b);
+    let near = numbers::bit(near_days(r, last.prev, last.run)) - 1;
+    Masks {
+        bars,
+        workable: workable_days(b, n),
+        night: one_if(b[6] == 2),
+        second: one_if(b[6] == 3),
+        near,
+        last,
+        least: b[7],
+        most: b[8],
+    }
+}
+
+// Nurse i's masks.
+pub fn masks_of(w: &[u64], i: usize) -> Masks
+    requires { ⌜ Accepted (now w) ⌝ }
+    requires { ⌜ i < nurses (now w) ⌝ }
+    ensures is { λ m. ⌜ m ≡ masksOf (rulesOf (now (w .entry))) (days (now (w .entry))) (block (now (w .entry)) i) ⌝ }
+    ensures small { λ m. ⌜ Masked m ⌝ }
+{
+    masks_by(nights::rules_of(w), w[1], ward::fields::block(w, i))
+}
+
+// The days of a row, day 0 with them: N, n and R.
+pub struct Row {
+    pub night: u64,
+    pub second: u64,
+    pub rest: u64,
+}
+
+// The row of p.
+fn row_of(m: Masks, p: u32) -> Row
+    requires { ⌜ Masked m ⌝ }
+    ensures { λ x. ⌜ ((b : List ℕ) → m .night ≡ oneIf (eqb (duty b 6) 2) → m .second ≡ oneIf (eqb (duty b 6) 3) → RowOf b p x) ⌝ }
+{
+    let night = wide(p) * 2 + m.night;
+    let second = (night * 2 + m.second) & !night;
+    let rest = (second * 2) & !night;
+    Row {
+        night,
+        second,
+        rest,
+    }
+}
+
+// Whether her marks allow the row of p.
+fn marks_pass(m: Masks, p: u32) -> bool
+    requires { ⌜ Masked m ⌝ }
+    ensures { λ h. ⌜ ((r : Rules) (n : ℕ) (b : List ℕ) → n ≤ 31 → m ≡ masksOf r n b → h ≡ marksAllow b n p) ⌝ }
+{
+    let row = row_of(m, p);
+    // Nearly all patterns that are not hers fail here.
+    if (row.night & m.bars.night) | (row.second & m.bars.second) != 0 {
+        return false;
+    }
+    let free = !(row.night | row.second | row.rest);
+    (free & m.bars.free)
+        | (row.night & m.bars.night)
+        | (row.second & m.bars.second)
+        | (row.rest & m.bars.rest)
+        == 0
+}
+
+// The days on which she is available under p, as a pattern.
+pub fn available_days(m: Masks, p: u32) -> u32
+    requires { ⌜ Masked m ⌝ }
+    ensures { λ q. ⌜ ((r : Rules) (n : ℕ) (b : List ℕ) → n ≤ 31 → m ≡ masksOf r n b → AvailableDays b n p q) ⌝ }
+{
+    let row = row_of(m, p);
+    let free = m.workable & !(row.night | row.second | row.rest);
+    (free / 2) as u32
+}
+
+// Whether p of the common list is in the list of the nurse with these masks.
+pub fn passes(w: &[u64], m: Masks, p: u32) -> bool
+    requires { ⌜ Accepted (now w) ⌝ }
+    requires { ⌜ Masked m ⌝ }
+    ensures { λ h. ⌜ ((i : ℕ) → m ≡ masksOf (rulesOf (now (w .entry))) (days (now (w .entry))) (block (now (w .entry)) i) → p < 2 ^ days (now (w .entry)) → inCommon (rulesOf (now (w .entry))) (days (now (w .entry))) p ≡ true → h ≡ hersOf (now (w .entry)) i p) ⌝ }
+{
+    if !marks_pass(m, p) {
+        return false;
+    }
+    let k = numbers::ones(p);
+    if k < m.least {
+        return false;
+    }
+    if m.most < k {
+        return false;
+    }
+    if p & m.near == 0 {
+        return true;
+    }
+    hers::keeps(nights::rules_of(w), m.last, 7, w[1], p)
+}
