@@ -1,8 +1,4 @@
 pub mod RuleLaws
 pub mod MonthLaws
-pub mod WalkLaws
-pub mod LocalLaws
-pub mod ReachLaws
-pub mod ListLaws
+pub mod WindowLaws
 pub mod SheetLaws
-pub mod ListsLaws

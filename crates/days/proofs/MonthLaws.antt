@@ -12,7 +12,7 @@ use lib.ListN.{length, getD, set, length-set}
 use lib.Seq.{getD-set-same, getD-set-other}
 use Rattle.numbers.specs.Digits.{has, numberOf}
 use Rattle.numbers.proofs.DigitLaws.{number-lt, number-zero, number-suc, bit-of-zero}
-use Rattle.ward.specs.Fields.{duty}
+use Rattle.fields.specs.Fields.{duty}
 use Rattle.rows.specs.Rows.{rowState, stateAfter, dayZero, available, availableOn, fixedDay, dutyOf, dutyOn}
 use Rattle.rows.proofs.RowLaws.{row-zero, row-turn}
 use Rattle.days.specs.Days.{rowDuty}

@@ -1,4 +1,4 @@
--- The rule over a nurse's month is the day rule, so what the walk lists is her day list.
+-- The rule over a nurse's month is the day rule.
 use mathlib.Core.Path.{_≡_, refl, sym, ap, ap₂, _∙_, subst}
 use mathlib.Core.Bool.{Bool, true, false, cond, not, _&&_}
 use mathlib.Core.List.{List}
@@ -7,22 +7,18 @@ use native.Mathlib.Omega.{arith}
 use native.Mathlib.Decide.{decLt}
 use borrow.Author.Tests.{lt-ltb, le-ltb, ltb-true, eqb-true}
 use lib.Dec.{ltb, eqb}
-use lib.Pow.{pow-mono}
 use lib.ListN.{length, take, drop}
-use Rattle.numbers.specs.Range.{upFrom, keep, all, Ascending}
-use Rattle.numbers.specs.Digits.{has, numberOf}
-use Rattle.numbers.proofs.RangeLaws.{and-parts, keep-same, keep-ascending, At, kept-in, kept-only}
-use Rattle.numbers.proofs.DigitLaws.{number-lt, number-has, bit-of-zero}
+use Rattle.numbers.specs.Range.{upFrom, all, Ascending}
+use Rattle.numbers.specs.Digits.{has}
+use Rattle.numbers.proofs.RangeLaws.{and-parts, keep-ascending, At, kept-in, kept-only}
+use Rattle.numbers.proofs.DigitLaws.{number-has, bit-of-zero}
 use Rattle.numbers.proofs.AgreeLaws.{all-agree, keep-agree, all-in}
-use Rattle.ward.specs.Fields.{Accepted, days, longestDays, nurses, block, blockAt, duty, leastRestsOf, mostRestsOf, markOn}
+use Rattle.fields.specs.Fields.{Accepted, days, nurses, block, blockAt, duty, leastRestsOf, mostRestsOf, markOn}
 use Rattle.rows.specs.Rows.{started, rowState, available, availableOn, fixedDay, dutyOf, dutyOn}
 use Rattle.days.specs.Days.{choice, rowDuty, isRest, windowsHold, rests, dayRule, dayRuleOf, dayList}
-use Rattle.days.specs.Walk.{IsSheet, Small, inBounds, dutyAt, choiceOf, ruleOf, listed, listedAt, Inside}
+use Rattle.days.specs.Month.{IsSheet, Small, inBounds, dutyAt, choiceOf, ruleOf}
 use Rattle.days.specs.declared.month.Month.{Month}
-use Rattle.days.specs.declared.walk.Point.{Point}
-use Rattle.days.proofs.LocalLaws.{windows-same}
-use Rattle.days.proofs.ReachLaws.{Bounded}
-use Rattle.days.proofs.ListLaws.{walk-lists}
+use Rattle.days.proofs.WindowLaws.{windows-same}
 
 -- ---- one day
 
@@ -115,30 +111,8 @@ rule-is b n longest p m row s short q =
     (subst (λ (k : ℕ). IsSheet b k (m .longest) p m row) (sym (s .days-is)) (subst (λ (l : ℕ). IsSheet b n l p m row) (sym (s .longest-is)) s))
     (rw (s .longest-is) short) q
 
--- ---- her list
-
 pub sheet-small : (b : List ℕ) (n longest p : ℕ) (m : Month) (row : List ℕ) → IsSheet b n longest p m row → n ≤ 31 → longest ≤ 6 → Small m
 sheet-small b n longest p m row s few short = record { few-days = omega (arith, s .days-is); short = omega (arith, s .longest-is) }
-
-bounded : (b : List ℕ) (n longest p : ℕ) (m : Month) (row : List ℕ) → IsSheet b n longest p m row → n ≤ 31 → longest ≤ 6 → Bounded m
-bounded b n longest p m row s few short = record {
-  small = sheet-small b n longest p m row s few short;
-  fixed-days =
-      subst (λ (x : ℕ). x < 2 ^ m .days) (sym (s .fixed-is))
-      (subst (λ (k : ℕ). numberOf (fixedDay b) n < 2 ^ k) (sym (s .days-is)) (number-lt (fixedDay b) n));
-  within-is = λ k l.
-      ap (λ (x : ℕ). has x k) (s .within-is) ∙ number-has (inBounds (leastRestsOf b) (mostRestsOf b)) 32 k l
-      ∙ ap₂ (λ (x y : ℕ). inBounds x y k) (sym (s .least-is)) (sym (s .most-is));
-}
-
-lists-day-list : (w : List ℕ) (i p : ℕ) (m : Month) (row : List ℕ) → Accepted w → IsSheet (block w i) (days w) (longestDays w) p m row
-    → listed m row (days w) 0 0 ≡ dayList w i p
-unfolding dayList
-lists-day-list w i p m row a s =
-    ap (λ (k : ℕ). listed m row k 0 0) (sym (s .days-is))
-    ∙ walk-lists m row (bounded (block w i) (days w) (longestDays w) p m row s (a .days-most) (a .day-run-most))
-    ∙ keep-same (ruleOf m row) (dayRuleOf w i p) (λ q. sym (rule-is (block w i) (days w) (longestDays w) p m row s (a .day-run-most) q)) (upFrom 0 (2 ^ m .days))
-    ∙ ap (λ (k : ℕ). keep (dayRuleOf w i p) (upFrom 0 (2 ^ k))) (s .days-is)
 
 -- ---- what her list is: ascending, and exactly the patterns that the rule lets through
 
@@ -172,16 +146,3 @@ unfolding block blockAt
 block-part w i =
     let e : 16 + i * (11 + days w) + (11 + days w) - (16 + i * (11 + days w)) ≡ 11 + days w = omega arith in
     ap (λ (k : ℕ). take k (drop (16 + i * (11 + days w)) w)) e
-
--- ---- the walk's beginning
-
-pub start-inside : (m : Month) → Small m → {s : Point} → s ≡ record { left = m .days; from = 0; rests = 0 } → Inside m s
-start-inside m small e = subst (Inside m) (sym e) (record {
-  days-left = omega arith;
-  fits = omega (arith, pow-mono {i = m .days} {j = 31} (small .few-days));
-})
-
-pub start-lists : (w : List ℕ) (i p : ℕ) (m : Month) (row : List ℕ) {s : Point} → Accepted w → IsSheet (block w i) (days w) (longestDays w) p m row
-    → s ≡ record { left = m .days; from = 0; rests = 0 } → listedAt m row s ≡ dayList w i p
-start-lists w i p m row a h e =
-    ap (listedAt m row) e ∙ ap (λ (k : ℕ). listed m row k 0 0) (h .days-is) ∙ lists-day-list w i p m row a h

@@ -6,7 +6,7 @@ use Prim.Native.Nat.{ℕ, suc, _-_, _^_}
 use lib.Dec.{leb, ltb, eqb}
 use lib.ListN.{length}
 use Rattle.numbers.specs.Range.{upFrom, keep, all}
-use Rattle.ward.specs.Fields.{days, longestDays, block, duty, leastRestsOf, mostRestsOf, markOn}
+use Rattle.fields.specs.Fields.{days, longestDays, block, duty, leastRestsOf, mostRestsOf, markOn}
 use Rattle.rows.specs.Rows.{started, availableOn, dutyOn}
 
 -- a day pattern is a set of available days with every mark 2 in it

@@ -1,4 +1,3 @@
 pub mod Days
 pub mod Shown
-pub mod Walk
-pub mod Lists
+pub mod Month

@@ -4,7 +4,7 @@ use mathlib.Core.Bool.{true, false}
 use mathlib.Core.List.{List, [], _∷_}
 use Prim.Native.Nat.{ℕ}
 use Rattle.numbers.specs.Range.{upFrom, keep, all}
-use Rattle.ward.specs.Fields.{block, blockAt}
+use Rattle.fields.specs.Fields.{block, blockAt}
 use Rattle.rows.specs.Rows.{rowState, availableOn, dutyOn}
 use lib.ListN.{getD}
 use Rattle.days.specs.Days.{choice, rowDuty, same, anyOf, freeOf, windowsHold, rests, dayRule, dayList}

@@ -5,8 +5,8 @@ ghost use mathlib.Core.Bool.{cond};
 ghost use Prim.Native.Nat.{ℕ, _+_, _^_, _≤_, _<_};
 ghost use Rattle.numbers.specs.Digits.{numberOf};
 ghost use lib.ListN.{length, getD};
-ghost use Rattle.ward.specs.Fields.{Block, duty};
-ghost use Rattle.days.specs.Walk.{IsSheet, inBounds};
+ghost use Rattle.fields.specs.Fields.{Block, duty};
+ghost use Rattle.days.specs.Month.{IsSheet, inBounds};
 
 // The days of the month, D, the bounds of her rests, the days that she is available on, those marked 2, and the counts of
 // rests within her bounds: the last three are sets.
@@ -39,7 +39,7 @@ fn with_next(set: u64, i: u64, on: bool) -> u64
 }
 
 // Whether a count of rests is within bounds.
-pub(crate) fn in_bounds(least: u64, most: u64, k: u64) -> bool
+pub fn in_bounds(least: u64, most: u64, k: u64) -> bool
     ensures { λ r. ⌜ r ≡ inBounds least most k ⌝ }
 {
     least <= k && k <= most
@@ -73,7 +73,7 @@ fn seven_days(b: &[u64]) -> [u64; 38]
 }
 
 // Her month by her block of the ward's numbers and her night pattern.
-pub(crate) fn sheet_of(b: &[u64], n: usize, longest: usize, p: u32) -> Sheet
+pub fn sheet_of(b: &[u64], n: usize, longest: usize, p: u32) -> Sheet
     requires { ⌜ Block (now b) n ⌝ }
     requires { ⌜ n ≤ 31 ⌝ }
     ensures { λ r. ⌜ IsSheet (now (b .entry)) n longest p (r .month) (r .row) ⌝ }

@@ -8,13 +8,13 @@ ghost use Prim.Native.Nat.{suc, _≤_, _<_};
 ghost use Rattle.numbers.specs.Range.{upFrom, all};
 ghost use Rattle.numbers.specs.Digits.{has};
 ghost use Rattle.days.specs.Days.{inRun, isRest, anyOf, same, window, windowsHold, rests};
-ghost use Rattle.days.specs.Walk.{Small, dutyAt, choiceOf, restOn, ruleOf};
+ghost use Rattle.days.specs.Month.{Small, dutyAt, choiceOf, restOn, ruleOf};
 
 // The sequence of duties that no row has: rest, day, rest, day, rest.
 const FORBIDDEN: [u64; 5] = [0, 1, 0, 1, 0];
 
 // Whether i is in the set.
-pub(crate) fn has(set: u64, i: usize) -> bool
+pub fn has(set: u64, i: usize) -> bool
     requires { ⌜ i < 64 ⌝ }
     ensures { λ r. ⌜ r ≡ has set i ⌝ }
 {
@@ -99,7 +99,7 @@ fn is_forbidden(row: &[u64; 38], q: u64, t: usize) -> bool
 }
 
 // The windows that end at place t.
-pub(crate) fn windows_hold(row: &[u64; 38], q: u64, longest: usize, t: usize) -> bool
+pub fn windows_hold(row: &[u64; 38], q: u64, longest: usize, t: usize) -> bool
     requires { ⌜ t < 38 ⌝ }
     requires { ⌜ 6 ≤ t ⌝ }
     requires { ⌜ longest ≤ 6 ⌝ }
@@ -115,7 +115,7 @@ pub(crate) fn windows_hold(row: &[u64; 38], q: u64, longest: usize, t: usize) ->
 }
 
 // The windows that end on the first days of the month, `count` of them.
-pub(crate) fn all_windows_hold(row: &[u64; 38], q: u64, longest: usize, count: usize) -> bool
+pub fn all_windows_hold(row: &[u64; 38], q: u64, longest: usize, count: usize) -> bool
     requires { ⌜ count ≤ 31 ⌝ }
     requires { ⌜ longest ≤ 6 ⌝ }
     ensures { λ r. ⌜ r ≡ all (windowsHold (dutyAt (now (row .entry)) q) longest) (upFrom 7 count) ⌝ }
@@ -132,7 +132,7 @@ pub(crate) fn all_windows_hold(row: &[u64; 38], q: u64, longest: usize, count: u
 }
 
 // 1 if day d is a rest.
-pub(crate) fn rest_on(row: &[u64; 38], q: u64, d: usize) -> u64
+pub fn rest_on(row: &[u64; 38], q: u64, d: usize) -> u64
     requires { ⌜ d < 31 ⌝ }
     ensures { λ r. ⌜ r ≡ restOn (now (row .entry)) q d ⌝ }
     ensures { λ r. ⌜ r ≤ 1 ⌝ }
@@ -158,7 +158,7 @@ fn rests_of(row: &[u64; 38], q: u64, n: usize) -> u64
 }
 
 // Day d is worked only where she is available, and is worked where it is marked 2.
-pub(crate) fn may_choose(m: Month, q: u64, d: usize) -> bool
+pub fn may_choose(m: Month, q: u64, d: usize) -> bool
     requires { ⌜ d < 32 ⌝ }
     ensures { λ r. ⌜ r ≡ cond (has q d) (has (m .free) d) (not (has (m .fixed) d)) ⌝ }
 {
@@ -190,7 +190,7 @@ fn choice_holds(m: Month, q: u64) -> bool
 }
 
 // The day rule.
-pub(crate) fn rule_holds(m: Month, row: &[u64; 38], q: u64) -> bool
+pub fn rule_holds(m: Month, row: &[u64; 38], q: u64) -> bool
     requires { ⌜ Small m ⌝ }
     ensures { λ r. ⌜ r ≡ ruleOf m (now (row .entry)) q ⌝ }
 {

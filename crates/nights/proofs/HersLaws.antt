@@ -12,7 +12,7 @@ use Rattle.numbers.specs.Range.{upFrom, keep}
 use Rattle.numbers.specs.Digits.{has}
 use Rattle.numbers.proofs.RangeLaws.{range-turn, range-done}
 use Rattle.rows.specs.Rows.{started, marksAllow}
-use Rattle.nights.specs.declared.Rules.{Rules}
+use Rattle.fields.specs.declared.rules.Rules.{Rules}
 use Rattle.nights.specs.Nights.{starts, follow, allowed, runWith, inCommon}
 use Rattle.nights.specs.Hers.{shifted, through, lastDuty, lastRun, hers}
 

@@ -1,6 +1,4 @@
-pub mod WalkLaws
-pub mod CommonLaws
+pub mod FollowLaws
 pub mod StartLaws
-pub mod AcceptedLaws
 pub mod HersLaws
 pub mod ListLaws

@@ -10,10 +10,10 @@ use lib.Seq.{getD-append-add}
 use borrow.Author.Tests.{ltb-true, lt-ltb}
 use Rattle.numbers.specs.Range.{upFrom, keep, Ascending}
 use Rattle.numbers.proofs.RangeLaws.{keep-append, keep-ascending, keep-passes, kept-below, kept-in, kept-only, and-parts, At}
-use Rattle.ward.specs.Fields.{days, block}
-use Rattle.nights.specs.declared.Rules.{Rules}
-use Rattle.nights.specs.Nights.{rulesOf, inCommon, common, commonOf}
-use Rattle.nights.specs.Walk.{Among}
+use Rattle.fields.specs.Fields.{days, block}
+use Rattle.fields.specs.declared.rules.Rules.{Rules}
+use Rattle.fields.specs.Rules.{rulesOf}
+use Rattle.nights.specs.Nights.{inCommon, common, commonOf, Among}
 use Rattle.nights.specs.Hers.{hers, hersOf, nightList}
 
 -- ---- the common list

@@ -5,10 +5,11 @@ use Prim.Native.Nat.{ℕ, zero, suc, _+_, _^_}
 use lib.Dec.{leb, ltb, eqb}
 use lib.ListN.{length}
 use Rattle.numbers.specs.Range.{upFrom, keep}
-use Rattle.ward.specs.Fields.{days, block, duty, leastNightsOf, mostNightsOf}
+use Rattle.fields.specs.Fields.{days, block, duty, leastNightsOf, mostNightsOf}
 use Rattle.rows.specs.Rows.{marksAllow}
-use Rattle.nights.specs.declared.Rules.{Rules}
-use Rattle.nights.specs.Nights.{rulesOf, starts, follow, runWith, inCommon}
+use Rattle.fields.specs.declared.rules.Rules.{Rules}
+use Rattle.fields.specs.Rules.{rulesOf}
+use Rattle.nights.specs.Nights.{starts, follow, runWith, inCommon}
 
 -- Her last seven days are numbered 1 to 7 here, and the month's days from 8 on.
 unfoldable pub shifted : ℕ → List ℕ → List ℕ

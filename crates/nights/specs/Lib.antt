@@ -1,3 +1,2 @@
 pub mod Nights
 pub mod Hers
-pub mod Walk

@@ -1,25 +1,19 @@
 -- The night rule and the common list.
 use mathlib.Core.Bool.{Bool, true, cond, _&&_}
 use mathlib.Core.List.{List, [], _∷_}
-use Prim.Native.Nat.{ℕ, _+_, _^_}
+use mathlib.Core.Path.{_≡_}
+use Prim.Native.Nat.{ℕ, _+_, _^_, _<_}
 use lib.Dec.{leb, eqb}
-use lib.ListN.{length}
+use lib.ListN.{length, getD}
 use Rattle.numbers.specs.Range.{upFrom, keep}
 use Rattle.rows.specs.Rows.{started}
-use Rattle.ward.specs.Fields.{days, mostNights, longestRun, gap1, gap2, gap3}
-use Rattle.nights.specs.declared.Rules.{Rules}
-
--- the ward's rules: V, L and the gaps g1, g2, g3
-abbrev pub rulesOf : List ℕ → Rules
-rulesOf w = record { most = mostNights w; longest = longestRun w; g1 = gap1 w; g2 = gap2 w; g3 = gap3 w }
+use Rattle.fields.specs.Fields.{days}
+use Rattle.fields.specs.Rules.{rulesOf, gap}
+use Rattle.fields.specs.declared.rules.Rules.{Rules}
 
 -- the starts of p in a month of n days, ascending
 unfoldable pub starts : ℕ → ℕ → List ℕ
 starts n p = keep (started p) (upFrom 1 n)
-
--- the gap after a run of so many starts; g3 beyond three
-abbrev pub gap : Rules → ℕ → ℕ
-gap r run = cond (leb run 1) (r .g1) (cond (eqb run 2) (r .g2) (r .g3))
 
 -- A start on day s, where the start before it was on day prev, the run-th of its run; run 0: there is none before it.
 -- Two days on is one run, of at most `longest` starts; anything else is a new run, and is at least 2 and the gap days on.
@@ -45,3 +39,7 @@ common r n = keep (inCommon r n) (upFrom 0 (2 ^ n))
 
 abbrev pub commonOf : List ℕ → List ℕ
 commonOf w = common (rulesOf w) (days w)
+
+-- each of these is in the common list
+unfoldable pub Among : Rules → ℕ → List ℕ → Type 0
+Among r n xs = (k : ℕ) → k < length xs → (getD xs k 0 < 2 ^ n) × (inCommon r n (getD xs k 0) ≡ true)

@@ -1,11 +1,10 @@
 // Prints the common list of document 01's case of 30 days, that of the ward on standard input, and how many patterns of it
 // each nurse has, by the fast test and by the plain one.
-use nights::Rules;
+use fields::rules::Rules;
 use ward::Answer;
 ghost use Prim.Native.Nat.{_≤_, _<_};
-ghost use lib.ListN.{length};
-ghost use Rattle.ward.specs.Fields.{Accepted, nurses};
-ghost use Rattle.nights.specs.Walk.{Small};
+ghost use Rattle.fields.specs.Fields.{Accepted, nurses};
+ghost use Rattle.fields.specs.Rules.{Small};
 
 fn wide(x: u32) -> u64 {
     x as u64
@@ -23,9 +22,9 @@ fn list(r: Rules, n: u64, buf: &mut [u32]) -> usize
     requires { ⌜ n ≤ 31 ⌝ }
 {
     let cap = buf.len();
-    let found = nights::common::common_count(r, n, cap + 1);
+    let found = nightlists::common_count(r, n, cap + 1);
     if found <= cap {
-        return nights::common::common_fill(r, n, buf);
+        return nightlists::common_fill(r, n, buf);
     }
     found
 }
@@ -100,7 +99,7 @@ fn compare(w: &[u64], i: usize, list: &[u32]) -> Own
         if fast {
             count = std::num::wrapping_add_u64(count, 1);
         }
-        if fast != nights::hers::is_hers(w, i, p) {
+        if fast != nights::is_hers(w, i, p) {
             differ = std::num::wrapping_add_u64(differ, 1);
         }
     }
@@ -116,7 +115,7 @@ fn show_nurse(w: &[u64], i: usize, list: &[u32])
     number(std::num::wrapping_add_u64(i as u64, 1));
     number(o.count);
     number(o.differ);
-    if own::some::has_pattern(w, i) {
+    if nightlists::some::has_pattern(w, i) {
         io::write_all(1, b" some");
     }
     io::write_all(1, b"\n");
@@ -125,7 +124,7 @@ fn show_nurse(w: &[u64], i: usize, list: &[u32])
 fn show_nurses(w: &[u64], list: &[u32])
     requires { ⌜ Accepted (now w) ⌝ }
 {
-    let m = ward::fields::nurses(w);
+    let m = fields::nurses(w);
     for i in 0..m {
         show_nurse(w, i, list);
     }
@@ -136,7 +135,7 @@ fn show_ward(w: &[u64])
 {
     let mut buf = [7u32; 16384];
     io::write_all(1, b"ward");
-    let k = show_list(nights::rules_of(w), w[1], &mut buf);
+    let k = show_list(fields::rules::rules_of(w), w[1], &mut buf);
     if k <= 16384 {
         show_nurses(w, &buf[..k]);
     }

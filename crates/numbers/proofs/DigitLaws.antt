@@ -1,14 +1,14 @@
 -- The binary digits of a number: what masks, counts of ones and shifts are in terms of them.
 use mathlib.Core.Path.{_≡_, refl, sym, ap, ap₂, _∙_, subst}
-use mathlib.Core.Bool.{Bool, true, false, cond, _&&_, _||_}
+use mathlib.Core.Bool.{Bool, true, false, cond, _&&_}
 use Prim.Native.Nat.{ℕ, zero, suc, _+_, _-_, _*_, _/_, _%_, _^_, _≤_, _<_, min, max}
 use native.Mathlib.Nat.{div-one, mod-lt, lt-of-le-of-lt, zero-lt-suc, zero-mod, zero-div, not-suc-le-zero, le-of-suc-le-suc, one-mul, zero-mul, mod-eq-of-lt, zero-min, pow-suc, zero-add}
 use native.Mathlib.Numerals.{add-one, one-add}
 use native.Mathlib.Omega.{arith}
 use lib.Bits.{bitAnd, bitOr, and-step, or-step, and-shr, or-shr, and-le-r}
 use lib.Count.{ones, ones-step, ones-le}
-use lib.Pow.{shr-shr, shr-lt, pow-pos, pow-lt, high, low, field, mod-mod-pow}
-use lib.Dec.{eqb, lit<, eqb·zero-suc, eqb·suc-zero, eqb·suc-suc}
+use lib.Pow.{shr-shr, shr-lt, pow-lt, high, low, field, mod-mod-pow}
+use lib.Dec.{eqb, eqb·zero-suc, eqb·suc-zero, eqb·suc-suc}
 use native.Mathlib.Decide.{decLt}
 use lib.Arith.{lt-one, digits-mod}
 use borrow.Author.Tests.{ne-eqb, eq-eqb}

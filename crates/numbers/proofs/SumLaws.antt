@@ -3,7 +3,7 @@ use mathlib.Core.Path.{_≡_, refl, sym, ap, ap₂, _∙_, subst}
 use mathlib.Core.Logic.{⊎-elim}
 use mathlib.Core.Bool.{Bool, true, false}
 use Prim.Native.Nat.{ℕ, zero, suc, _+_, _-_, _*_, _≤_, _<_, zero-le}
-use native.Mathlib.Nat.{add-zero, add-suc, zero-add, add-assoc, add-comm, le-suc, le-trans, lt-suc-self, le-of-eq, add-le-add, suc-mul, zero-mul, le-refl, add-sub-of-le, eq-or-lt-of-le, le-of-suc-le-suc, not-suc-le-zero}
+use native.Mathlib.Nat.{add-zero, add-suc, zero-add, add-assoc, le-suc, le-trans, lt-suc-self, le-of-eq, add-le-add, suc-mul, le-refl, eq-or-lt-of-le, le-of-suc-le-suc, not-suc-le-zero}
 use native.Mathlib.Omega.{arith}
 use native.Mathlib.Numerals.{add-one}
 use Rattle.numbers.specs.Sum.{sumTo, countTo, oneIf, Is}

@@ -1,5 +1,5 @@
 -- Ascending ranges of numbers, and the numbers of a list that pass a test.
-use mathlib.Core.Bool.{Bool, true, false, cond, _&&_}
+use mathlib.Core.Bool.{Bool, true, cond, _&&_}
 use mathlib.Core.List.{List, [], _∷_}
 use Prim.Native.Nat.{ℕ, zero, suc, _<_}
 use lib.ListN.{length, getD}

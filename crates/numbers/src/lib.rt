@@ -1,6 +1,6 @@
 // Sets of small numbers as one number, and counts of their members.
 ghost use mathlib.Core.Path.{_≡_};
-ghost use mathlib.Core.Bool.{Bool, _&&_};
+ghost use mathlib.Core.Bool.{_&&_};
 ghost use Prim.Native.Nat.{ℕ, _^_, _<_, _≤_};
 ghost use Rattle.numbers.specs.Sum.{countTo, Is};
 ghost use Rattle.numbers.specs.Digits.{has, put};

@@ -18,10 +18,10 @@ use Rattle.numbers.specs.Digits.{has, numberOf}
 use Rattle.numbers.proofs.RangeLaws.{all-at, all-range, length-range, range-at}
 use Rattle.numbers.proofs.DigitLaws.{number-lt, number-has, number-suc, number-zero}
 use Rattle.numbers.proofs.SetLaws.{has-and, has-or, has-not, has-first, has-moved, has-back, has-above, none-zero}
-use Rattle.ward.specs.Fields.{duty, markOn}
+use Rattle.fields.specs.Fields.{duty, markOn}
 use Rattle.rows.specs.Rows.{stateAfter, dayZero, rowState, allows, marksAllow, availableOn}
-use Rattle.nights.specs.declared.Rules.{Rules}
-use Rattle.nights.specs.declared.hers.Run.{Run}
+use Rattle.fields.specs.declared.rules.Rules.{Rules}
+use Rattle.nights.specs.declared.Run.{Run}
 use Rattle.own.specs.declared.masks.Bars.{Bars}
 use Rattle.own.specs.declared.masks.Masks.{Masks}
 use Rattle.own.specs.declared.masks.Row.{Row}

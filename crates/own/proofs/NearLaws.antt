@@ -16,13 +16,14 @@ use Rattle.numbers.specs.Digits.{has}
 use Rattle.numbers.proofs.RangeLaws.{keep-passes, and-parts}
 use Rattle.numbers.proofs.SetLaws.{has-and, has-not, has-above}
 use Rattle.rows.specs.Rows.{started, marksAllow}
-use Rattle.ward.specs.Fields.{leastNightsOf, mostNightsOf}
-use Rattle.nights.specs.declared.Rules.{Rules}
-use Rattle.nights.specs.Nights.{gap, starts, follow, allowed, runWith, inCommon}
+use Rattle.fields.specs.Fields.{leastNightsOf, mostNightsOf}
+use Rattle.fields.specs.declared.rules.Rules.{Rules}
+use Rattle.fields.specs.Rules.{gap}
+use Rattle.nights.specs.Nights.{starts, follow, allowed, runWith, inCommon}
 use Rattle.nights.specs.Hers.{shifted, lastRun, hers}
 use Rattle.own.specs.declared.masks.Masks.{Masks}
 use Rattle.own.specs.Masks.{near, masksOf}
-use Rattle.nights.proofs.CommonLaws.{leb-same, follow-first}
+use Rattle.nights.proofs.FollowLaws.{leb-same, follow-first}
 use Rattle.nights.proofs.StartLaws.{count-starts}
 
 -- ---- the rule does not depend on where the days are counted from

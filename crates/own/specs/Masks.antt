@@ -8,13 +8,13 @@ use lib.Dec.{eqb}
 use lib.ListN.{getD}
 use Rattle.numbers.specs.Sum.{oneIf}
 use Rattle.numbers.specs.Digits.{has, numberOf}
-use Rattle.ward.specs.Fields.{duty, leastNightsOf, mostNightsOf}
+use Rattle.fields.specs.Fields.{duty, leastNightsOf, mostNightsOf}
 use Rattle.rows.specs.Rows.{allows, available, availableOn, rowState}
-use Rattle.nights.specs.declared.Rules.{Rules}
+use Rattle.fields.specs.declared.rules.Rules.{Rules}
 use Rattle.own.specs.declared.masks.Bars.{Bars}
 use Rattle.own.specs.declared.masks.Masks.{Masks}
 use Rattle.own.specs.declared.masks.Row.{Row}
-use Rattle.nights.specs.Nights.{gap}
+use Rattle.fields.specs.Rules.{gap}
 use Rattle.nights.specs.Hers.{lastRun}
 
 -- her mark of day d bars the state

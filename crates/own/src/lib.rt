@@ -1,3 +1,2 @@
-// A nurse's own night patterns, told by a few masks, and whether she has any.
+// A nurse's own night patterns, told by a few masks.
 pub mod masks;
-pub mod some;

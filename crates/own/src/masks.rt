@@ -1,9 +1,7 @@
 // A fast test of a pattern of the common list for one nurse: her marks, bounds and last days as sets of days.
 // In these sets day d of the month is bit d, and day 0 is bit 0.
-use nights::Rules;
-use nights::common;
-use nights::hers;
-use nights::hers::Run;
+use fields::rules::Rules;
+use nights::Run;
 ghost use mathlib.Core.Path.{_≡_};
 ghost use mathlib.Core.Bool.{true, cond};
 ghost use mathlib.Core.List.{List};
@@ -11,12 +9,12 @@ ghost use Prim.Native.Nat.{ℕ, suc, _+_, _^_, _≤_, _<_};
 ghost use lib.Dec.{eqb};
 ghost use Rattle.numbers.specs.Digits.{numberOf};
 ghost use Rattle.numbers.specs.Sum.{oneIf};
-ghost use Rattle.ward.specs.Fields.{Accepted, Block, nurses, days, block, duty};
+ghost use Rattle.fields.specs.Fields.{Accepted, Block, nurses, days, block, duty};
 ghost use Rattle.rows.specs.Rows.{marksAllow};
-ghost use Rattle.nights.specs.Nights.{rulesOf, inCommon};
-ghost use Rattle.nights.specs.Walk.{Small};
+ghost use Rattle.fields.specs.Rules.{rulesOf, Small};
+ghost use Rattle.nights.specs.Nights.{inCommon};
 ghost use Rattle.nights.specs.Hers.{hersOf};
-ghost use Rattle.nights.specs.declared.Rules.{Rules};
+ghost use Rattle.fields.specs.declared.rules.Rules.{Rules};
 ghost use Rattle.own.specs.Masks.{barred, workable, near, barsOf, masksOf, Masked, RowOf, AvailableDays};
 
 // The days whose marks bar O, N, n and R.
@@ -119,7 +117,7 @@ fn near_days(r: Rules, prev: u64, run: u64) -> u64
     if run == 0 {
         return 0;
     }
-    let reach = prev + common::gap_after(r, run);
+    let reach = prev + fields::rules::gap_after(r, run);
     if reach < 5 {
         return 0;
     }
@@ -144,7 +142,7 @@ fn masks_by(r: Rules, n: u64, b: &[u64]) -> Masks
     ensures small { λ m. ⌜ Masked m ⌝ }
 {
     let bars = bars_of(b, n);
-    let last = hers::last_run(b);
+    let last = nights::last_run(b);
     let near = numbers::bit(near_days(r, last.prev, last.run)) - 1;
     Masks {
         bars,
@@ -165,7 +163,7 @@ pub fn masks_of(w: &[u64], i: usize) -> Masks
     ensures is { λ m. ⌜ m ≡ masksOf (rulesOf (now (w .entry))) (days (now (w .entry))) (block (now (w .entry)) i) ⌝ }
     ensures small { λ m. ⌜ Masked m ⌝ }
 {
-    masks_by(nights::rules_of(w), w[1], ward::fields::block(w, i))
+    masks_by(fields::rules::rules_of(w), w[1], fields::block(w, i))
 }
 
 // The days of a row, day 0 with them: N, n and R.
@@ -237,5 +235,5 @@ pub fn passes(w: &[u64], m: Masks, p: u32) -> bool
     if p & m.near == 0 {
         return true;
     }
-    hers::keeps(nights::rules_of(w), m.last, 7, w[1], p)
+    nights::keeps(fields::rules::rules_of(w), m.last, 7, w[1], p)
 }

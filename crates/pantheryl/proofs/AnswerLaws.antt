@@ -8,21 +8,23 @@ use lib.Dec.{eqb}
 use native.Mathlib.Omega.{arith}
 use lib.ListN.{length, take, drop, replicate, length-append}
 use lib.Seq.{take-at}
-use Rattle.ward.specs.Grammar.{Read, good, bad}
+use Rattle.layout.specs.Grammar.{Read, good, bad}
 use Rattle.ward.specs.Answers.{readWard}
 use Rattle.ward.specs.declared.Answer.the-variants as asked
 use Rattle.ward.specs.declared.Reading.{Reading}
-use Rattle.penalty.specs.Penalty.{Slot, nightPenalty}
+use Rattle.history.specs.Slot.{Slot}
+use Rattle.penalty.specs.Penalty.{nightPenalty}
 use Rattle.search.specs.declared.Record.{Record as Stored}
-use Rattle.search.specs.Phase.{Call, No, Answer, refused, ended, End, End·zero, End·asked, End·none, given}
-use Rattle.search.specs.Record.{replyOf}
+use Rattle.history.specs.Phase.{Call, No, Answer, refused, ended, End, End·zero, End·asked, End·none, given}
+use Rattle.history.specs.Record.{replyOf}
 use Rattle.search.specs.Stored.{replyStored, advanceStored, refusalStored}
 use Rattle.phases.specs.Phases.{nightPhase}
 use Rattle.planner.specs.Advances.{advanceOver, advanceNights, advanceDays}
-use Rattle.planner.specs.Outcomes.{outcomeOf, advanceOf, rosterOf, dayAdvanceOf, callOf, nightLeft, dayLeft}
+use Rattle.phases.specs.Outcomes.{outcomeOf, advanceOf, rosterOf, dayAdvanceOf, callOf}
+use Rattle.planner.specs.Left.{nightLeft, dayLeft}
 use Rattle.rosters.specs.declared.written.Roster.{Roster}
-use Rattle.planner.specs.declared.Advance.{Advance}
-use Rattle.planner.specs.declared.DayAdvance.{DayAdvance}
+use Rattle.phases.specs.declared.outcomes.Advance.{Advance}
+use Rattle.phases.specs.declared.outcomes.DayAdvance.{DayAdvance}
 use Rattle.pantheryl.specs.Words.{recordOfWords, wordsOfRecord}
 use Rattle.pantheryl.specs.Answers.{doneWords, countWords, readWords, numbersLeft, advanceWords, wordsLeft, lettersOf, rosterLeft, nightsFrom, daysFrom}
 use Rattle.pantheryl.specs.Walk.{outcomeWords, isRefused}

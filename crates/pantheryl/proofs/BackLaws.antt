@@ -8,8 +8,9 @@ use lib.ListN.{length, getD, take, drop, replicate, length-map}
 use lib.Seq.{take-at, drop-at, ext-getD}
 use Rattle.numbers.specs.Range.{upFrom}
 use Rattle.search.specs.declared.Record.{Record as Stored}
-use Rattle.search.specs.declared.Removal.{Removal as StoredRemoval}
-use Rattle.search.specs.Stored.{Sized, allZero, noRemoval}
+use Rattle.removals.specs.declared.Removal.{Removal as StoredRemoval}
+use Rattle.removals.specs.Removals.{noRemoval}
+use Rattle.search.specs.Stored.{Sized, allZero}
 use Rattle.pantheryl.specs.Words.{flagOf, removalAt, recordOfWords, flagWord, wordsOfRecord}
 use Rattle.pantheryl.specs.Walk.{removalWord}
 use Rattle.pantheryl.specs.Back.{ReadBack}

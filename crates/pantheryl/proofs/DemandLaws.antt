@@ -5,28 +5,26 @@ use mathlib.Core.List.{List, [], _∷_}
 use mathlib.Core.Option.{Option, none, some}
 use native.Mathlib.Omega.{arith}
 use lib.ListN.{length, replicate, length-take}
-use Rattle.ward.specs.Fields.{Accepted}
-use Rattle.ward.specs.Grammar.{good}
+use Rattle.layout.specs.Grammar.{good}
 use Rattle.ward.specs.Answers.{readWard}
 use Rattle.ward.proofs.RoundTrip.{ward-back}
 use Rattle.ward.proofs.BothWaysLaws.{all-bytes}
 use Rattle.ward.proofs.AcceptedLaws.{accepted-ward}
-use Rattle.search.specs.Phase.{Phase, Step, Call, No, Answer, inTurn}
-use Rattle.search.specs.Record.{Record, total, best, stepped, proceed, replyOf}
-use Rattle.search.specs.Claim.{Demand3}
-use Rattle.search.specs.Stored.{view, viewOf, store, allZero, refusalStored, replyStored, advanceStored, Sized, Fits}
+use Rattle.history.specs.Phase.{Phase, Step, Call, No, Answer, inTurn}
+use Rattle.history.specs.Record.{Record, total, best, stepped, proceed, replyOf}
+use Rattle.history.specs.Claim.{Demand3}
+use Rattle.search.specs.Stored.{viewOf, store, allZero, refusalStored, replyStored, advanceStored, Sized, Fits}
 use Rattle.search.specs.declared.Record.{Record as Stored}
-use Rattle.search.proofs.RunLaws.{by-turns}
-use Rattle.search.proofs.StoredLaws.{view-held, store-sized, store-fresh}
+use Rattle.history.proofs.RunLaws.{by-turns}
+use Rattle.search.proofs.StoredLaws.{view-held, store-sized}
 use Rattle.search.proofs.AdvanceLaws.{stored-refused, stored-goes}
-use Rattle.phases.specs.Phases.{nightPhase, dayPhase}
+use Rattle.phases.specs.Phases.{nightPhase, dayPhase, nightOf}
 use Rattle.planner.specs.Advances.{advanceOver}
-use Rattle.phases.specs.Phases.{nightOf}
 use Rattle.phases.proofs.PhaseLaws.{night-fits, day-fits}
 use Rattle.planner.proofs.DemandLaws.{advance-read, demand}
-use Rattle.pantheryl.specs.Words.{recordOfWords, wordsOfRecord}
+use Rattle.pantheryl.specs.Words.{wordsOfRecord}
 use Rattle.pantheryl.specs.Answers.{wordsLeft}
-use Rattle.pantheryl.specs.Demand.{byWords, keptWords, WordDemand, WordsDemanded}
+use Rattle.pantheryl.specs.Demand.{byWords, keptWords, WordsDemanded}
 use Rattle.pantheryl.proofs.BackLaws.{read-back}
 
 -- ---- a record handed back has its declared sizes

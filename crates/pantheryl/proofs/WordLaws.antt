@@ -10,8 +10,9 @@ use lib.Seq.{getD-append-add, getD-take, getD-drop, length-take-le}
 use Rattle.numbers.specs.Range.{upFrom}
 use Rattle.numbers.proofs.RangeLaws.{length-range, range-at}
 use Rattle.search.specs.declared.Record.{Record as Stored}
-use Rattle.search.specs.declared.Removal.{Removal as StoredRemoval}
-use Rattle.search.specs.Stored.{Sized, noRemoval}
+use Rattle.removals.specs.declared.Removal.{Removal as StoredRemoval}
+use Rattle.removals.specs.Removals.{noRemoval}
+use Rattle.search.specs.Stored.{Sized}
 use Rattle.pantheryl.specs.Words.{flagOf, removalAt, flagWord, removalWords, wordsOfRecord}
 use Rattle.pantheryl.specs.Walk.{removalWord}
 

@@ -9,11 +9,11 @@ use Rattle.ward.specs.declared.Ward.{Ward}
 use Rattle.ward.specs.declared.Reading.{Reading}
 use Rattle.ward.specs.declared.Writing.{Writing}
 use Rattle.search.specs.declared.Record.{Record as Stored}
-use Rattle.search.specs.Phase.{Answer, refused, ended, End, End·zero, End·asked, End·none}
+use Rattle.history.specs.Phase.{Answer, refused, ended, End, End·zero, End·asked, End·none}
 use Rattle.planner.specs.Advances.{advanceNights, advanceDays}
 use Rattle.planner.specs.Answers.{Said, said}
 use Rattle.planner.specs.Answers as checks
-use Rattle.planner.specs.Outcomes.{callOf}
+use Rattle.phases.specs.Outcomes.{callOf}
 use Rattle.pantheryl.specs.Words.{recordOfWords, wordsOfRecord}
 
 -- a refusal: the question's number and its place, and all else 0

@@ -3,16 +3,15 @@ use Prim.Native.Nat.{ℕ, _<_}
 use mathlib.Core.Path.{_≡_}
 use mathlib.Core.List.{List}
 use lib.ListN.{getD, replicate}
-use Rattle.ward.specs.Grammar.{good}
+use Rattle.layout.specs.Grammar.{good}
 use Rattle.ward.specs.Answers.{readWard}
-use Rattle.search.specs.Phase.{Call, Answer}
-use Rattle.search.specs.Record.{Record}
-use Rattle.search.specs.Claim.{Demand3}
+use Rattle.history.specs.Phase.{Call, Answer}
+use Rattle.history.specs.Record.{Record}
+use Rattle.history.specs.Claim.{Demand3}
 use Rattle.search.specs.Stored.{store}
 use Rattle.search.specs.declared.Record.{Record as Stored}
-use Rattle.phases.specs.Phases.{nightPhase, dayPhase}
+use Rattle.phases.specs.Phases.{nightPhase, dayPhase, nightOf}
 use Rattle.planner.specs.Advances.{advanceNights, advanceDays}
-use Rattle.phases.specs.Phases.{nightOf}
 use Rattle.planner.specs.Demand.{NightPatterns, DayPatterns}
 use Rattle.pantheryl.specs.Words.{recordOfWords, wordsOfRecord}
 use Rattle.pantheryl.specs.Answers.{wordsLeft}

@@ -3,9 +3,9 @@ use Prim.Native.Nat.{ℕ}
 use mathlib.Core.Bool.{Bool, true, false, cond}
 use mathlib.Core.List.{List}
 use lib.Dec.{eqb}
-use Rattle.search.specs.declared.Removal.{Removal as StoredRemoval}
-use Rattle.planner.specs.declared.Outcome.{Outcome}
-use Rattle.planner.specs.declared.Outcome.the-variants.{Refused, Zero, Asked, Stuck}
+use Rattle.removals.specs.declared.Removal.{Removal as StoredRemoval}
+use Rattle.phases.specs.declared.outcomes.Outcome.{Outcome}
+use Rattle.phases.specs.declared.outcomes.Outcome.the-variants.{Refused, Zero, Asked, Stuck}
 use Rattle.pantheryl.specs.Words.{flagWord}
 use Rattle.pantheryl.specs.Answers.{refusalWords, doneWords}
 

@@ -6,7 +6,7 @@ use lib.Dec.{eqb}
 use lib.ListN.{getD, take, drop}
 use Rattle.numbers.specs.Range.{upFrom}
 use Rattle.search.specs.declared.Record.{Record as Stored}
-use Rattle.search.specs.declared.Removal.{Removal as StoredRemoval}
+use Rattle.removals.specs.declared.Removal.{Removal as StoredRemoval}
 
 -- ---- read
 

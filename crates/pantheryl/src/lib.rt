@@ -7,7 +7,7 @@ ghost use mathlib.Core.Path.{_≡_};
 ghost use lib.ListN.{length};
 ghost use Rattle.ward.specs.Answers.{readingOf, readWard, counted, checkWard, writingOf, leftOf};
 ghost use Rattle.planner.specs.Answers.{checkSays};
-ghost use Rattle.planner.specs.Outcomes.{nightLeft, dayLeft};
+ghost use Rattle.planner.specs.Left.{nightLeft, dayLeft};
 ghost use Rattle.pantheryl.specs.Words.{recordOfWords};
 ghost use Rattle.pantheryl.specs.Answers.{readWords, numbersLeft, wardOf, writeWords, advanceWords, wordsLeft, nightsFrom, daysFrom, rosterLeft, checkWords};
 

@@ -1,6 +1,6 @@
 // A search record from its words, and back.
+use removals::Removal;
 use search::Record;
-use search::Removal;
 ghost use mathlib.Core.Path.{_≡_};
 ghost use mathlib.Core.List.{map};
 ghost use Prim.Native.Nat.{_<_};

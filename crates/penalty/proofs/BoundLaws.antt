@@ -10,8 +10,9 @@ use lib.ListN.{getD}
 use Rattle.numbers.specs.Sum.{oneIf}
 use Rattle.numbers.specs.Digits.{has}
 use Rattle.numbers.proofs.SumLaws.{sum-add, sum-le, sum-change, count-le}
-use Rattle.ward.specs.Fields.{Accepted, nurses, days, groups, weight, masks, needs, need, low, high}
-use Rattle.penalty.specs.Penalty.{Slot, rest, isNone, exchanged, onDuty, members, shortOn, overOn, unplacedIn, atNight, free, atDay, nightParts, nightPenalty, dayParts, dayPenalty}
+use Rattle.fields.specs.Fields.{Accepted, nurses, days, groups, weight, masks, needs, need, low, high}
+use Rattle.history.specs.Slot.{Slot, isNone}
+use Rattle.penalty.specs.Penalty.{rest, exchanged, onDuty, members, shortOn, overOn, unplacedIn, atNight, free, atDay, nightParts, nightPenalty, dayParts, dayPenalty}
 use Rattle.penalty.proofs.ColumnLaws.{exchanged-here, exchanged-there}
 
 -- ---- one duty of one day

@@ -16,10 +16,11 @@ use Rattle.numbers.specs.Sum.{countTo, oneIf}
 use Rattle.numbers.specs.Digits.{has, put}
 use Rattle.numbers.proofs.SumLaws.{sum-ext, sum-cut}
 use Rattle.numbers.proofs.DigitLaws.{bit-of-zero, put-here, put-there}
-use Rattle.ward.specs.Fields.{nurses, days, block}
+use Rattle.fields.specs.Fields.{nurses, days, block}
 use Rattle.rows.specs.Rows.{availableOn}
 use Rattle.penalty.specs.declared.columns.Columns.{Columns}
-use Rattle.penalty.specs.Penalty.{Slot, startsIn, workedIn, exchanged, atNight, free, atDay}
+use Rattle.history.specs.Slot.{Slot}
+use Rattle.penalty.specs.Penalty.{startsIn, workedIn, exchanged, atNight, free, atDay}
 use Rattle.penalty.specs.Columns.{Same, ShownNight, ShownDay, ShowsNight, ShowsDay, Empty, PutAt, NursePut, Frees}
 
 -- ---- who is on, below m

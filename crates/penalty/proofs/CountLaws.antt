@@ -9,11 +9,12 @@ use lib.ListN.{length, getD}
 use Rattle.numbers.specs.Sum.{sumTo, Is}
 use Rattle.numbers.specs.Digits.{has}
 use Rattle.numbers.proofs.SumLaws.{sum-ext, sum-add, sum-none, loop-start, loop-turn}
-use Rattle.ward.specs.Fields.{Accepted, nurses, days, groups, weight, masks, needs, need, low, high}
+use Rattle.fields.specs.Fields.{Accepted, nurses, days, groups, weight, masks, needs, need, low, high}
 use Rattle.penalty.specs.declared.columns.Columns.{Columns}
 use Rattle.penalty.specs.declared.duty.Weights.{Weights}
 use Rattle.penalty.specs.declared.duty.Duty.{Duty}
-use Rattle.penalty.specs.Penalty.{Slot, Bounded, partsOf, onDuty, members, shortOn, overOn, unplacedIn, atNight, free, atDay, nightParts, dayParts}
+use Rattle.history.specs.Slot.{Slot}
+use Rattle.penalty.specs.Penalty.{Bounded, partsOf, onDuty, members, shortOn, overOn, unplacedIn, atNight, free, atDay, nightParts, dayParts}
 use Rattle.penalty.specs.Columns.{Same, ShowsNight, ShowsDay}
 use Rattle.penalty.specs.Walk.{weightsOf, noHigh, Counts, membersIn, needTerm, lowTerm, highTerm, groupTerm, dutyShort, dutyOver, dutyCost, shortIn, overIn, NightParts, DayParts, nightShortAt, nightOverAt, dayShortAt, dayOverAt}
 use Rattle.penalty.proofs.FieldLaws.{length-masks}

@@ -6,7 +6,7 @@ use native.Mathlib.Nat.{mul-le-mul}
 use native.Mathlib.Omega.{arith}
 use lib.ListN.{length, drop, length-drop}
 use lib.Seq.{length-take-le}
-use Rattle.ward.specs.Fields.{Accepted, nurses, days, groups, groupsAt, masks, needsAt, needsSize, needs}
+use Rattle.fields.specs.Fields.{Accepted, nurses, days, groups, groupsAt, masks, needsAt, needsSize, needs}
 use Rattle.penalty.specs.declared.duty.Weights.{Weights}
 use Rattle.penalty.specs.Walk.{weightsOf, noHigh, Light, Row}
 

@@ -7,8 +7,9 @@ use native.Mathlib.Nat.{mul-le-mul, le-refl, mul-zero}
 use native.Mathlib.Omega.{arith}
 use Rattle.numbers.specs.Sum.{sumTo, oneIf}
 use Rattle.numbers.proofs.SumLaws.{sum-none, sum-none-at}
-use Rattle.ward.specs.Fields.{Accepted, nurses, days, groups, weight, needs, need, low, high}
-use Rattle.penalty.specs.Penalty.{Slot, isNone, onDuty, members, shortOn, overOn, unplacedIn, atNight, free, atDay, nightParts, nightPenalty, dayParts, dayPenalty}
+use Rattle.fields.specs.Fields.{Accepted, nurses, days, groups, weight, needs, need, low, high}
+use Rattle.history.specs.Slot.{Slot, isNone}
+use Rattle.penalty.specs.Penalty.{onDuty, members, shortOn, overOn, unplacedIn, atNight, free, atDay, nightParts, nightPenalty, dayParts, dayPenalty}
 use Rattle.penalty.specs.Held.{LowsHeld, HighsHeld, AllPlaced, NightHeld, DayHeld}
 
 -- a weight is not zero

@@ -2,7 +2,5 @@ pub mod FieldLaws
 pub mod DutyLaws
 pub mod ColumnLaws
 pub mod CountLaws
-pub mod CostLaws
 pub mod BoundLaws
 pub mod HeldLaws
-pub mod ChunkLaws

@@ -5,10 +5,11 @@ use mathlib.Core.List.{List}
 use Prim.Native.Nat.{ℕ, suc, _≤_, _<_}
 use lib.ListN.{getD}
 use Rattle.numbers.specs.Digits.{has, put}
-use Rattle.ward.specs.Fields.{nurses, days, block}
+use Rattle.fields.specs.Fields.{nurses, days, block}
 use Rattle.rows.specs.Rows.{availableOn}
 use Rattle.penalty.specs.declared.columns.Columns.{Columns}
-use Rattle.penalty.specs.Penalty.{Slot, atNight, free, atDay}
+use Rattle.history.specs.Slot.{Slot}
+use Rattle.penalty.specs.Penalty.{atNight, free, atDay}
 
 -- f is `on` below m, and false from m on
 pub record Same (m : ℕ) (f on : ℕ → Bool) : Type 0 where

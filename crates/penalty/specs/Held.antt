@@ -3,8 +3,9 @@ use mathlib.Core.Path.{_≡_}
 use mathlib.Core.Bool.{Bool, false}
 use mathlib.Core.List.{List}
 use Prim.Native.Nat.{ℕ, _≤_, _<_}
-use Rattle.ward.specs.Fields.{nurses, days, groups, needs, need, low, high}
-use Rattle.penalty.specs.Penalty.{Slot, isNone, onDuty, members, atNight, free, atDay}
+use Rattle.fields.specs.Fields.{nurses, days, groups, needs, need, low, high}
+use Rattle.history.specs.Slot.{Slot, isNone}
+use Rattle.penalty.specs.Penalty.{onDuty, members, atNight, free, atDay}
 
 -- one duty of one day, with highs left out or not
 pub record LowsHeld (w : List ℕ) (k : ℕ) (on : ℕ → Bool) (d : ℕ) : Type 0 where

@@ -1,20 +1,17 @@
 -- The penalty: what is short of the needs and lows, what is above the highs, and the nurses not yet placed.
 -- Nurses, groups and days count from 0 here; k is 0 for night and 1 for day.
-use mathlib.Core.Bool.{Bool, true, false, cond, _&&_}
+use mathlib.Core.Bool.{Bool, cond, _&&_}
 use mathlib.Core.List.{List}
-use mathlib.Core.Option.{Option, none, some}
+use mathlib.Core.Option.{none, some}
 use Prim.Native.Nat.{ℕ, suc, _+_, _-_, _*_, _≤_}
 use lib.Dec.{eqb}
 use lib.ListN.{getD}
 use Rattle.numbers.specs.Sum.{sumTo, countTo}
 use Rattle.numbers.specs.Digits.{has, numberOf}
-use Rattle.ward.specs.Fields.{nurses, days, groups, weight, block, masks, needs, need, low, high}
+use Rattle.history.specs.Slot.{Slot, isNone, unplacedCost}
+use Rattle.fields.specs.Fields.{nurses, days, groups, weight, block, masks, needs, need, low, high}
 use Rattle.rows.specs.Rows.{availableOn, fixedNight, fixedDay}
 use Rattle.penalty.specs.declared.Penalty.{Penalty}
-
--- the pattern in use by a nurse; none while she is unplaced
-abbrev pub Slot : Type 0
-Slot = Option ℕ
 
 -- ---- one duty of one day: `on i` says whether nurse i counts
 
@@ -42,10 +39,6 @@ pub record Parts : Type 0 where
   pub over : ℕ
   pub unplaced : ℕ
 
--- a nurse not yet placed adds 10,000,000, flat
-abbrev pub unplacedCost : ℕ
-unplacedCost = 10000000
-
 -- the parts that the code's value says
 abbrev pub partsOf : Penalty → Parts
 partsOf p = record { short = p .short; over = p .over; unplaced = p .unplaced }
@@ -62,10 +55,6 @@ pub record Bounded (p : Penalty) : Type 0 where
 -- without the unplaced
 abbrev pub rest : Parts → ℕ
 rest x = x .short + x .over
-
-abbrev pub isNone : Slot → Bool
-isNone none = true
-isNone (some p) = false
 
 unfoldable pub unplacedIn : List ℕ → (ℕ → Slot) → ℕ
 unplacedIn w slots = countTo (nurses w) (λ i. isNone (slots i))

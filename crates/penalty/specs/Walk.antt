@@ -1,16 +1,14 @@
 -- What the code counts on columns: sums over 64 places, whoever stands there. f says which bits of the column are set.
 use mathlib.Core.Path.{_≡_}
-use mathlib.Core.Bool.{Bool, true, false, _&&_}
+use mathlib.Core.Bool.{Bool, _&&_}
 use mathlib.Core.List.{List}
-use Prim.Native.Nat.{ℕ, _+_, _-_, _*_, _≤_, _<_}
+use Prim.Native.Nat.{ℕ, _+_, _-_, _*_, _≤_}
 use lib.ListN.{length, getD}
 use Rattle.numbers.specs.Sum.{sumTo, countTo, Is}
-use Rattle.numbers.specs.Digits.{has, put}
-use Rattle.ward.specs.Fields.{weight, masks, needs, need, low, high}
+use Rattle.numbers.specs.Digits.{has}
+use Rattle.fields.specs.Fields.{weight, masks, needs, need, low, high}
 use Rattle.penalty.specs.declared.duty.Weights.{Weights}
 use Rattle.penalty.specs.declared.duty.Duty.{Duty}
-use Rattle.penalty.specs.declared.duty.Pair.{Pair}
-use Rattle.penalty.specs.declared.costs.Three.{Three}
 
 -- the weights of a duty, and the same with highs ignored
 unfoldable pub weightsOf : List ℕ → ℕ → Weights
@@ -63,11 +61,6 @@ pub record Counts (r : Duty) (s b o c : ℕ) : Type 0 where
   pub short-is : Is (r .short) s b
   pub over-is : Is (r .over) o c
 
--- without nurse i and with her, each at most b
-pub record Tells (r : Pair) (f : Bool → ℕ) (b : ℕ) : Type 0 where
-  pub off-is : Is (r .off) (f false) b
-  pub on-is : Is (r .on) (f true) b
-
 -- ---- the days
 
 abbrev pub shortIn : List ℕ → ℕ → ℕ → (ℕ → Bool) → ℕ
@@ -94,31 +87,3 @@ dayShortAt w day d = shortIn w 1 d (has (getD day d 0))
 
 unfoldable pub dayOverAt : List ℕ → List ℕ → ℕ → ℕ
 dayOverAt w day d = overIn w 1 d (has (getD day d 0))
-
--- ---- a nurse's table
-
--- a day by night on its two columns, with nurse i on or not at night and available or not
-unfoldable pub nightWith : List ℕ → ℕ → ℕ → Bool → Bool → ℕ → ℕ → ℕ
-nightWith w d i a b night day =
-    dutyCost (weightsOf w 0) (masks w) (needs w d) 0 (put (has night) i a)
-    + dutyCost (noHigh (weightsOf w 1)) (masks w) (needs w d) 1 (put (has day) i b)
-
-pub record NightDay (w : List ℕ) (d i night day : ℕ) (t : Three) : Type 0 where
-  pub at-night : Is (t .night) (nightWith w d i true false night day) 371200
-  pub at-free : Is (t .free) (nightWith w d i false true night day) 371200
-  pub at-none : Is (t .none) (nightWith w d i false false night day) 371200
-
--- a day by day, with nurse i on or not
-unfoldable pub dayWith : List ℕ → ℕ → ℕ → Bool → ℕ → ℕ
-dayWith w d i b day = dutyCost (weightsOf w 1) (masks w) (needs w d) 1 (put (has day) i b)
-
-pub record DayDay (w : List ℕ) (d i day : ℕ) (t : Three) : Type 0 where
-  pub at-night : Is (t .night) (dayWith w d i false day) 371200
-  pub at-free : Is (t .free) (dayWith w d i true day) 371200
-  pub at-none : Is (t .none) (dayWith w d i false day) 371200
-
--- the first d places of l hold f, each at most b, and the others 0
-pub record Filled (l : List ℕ) (f : ℕ → ℕ) (b d : ℕ) : Type 0 where
-  pub long : length l ≡ 33
-  pub done : (e : ℕ) → e < d → Is (getD l e 0) (f e) b
-  pub left : (e : ℕ) → d ≤ e → getD l e 0 ≡ 0

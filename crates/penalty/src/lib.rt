@@ -1,16 +1,15 @@
 // The penalty of a choice of patterns: what is short, what is over, and who is unplaced.
-pub mod chunks;
 pub mod columns;
-pub mod costs;
-mod duty;
-mod weights;
+pub mod duty;
+pub mod weights;
 
 use columns::Columns;
 use duty::Duty;
 ghost use mathlib.Core.Path.{_≡_};
 ghost use Prim.Native.Nat.{ℕ, _<_, _≤_};
-ghost use Rattle.ward.specs.Fields.{Accepted, days};
-ghost use Rattle.penalty.specs.Penalty.{Slot, Bounded, partsOf, total, unplacedIn, nightParts, dayParts};
+ghost use Rattle.fields.specs.Fields.{Accepted, days};
+ghost use Rattle.history.specs.Slot.{Slot};
+ghost use Rattle.penalty.specs.Penalty.{Bounded, partsOf, total, unplacedIn, nightParts, dayParts};
 ghost use Rattle.penalty.specs.Columns.{ShowsNight, ShowsDay};
 ghost use Rattle.penalty.specs.Walk.{NightParts, DayParts};
 
@@ -48,8 +47,8 @@ fn night_day(w: &[u64], d: usize, night: u64, day: u64) -> Duty
     requires { ⌜ Accepted (now w) × (d < days (now w)) ⌝ }
     ensures { λ r. ⌜ NightParts (now (w .entry)) d night day r ⌝ }
 {
-    let masks = ward::fields::masks(w);
-    let row = ward::fields::needs(w, d);
+    let masks = fields::masks(w);
+    let row = fields::needs(w, d);
     let a = duty::on_column(weights::weights(w, 0), masks, row, 0, night);
     let b = duty::on_column(weights::weights(w, 1), masks, row, 1, day);
     Duty {
@@ -65,8 +64,8 @@ fn day_day(w: &[u64], d: usize, day: u64) -> Duty
 {
     duty::on_column(
         weights::weights(w, 1),
-        ward::fields::masks(w),
-        ward::fields::needs(w, d),
+        fields::masks(w),
+        fields::needs(w, d),
         1,
         day,
     )
@@ -81,7 +80,7 @@ pub fn night_parts(w: &[u64], cols: Columns, unplaced: u64) -> Penalty
 {
     let mut short = 0;
     let mut over = 0;
-    let n = ward::fields::days(w);
+    let n = fields::days(w);
     for d in 0..n {
         let t = night_day(w, d, cols.night[d], cols.day[d]);
         short = short + t.short;
@@ -103,7 +102,7 @@ pub fn day_parts(w: &[u64], cols: Columns, unplaced: u64) -> Penalty
 {
     let mut short = 0;
     let mut over = 0;
-    let n = ward::fields::days(w);
+    let n = fields::days(w);
     for d in 0..n {
         let t = day_day(w, d, cols.day[d]);
         short = short + t.short;

@@ -2,7 +2,7 @@
 use crate::duty::Weights;
 ghost use mathlib.Core.Path.{_≡_};
 ghost use Prim.Native.Nat.{_<_};
-ghost use Rattle.ward.specs.Fields.{Accepted};
+ghost use Rattle.fields.specs.Fields.{Accepted};
 ghost use Rattle.penalty.specs.Walk.{weightsOf, noHigh};
 
 // The weights of a duty: k is 0 for night and 1 for day.

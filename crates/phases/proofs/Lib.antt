@@ -1,3 +1,4 @@
 pub mod PhaseLaws
 pub mod QuestionLaws
 pub mod OpeningLaws
+pub mod OutcomeLaws

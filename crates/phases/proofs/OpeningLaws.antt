@@ -1,5 +1,5 @@
 -- Question 8 by the record in which everyone has her night pattern.
-use Prim.Native.Nat.{ℕ, _<_}
+use Prim.Native.Nat.{ℕ}
 use mathlib.Core.Path.{_≡_, sym, ap, ap₂, _∙_}
 use mathlib.Core.Bool.{Bool, true, false}
 use mathlib.Core.List.{List}
@@ -8,14 +8,13 @@ use native.Mathlib.Omega.{arith}
 use lib.Dec.{eqb}
 use lib.ListN.{getD, replicate, getD-replicate}
 use Rattle.numbers.specs.Range.{upFrom, all}
-use Rattle.ward.specs.Fields.{Accepted, nurses}
+use Rattle.fields.specs.Fields.{Accepted, nurses}
 use Rattle.nights.specs.Hers.{hersOf}
-use Rattle.penalty.specs.Penalty.{Slot, nightPenalty}
-use Rattle.search.specs.Stored.{slot}
+use Rattle.penalty.specs.Penalty.{nightPenalty}
+use Rattle.removals.specs.Removals.{slot}
 use Rattle.search.specs.Seek.{Agree}
 use Rattle.search.specs.declared.Record.{Record as Stored}
-use Rattle.phases.specs.Phases.{nightsOpen}
-use Rattle.phases.specs.Phases.{nightOf}
+use Rattle.phases.specs.Phases.{nightsOpen, nightOf}
 
 pub everyone-placed : (w nights : List ℕ) (r : Stored) → Accepted w → r .placed ≡ replicate 48 true → r .patterns ≡ nights → Agree w r (λ i. some (nightOf nights i))
 unfolding Agree

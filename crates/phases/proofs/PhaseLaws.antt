@@ -4,13 +4,13 @@ use mathlib.Core.Logic.{_≢_}
 use mathlib.Core.List.{List, []}
 use Rattle.numbers.specs.Range.{Ascending}
 use Rattle.numbers.proofs.RangeLaws.{keep-ascending}
-use Rattle.ward.specs.Fields.{Accepted, nurses, days}
+use Rattle.fields.specs.Fields.{Accepted, nurses, days}
 use Rattle.nights.specs.Hers.{nightList}
 use Rattle.nights.proofs.ListLaws.{list-ascending}
 use Rattle.days.specs.Days.{dayRuleOf, dayList}
 use Rattle.penalty.specs.Penalty.{rest, nightParts, dayParts, unplacedIn}
 use Rattle.penalty.proofs.BoundLaws.{night-split, day-split}
-use Rattle.search.specs.Claim.{Lawful}
+use Rattle.history.specs.Claim.{Lawful}
 use Rattle.search.specs.Stored.{Fits}
 use Rattle.phases.specs.Phases.{nightPhase, dayPhase, dayListOver}
 

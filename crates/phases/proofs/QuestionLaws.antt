@@ -12,16 +12,17 @@ use lib.Dec.{ltb, eqb}
 use lib.ListN.{length, getD}
 use Rattle.numbers.specs.Range.{upFrom, keep, all}
 use Rattle.numbers.proofs.RangeLaws.{and-parts, kept-in, At}
-use Rattle.ward.specs.Fields.{Accepted, nurses, days, tabu}
+use Rattle.fields.specs.Fields.{Accepted, nurses, days, tabu}
 use Rattle.nights.specs.Hers.{hers as hersBy, hersOf, nightList}
 use Rattle.days.specs.Days.{dayRuleOf, dayList}
 use Rattle.days.proofs.SheetLaws.{rule-below}
-use Rattle.penalty.specs.Penalty.{Slot}
-use Rattle.search.specs.Phase.{Phase, No}
-use Rattle.search.specs.Record.{among, hers, names, lacking}
-use Rattle.search.specs.Stored.{slot, slotAt, held, namesAt, unusedZero, soundStored, Sized, Fits}
+use Rattle.history.specs.Slot.{Slot}
+use Rattle.history.specs.Phase.{Phase, No}
+use Rattle.history.specs.Record.{among, hers, names, lacking}
+use Rattle.removals.specs.Removals.{slot}
+use Rattle.search.specs.Stored.{slotAt, held, namesAt, unusedZero, soundStored, Sized, Fits}
 use Rattle.search.specs.declared.Record.{Record as Stored}
-use Rattle.search.proofs.TestLaws.{not-both, or-right}
+use Rattle.history.proofs.TestLaws.{not-both, or-right}
 use Rattle.search.proofs.QuestionLaws.{question-eleven}
 use Rattle.phases.specs.Phases.{nightPhase, dayPhase}
 use Rattle.phases.specs.Asked.{phaseOf, lackedAt}

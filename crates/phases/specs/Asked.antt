@@ -7,10 +7,10 @@ use mathlib.Core.Option.{Option, none, some}
 use lib.Dec.{leb, ltb}
 use lib.ListN.{length, getD}
 use Rattle.numbers.specs.Range.{upFrom}
-use Rattle.ward.specs.Fields.{nurses}
-use Rattle.days.specs.Lists.{upTo}
-use Rattle.search.specs.Phase.{Phase, No, first, unless}
-use Rattle.search.specs.Record.{lacking}
+use Rattle.fields.specs.Fields.{nurses}
+use Rattle.daylists.specs.Lists.{upTo}
+use Rattle.history.specs.Phase.{Phase, No, first, unless}
+use Rattle.history.specs.Record.{lacking}
 use Rattle.search.specs.Stored.{soundStored}
 use Rattle.search.specs.declared.Record.{Record as Stored}
 use Rattle.phases.specs.Phases.{nightPhase, dayPhase, nightsOpen, listsFit, dayListOver}

@@ -6,14 +6,14 @@ use Prim.Native.Nat.{ℕ, suc}
 use lib.Dec.{leb, eqb}
 use lib.ListN.{length, getD}
 use Rattle.numbers.specs.Range.{upFrom, all}
-use Rattle.ward.specs.Fields.{nurses, tabu}
+use Rattle.fields.specs.Fields.{nurses, tabu}
 use Rattle.nights.specs.Nights.{commonOf}
 use Rattle.nights.specs.Hers.{hersOf, nightList}
 use Rattle.days.specs.Days.{dayList}
-use Rattle.days.specs.Lists.{firstOver}
+use Rattle.daylists.specs.Lists.{firstOver}
 use Rattle.penalty.specs.Penalty.{nightPenalty, dayPenalty}
-use Rattle.search.specs.Phase.{Phase, No, first, unless}
-use Rattle.search.specs.Stored.{patternOf}
+use Rattle.history.specs.Phase.{Phase, No, first, unless}
+use Rattle.removals.specs.Removals.{patternOf}
 use Rattle.rosters.specs.Letters.{letters}
 
 -- ---- nights

@@ -1,24 +1,23 @@
 // Question 8: whether the day search opens on a choice of nights.
+use removals::Removal;
 use search::Record;
-use search::Removal;
 ghost use mathlib.Core.Path.{_≡_};
 ghost use mathlib.Core.Option.{some};
 ghost use Rattle.numbers.specs.Range.{upFrom, all};
-ghost use Rattle.ward.specs.Fields.{Accepted, nurses};
+ghost use Rattle.fields.specs.Fields.{Accepted, nurses};
 ghost use Rattle.nights.specs.Hers.{hersOf};
 ghost use Rattle.penalty.specs.Penalty.{nightPenalty};
-ghost use Rattle.phases.specs.Phases.{nightsOpen};
-ghost use Rattle.phases.specs.Phases.{nightOf};
+ghost use Rattle.phases.specs.Phases.{nightsOpen, nightOf};
 
 // Whether each night pattern is hers.
 fn nights_hers(w: &[u64], nights: &[u32; 48]) -> bool
     requires { ⌜ Accepted (now w) ⌝ }
     ensures { λ r. ⌜ r ≡ all (λ i. hersOf (now (w .entry)) i (nightOf (now (nights .entry)) i)) (upFrom 0 (nurses (now (w .entry)))) ⌝ }
 {
-    let m = ward::fields::nurses(w);
+    let m = fields::nurses(w);
     let mut i: usize = 0;
     while i < m {
-        if nights::hers::is_hers(w, i, nights[i]) {
+        if nights::is_hers(w, i, nights[i]) {
             i += 1;
         } else {
             return false;

@@ -5,10 +5,11 @@ ghost use mathlib.Core.Bool.{_&&_};
 ghost use Prim.Native.Nat.{_+_, _<_, _≤_, min};
 ghost use lib.Dec.{leb};
 ghost use Rattle.numbers.specs.Range.{upFrom, all};
-ghost use Rattle.ward.specs.Fields.{Accepted, nurses};
+ghost use Rattle.fields.specs.Fields.{Accepted, nurses};
 ghost use Rattle.nights.specs.Hers.{nightList};
-ghost use Rattle.search.specs.Record.{among, hers, names, lacking};
-ghost use Rattle.search.specs.Stored.{slot, slotAt, held, namesAt, soundStored};
+ghost use Rattle.history.specs.Record.{among, hers, names, lacking};
+ghost use Rattle.removals.specs.Removals.{slot};
+ghost use Rattle.search.specs.Stored.{slotAt, held, namesAt, soundStored};
 ghost use Rattle.phases.specs.Asked.{phaseOf, lackedAt};
 
 // A question's no, or none.
@@ -35,7 +36,7 @@ pub fn is_own(w: &[u64], nights: &[u32; 48], daily: bool, i: usize, p: u32) -> b
     if daily {
         return days::is_day_pattern(w, i, nights[i], p);
     }
-    nights::hers::is_hers(w, i, p)
+    nights::is_hers(w, i, p)
 }
 
 // Whether a slot holds one of nurse i's own, or none.
@@ -54,7 +55,7 @@ pub fn slots_own(w: &[u64], nights: &[u32; 48], daily: bool, rec: search::Record
     requires { ⌜ Accepted (now w) ⌝ }
     ensures { λ r. ⌜ r ≡ all (λ i. hers (phaseOf daily (now (w .entry)) (now (nights .entry))) i (slotAt rec i)) (upFrom 0 (phaseOf daily (now (w .entry)) (now (nights .entry)) .nurses)) ⌝ }
 {
-    let m = ward::fields::nurses(w);
+    let m = fields::nurses(w);
     let mut i: usize = 0;
     while i < m {
         if slot_own(w, nights, daily, i, rec.placed[i], rec.patterns[i]) {
@@ -67,7 +68,7 @@ pub fn slots_own(w: &[u64], nights: &[u32; 48], daily: bool, rec: search::Record
 }
 
 // Whether a removal names a nurse, with one of hers or with none.
-pub fn removal_names(w: &[u64], nights: &[u32; 48], daily: bool, x: search::Removal) -> bool
+pub fn removal_names(w: &[u64], nights: &[u32; 48], daily: bool, x: removals::Removal) -> bool
     requires { ⌜ Accepted (now w) ⌝ }
     ensures { λ r. ⌜ r ≡ names (phaseOf daily (now (w .entry)) (now (nights .entry))) (x .nurse) (slot (x .has) (x .pattern)) ⌝ }
 {
@@ -75,7 +76,7 @@ pub fn removal_names(w: &[u64], nights: &[u32; 48], daily: bool, x: search::Remo
         return false;
     }
     let i = (x.nurse - 1) as usize;
-    let m = ward::fields::nurses(w);
+    let m = fields::nurses(w);
     if i < m {
         return slot_own(w, nights, daily, i, x.has, x.pattern);
     }
@@ -98,7 +99,7 @@ pub fn removals_name(w: &[u64], nights: &[u32; 48], daily: bool, rec: search::Re
     requires { ⌜ Accepted (now w) ⌝ }
     ensures { λ r. ⌜ r ≡ all (namesAt (phaseOf daily (now (w .entry)) (now (nights .entry))) (rec .removals)) (upFrom 0 (held (phaseOf daily (now (w .entry)) (now (nights .entry)) .tabu) rec)) ⌝ }
 {
-    let n = removals_held(rec.steps, ward::fields::tabu(w));
+    let n = removals_held(rec.steps, fields::tabu(w));
     let list = rec.removals;
     let mut j: usize = 0;
     while j < n {
@@ -117,7 +118,7 @@ pub fn record_sound(w: &[u64], nights: &[u32; 48], daily: bool, rec: search::Rec
     requires { ⌜ Accepted (now w) ⌝ }
     ensures { λ r. ⌜ r ≡ soundStored (phaseOf daily (now (w .entry)) (now (nights .entry))) rec ⌝ }
 {
-    let zero = rec.unused_zero(ward::fields::nurses(w), ward::fields::tabu(w));
+    let zero = rec.unused_zero(fields::nurses(w), fields::tabu(w));
     if slots_own(w, nights, daily, rec) {
         if removals_name(w, nights, daily, rec) {
             return zero;
@@ -132,10 +133,10 @@ pub fn first_without_nights(w: &[u64]) -> usize
     ensures is { λ r. ⌜ lackedAt (nurses (now (w .entry))) r ≡ lacking (nightList (now (w .entry))) (upFrom 0 (nurses (now (w .entry)))) ⌝ }
     ensures within { λ r. ⌜ r ≤ nurses (now (w .entry)) ⌝ }
 {
-    let m = ward::fields::nurses(w);
+    let m = fields::nurses(w);
     let mut i: usize = 0;
     while i < m {
-        if own::some::has_pattern(w, i) {
+        if nightlists::some::has_pattern(w, i) {
             i += 1;
         } else {
             return i;

@@ -6,8 +6,8 @@ use mathlib.Core.List.{List}
 use native.Mathlib.Omega.{arith}
 use lib.ListN.{length, take}
 use lib.Seq.{take-at}
-use Rattle.ward.specs.Fields.{nurses, days}
-use Rattle.ward.specs.Grammar.{Read, good, bad}
+use Rattle.fields.specs.Fields.{nurses, days}
+use Rattle.layout.specs.Grammar.{Read, good, bad}
 use Rattle.ward.specs.Answers.{refusedOf, readingOf, readWard}
 use Rattle.ward.specs.declared.Answer.{Answer}
 use Rattle.ward.specs.declared.Answer.the-variants.{Yes, No}

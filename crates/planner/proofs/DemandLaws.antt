@@ -10,30 +10,31 @@ use borrow.Author.Tests.{eqb-true}
 use Rattle.numbers.specs.Range.{keep, upFrom, all}
 use Rattle.numbers.specs.Digits.{has}
 use Rattle.numbers.proofs.AllLaws.{all-each}
-use Rattle.ward.specs.Fields.{Accepted, nurses, days}
-use Rattle.ward.specs.Grammar.{Read, good}
+use Rattle.fields.specs.Fields.{Accepted, nurses, days}
+use Rattle.layout.specs.Grammar.{Read, good}
 use Rattle.ward.specs.Answers.{readWard}
 use Rattle.ward.proofs.RoundTrip.{ward-back}
 use Rattle.ward.proofs.BothWaysLaws.{all-bytes}
 use Rattle.ward.proofs.AcceptedLaws.{accepted-ward}
 use Rattle.nights.specs.Hers.{hersOf}
 use Rattle.days.specs.Days.{dayRuleOf, dayList}
-use Rattle.penalty.specs.Penalty.{Slot, isNone, workedIn, atDay, nightPenalty, dayPenalty}
+use Rattle.history.specs.Slot.{Slot, isNone}
+use Rattle.penalty.specs.Penalty.{workedIn, atDay, nightPenalty, dayPenalty}
 use Rattle.penalty.specs.Held.{DayHeld}
 use Rattle.penalty.proofs.HeldLaws.{day-zero, day-held}
-use Rattle.search.specs.Phase.{Step, Phase, Call, No, Answer, End, End·zero, End·asked, End·none, first, unless, refusal, ended}
-use Rattle.search.specs.History.{History, inUse, penalty}
-use Rattle.search.specs.Claim.{Steps, Made, refuses, goes, Turns, done, turn, Demand3}
-use Rattle.search.specs.Stored.{patternOf, allZero, store, advanceStored}
+use Rattle.history.specs.Phase.{Step, Phase, Call, No, Answer, End, End·zero, End·asked, End·none, first, unless, refusal, ended}
+use Rattle.history.specs.History.{History, inUse, penalty}
+use Rattle.history.specs.Claim.{Steps, Made, refuses, goes, Turns, done, turn, Demand3}
+use Rattle.removals.specs.Removals.{patternOf}
+use Rattle.search.specs.Stored.{allZero, store, advanceStored}
 use Rattle.search.specs.declared.Record.{Record as Stored}
-use Rattle.search.proofs.TestLaws.{and-true}
-use Rattle.search.proofs.DemandLaws.{zero≢asked}
+use Rattle.history.proofs.TestLaws.{and-true}
+use Rattle.history.proofs.DemandLaws.{zero≢asked}
 use Rattle.search.proofs.AdvanceLaws.{demand3-stored}
 use Rattle.rosters.specs.Check.{misplaced, holds}
 use Rattle.rosters.proofs.GivenLaws.{duty-alike, members-alike, Patterns, placedAll, given-at-zero}
-use Rattle.phases.specs.Phases.{nightPhase, nightsOpen, listsFit, dayListOver, dayPhase}
+use Rattle.phases.specs.Phases.{nightPhase, nightsOpen, listsFit, dayListOver, dayPhase, nightOf}
 use Rattle.planner.specs.Advances.{advanceOver, advanceDays}
-use Rattle.phases.specs.Phases.{nightOf}
 use Rattle.planner.specs.Answers.{said, checkLetters, checkOver, checkSays}
 use Rattle.planner.specs.Demand.{NightPatterns, DayPatterns, Rightly, Each, NightDemand, DayDemand, Demanded}
 use Rattle.phases.proofs.PhaseLaws.{night-fits, night-lawful, day-fits, day-lawful}

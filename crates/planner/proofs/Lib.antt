@@ -1,5 +1,3 @@
 pub mod DemandLaws
-pub mod AdvanceLaws
 pub mod AnswerLaws
-pub mod RoomLaws
-pub mod DayLaws
+pub mod FileLaws

@@ -1,9 +1,9 @@
 -- What an advance answers and the record that it hands back, from the bytes of a ward file: questions 1 to 5 first, then the search.
 use Prim.Native.Nat.{ℕ}
 use mathlib.Core.List.{List}
-use Rattle.ward.specs.Grammar.{Read, good, bad}
+use Rattle.layout.specs.Grammar.{Read, good, bad}
 use Rattle.ward.specs.Answers.{readWard}
-use Rattle.search.specs.Phase.{Phase, Call, Answer, refused}
+use Rattle.history.specs.Phase.{Phase, Call, Answer, refused}
 use Rattle.search.specs.Stored.{advanceStored}
 use Rattle.search.specs.declared.Record.{Record as Stored}
 use Rattle.phases.specs.Phases.{nightPhase, dayPhase, nightOf}

@@ -3,10 +3,10 @@ use Prim.Native.Nat.{ℕ, _*_}
 use mathlib.Core.Bool.{Bool, true, false}
 use mathlib.Core.List.{List}
 use mathlib.Core.Option.{none, some}
-use Rattle.ward.specs.Fields.{nurses, days}
-use Rattle.ward.specs.Grammar.{Read, good, bad}
+use Rattle.fields.specs.Fields.{nurses, days}
+use Rattle.layout.specs.Grammar.{Read, good, bad}
 use Rattle.ward.specs.Answers.{readWard}
-use Rattle.search.specs.Phase.{No}
+use Rattle.history.specs.Phase.{No}
 use Rattle.rosters.specs.Check.{misplaced, holds}
 use Rattle.planner.specs.declared.Checked.{Checked}
 use Rattle.planner.specs.declared.Checked.the-variants.{Refused, Passed, Broken}

@@ -6,16 +6,15 @@ use mathlib.Core.Bool.{true}
 use mathlib.Core.Logic.{_≢_}
 use mathlib.Core.List.{List, [], _∷_}
 use lib.ListN.{getD}
-use Rattle.ward.specs.Fields.{nurses}
-use Rattle.ward.specs.Grammar.{good}
+use Rattle.fields.specs.Fields.{nurses}
+use Rattle.layout.specs.Grammar.{good}
 use Rattle.ward.specs.Answers.{readWard}
 use Rattle.nights.specs.Hers.{nightList}
-use Rattle.search.specs.Phase.{Call, Answer, refused, ended, End·zero, End·asked, End·none, inTurn}
-use Rattle.search.specs.Claim.{Demand3}
+use Rattle.history.specs.Phase.{Call, Answer, refused, ended, End·zero, End·asked, End·none, inTurn}
+use Rattle.history.specs.Claim.{Demand3}
 use Rattle.search.specs.Stored.{allZero, store}
-use Rattle.phases.specs.Phases.{nightPhase, dayPhase, dayListOver}
+use Rattle.phases.specs.Phases.{nightPhase, dayPhase, dayListOver, nightOf}
 use Rattle.planner.specs.Advances.{advanceNights, advanceDays}
-use Rattle.phases.specs.Phases.{nightOf}
 use Rattle.planner.specs.Answers.{said, checkSays}
 
 -- by night, every nurse has a pattern

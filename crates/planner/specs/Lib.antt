@@ -1,6 +1,6 @@
 pub mod Advances
 pub mod Answers
 pub mod Demand
-pub mod Outcomes
+pub mod Left
 pub mod Shown
 pub mod Table

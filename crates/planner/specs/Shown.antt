@@ -1,24 +1,23 @@
 -- The ward worked through in document 01: its night search and its day search by the history, and the roster they end with.
-use Prim.Native.Nat.{ℕ, suc, _+_}
+use Prim.Native.Nat.{ℕ}
 use mathlib.Core.Path.{_≡_, refl}
-use mathlib.Core.Bool.{true}
-use mathlib.Core.List.{List, [], _∷_}
-use mathlib.Core.Option.{Option, some}
+use mathlib.Core.List.{[], _∷_}
+use mathlib.Core.Option.{some}
 use lib.ListN.{getD}
 use Rattle.numbers.specs.Range.{upFrom, keep, all}
 use Rattle.numbers.specs.Sum.{sumTo}
 use Rattle.numbers.specs.Digits.{numberOf}
-use Rattle.ward.specs.Fields.{blockAt, block, groupsAt, masks, needsAt, needs}
-use Rattle.ward.specs.Examples.{worked}
+use Rattle.fields.specs.Fields.{blockAt, block, groupsAt, masks, needsAt, needs}
+use Rattle.fields.specs.Worked.{worked}
 use Rattle.rows.specs.Rows.{rowState, marksAllow, availableOn, dutyOn}
 use Rattle.nights.specs.Nights.{common, inCommon, starts, follow}
 use Rattle.nights.specs.Hers.{nightList, hers, shifted, through, lastRun}
 use Rattle.days.specs.Days.{dayList, dayRule, choice, rowDuty, same, anyOf, freeOf, windowsHold, rests}
-use Rattle.days.specs.Lists.{upTo, firstOver}
+use Rattle.daylists.specs.Lists.{upTo, firstOver}
 use Rattle.penalty.specs.Penalty.{onDuty, members, shortOn, overOn, unplacedIn, nightParts, nightPenalty, dayParts, dayPenalty}
 use Rattle.rosters.specs.Letters.{letters, rowLettersOf, letter}
-use Rattle.search.specs.Phase.{Step, Call, Answer, refused, ended, End·zero, End·asked, run, refusal, given}
-use Rattle.search.specs.History.{History, penalty, allowed, next, extend, reply, advance, answers, history}
+use Rattle.history.specs.Phase.{Step, Call, refused, ended, End·zero, End·asked, run, refusal, given}
+use Rattle.history.specs.History.{penalty, allowed, next, extend, reply, advance, answers, history}
 use Rattle.phases.specs.Phases.{nightPhase, dayPhase, nightsOpen, commonFits, listsFit}
 
 abbrev call : ℕ → ℕ → Call

@@ -1,5 +1,5 @@
 -- Document 01's examples, one table with one statement: what a definition comes to, which the prover computes, is what the document says.
-use Prim.Native.Nat.{ℕ, suc, _+_, _^_}
+use Prim.Native.Nat.{ℕ, _+_, _^_}
 use mathlib.Core.Path.{_≡_, refl}
 use mathlib.Core.List.{List, [], _∷_}
 use mathlib.Core.Option.{none}
@@ -7,15 +7,16 @@ use lib.ListN.{length, getD}
 use Rattle.numbers.specs.Range.{upFrom, keep, all}
 use Rattle.numbers.specs.Sum.{sumTo, oneIf}
 use Rattle.numbers.specs.Digits.{numberOf}
-use Rattle.ward.specs.Codec.{encode}
-use Rattle.ward.specs.Examples.{worked}
-use Rattle.ward.specs.Fields.{blockAt, block, groupsAt, masks, needsAt, needs}
+use Rattle.codec.specs.Codec.{encode}
+use Rattle.fields.specs.Worked.{worked}
+use Rattle.fields.specs.Fields.{blockAt, block, groupsAt, masks, needsAt, needs}
 use Rattle.rows.specs.Rows.{rowState, marksAllow, availableOn, dutyOn}
-use Rattle.nights.specs.declared.Rules.{Rules}
+use Rattle.fields.specs.declared.rules.Rules.{Rules}
 use Rattle.nights.specs.Nights.{starts, follow, inCommon, common, commonOf}
 use Rattle.nights.specs.Hers.{shifted, through, lastRun, hers, nightList}
 use Rattle.days.specs.Days.{dayList, dayRule, choice, rowDuty, same, anyOf, freeOf, windowsHold, rests}
-use Rattle.penalty.specs.Penalty.{Slot, exchanged, onDuty, members, shortOn, overOn, unplacedIn, nightParts, nightPenalty, dayParts, dayPenalty}
+use Rattle.history.specs.Slot.{Slot}
+use Rattle.penalty.specs.Penalty.{exchanged, onDuty, members, shortOn, overOn, unplacedIn, nightParts, nightPenalty, dayParts, dayPenalty}
 use Rattle.rosters.specs.Letters.{letters, rowLettersOf, letter}
 
 -- days 7, V 2, L 1, g1 3

@@ -1,16 +1,17 @@
 // The published calls.
-mod by_day;
-mod by_night;
-
+pub use phases::outcomes::Advance;
+pub use phases::outcomes::DayAdvance;
+pub use phases::outcomes::Outcome;
 use rosters::letters::Place;
 use ward::Answer;
 ghost use mathlib.Core.Path.{_≡_};
 ghost use lib.ListN.{length};
-ghost use Rattle.ward.specs.Fields.{Accepted};
+ghost use Rattle.fields.specs.Fields.{Accepted};
 ghost use Rattle.ward.specs.Answers.{readingOf, readWard, counted, checkWard, writingOf, leftOf};
 ghost use Rattle.planner.specs.Answers.{saidBy, checkLetters, checkSays};
 ghost use Rattle.planner.specs.Advances.{advanceNights, advanceDays};
-ghost use Rattle.planner.specs.Outcomes.{advanceOf, dayAdvanceOf, callOf, nightLeft, dayLeft};
+ghost use Rattle.phases.specs.Outcomes.{advanceOf, dayAdvanceOf, callOf};
+ghost use Rattle.planner.specs.Left.{nightLeft, dayLeft};
 
 // The ward of a file, or the first of questions 1 to 5 that it fails.
 pub fn read(file: &[u8]) -> ward::Reading
@@ -27,31 +28,6 @@ pub fn write(ward: ward::Ward, buffer: &mut [u8]) -> ward::Writing
     ward::write(ward, buffer)
 }
 
-// How an advance ended: refused with the question's number and its place, at penalty zero, with the steps asked, or with no exchange left.
-pub enum Outcome {
-    Refused { question: u32, place: usize },
-    Zero,
-    Asked,
-    Stuck,
-}
-
-// The record, its penalty, and the steps made by the advance.
-pub struct Advance {
-    pub kept: search::Record,
-    pub penalty: u64,
-    pub steps: u32,
-    pub outcome: Outcome,
-}
-
-// The same by day, with the roster: its letters and their count where the advance leaves penalty zero, else 0.
-pub struct DayAdvance {
-    pub kept: search::Record,
-    pub penalty: u64,
-    pub steps: u32,
-    pub outcome: Outcome,
-    pub roster: rosters::written::Roster,
-}
-
 // What the check answers: a refusal; or that the roster keeps the rules, or that a rule is broken.
 pub enum Checked {
     Refused { question: u32, place: usize },
@@ -64,8 +40,8 @@ fn check_letters(w: &[u64], roster: &[u8]) -> Checked
     requires { ⌜ Accepted (now w) ⌝ }
     ensures { λ r. ⌜ saidBy r ≡ checkLetters (now (w .entry)) (now (roster .entry)) ⌝ }
 {
-    let m = ward::fields::nurses(w);
-    let n = ward::fields::days(w);
+    let m = fields::nurses(w);
+    let n = fields::days(w);
     match rosters::letters::misplaced_at(roster, m * n) {
         Place::At(place) => Checked::Refused {
             question: 12,
@@ -105,11 +81,11 @@ pub fn advance_nights(rec: search::Record, file: &[u8], k: u32, buffer: &mut [u3
     let reading = ward::read(file);
     let answer = reading.answer;
     match answer {
-        Answer::No { question, place } => by_night::refuse(rec, question, place),
+        Answer::No { question, place } => nightadvance::refuse(rec, question, place),
         Answer::Yes => {
             let numbers = reading.ward.numbers;
             let count = reading.ward.count;
-            by_night::advance_on(rec, &numbers[..count], k, buffer)
+            nightadvance::advance_on(rec, &numbers[..count], k, buffer)
         }
     }
 }
@@ -129,11 +105,11 @@ pub fn advance_days(
     let reading = ward::read(file);
     let answer = reading.answer;
     match answer {
-        Answer::No { question, place } => by_day::refuse(rec, question, place),
+        Answer::No { question, place } => dayadvance::refuse(rec, question, place),
         Answer::Yes => {
             let numbers = reading.ward.numbers;
             let count = reading.ward.count;
-            by_day::advance_on(rec, &numbers[..count], nights, k, buffer)
+            dayadvance::advance_on(rec, &numbers[..count], nights, k, buffer)
         }
     }
 }

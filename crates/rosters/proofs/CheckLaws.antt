@@ -10,7 +10,7 @@ use lib.Dec.{leb}
 use lib.ListN.{length}
 use Rattle.numbers.specs.Range.{upFrom, all}
 use Rattle.numbers.proofs.RangeLaws.{and-parts, range-all, range-each}
-use Rattle.ward.specs.Fields.{Accepted, Block, nurses, days, groups, block, needs, need, low, high}
+use Rattle.fields.specs.Fields.{Accepted, Block, nurses, days, groups, block, needs, need, low, high}
 use Rattle.nights.specs.Hers.{hersOf}
 use Rattle.days.specs.Days.{dayRuleOf}
 use Rattle.penalty.specs.Penalty.{onDuty, members}

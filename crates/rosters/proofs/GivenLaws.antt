@@ -15,11 +15,12 @@ use Rattle.numbers.specs.Range.{upFrom, all}
 use Rattle.numbers.specs.Sum.{oneIf}
 use Rattle.numbers.specs.Digits.{has}
 use Rattle.numbers.proofs.SumLaws.{sum-ext}
-use Rattle.ward.specs.Fields.{Accepted, nurses, days, groups, block, masks, needs, need, low, high}
+use Rattle.fields.specs.Fields.{Accepted, nurses, days, groups, block, masks, needs, need, low, high}
 use Rattle.rows.specs.Rows.{dutyOn}
 use Rattle.nights.specs.Hers.{hersOf}
 use Rattle.days.specs.Days.{dayRuleOf}
-use Rattle.penalty.specs.Penalty.{Slot, onDuty, members, atNight, atDay, nightPenalty, dayPenalty}
+use Rattle.history.specs.Slot.{Slot}
+use Rattle.penalty.specs.Penalty.{onDuty, members, atNight, atDay, nightPenalty, dayPenalty}
 use Rattle.penalty.specs.Held.{LowsHeld, HighsHeld, NightHeld, DayHeld}
 use Rattle.penalty.proofs.HeldLaws.{night-zero, day-zero}
 use Rattle.rosters.specs.Letters.{letter, rowLettersOf, rowLetters, letters, isLetter}

@@ -10,7 +10,6 @@ use borrow.Author.Tests.{eqb-true, eq-eqb, ne-eqb}
 use lib.Dec.{eqb}
 use lib.ListN.{length, getD, drop, drop-of-length-le}
 use lib.Seq.{drop-cons}
-use Rattle.numbers.specs.Digits.{has}
 use Rattle.rows.specs.Rows.{stateAfter, available, dutyOf}
 use Rattle.rosters.specs.Letters.{letter, isLetter}
 use Rattle.rosters.specs.Check.{firstBad, orCount, misplaced}

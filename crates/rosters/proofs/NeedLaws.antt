@@ -12,7 +12,7 @@ use Rattle.numbers.specs.Range.{upFrom, all}
 use Rattle.numbers.specs.Sum.{countTo, Is}
 use Rattle.numbers.specs.Digits.{has}
 use Rattle.numbers.proofs.AgreeLaws.{all-agree}
-use Rattle.ward.specs.Fields.{Accepted, nurses, days, groups, groupsAt, needsAt, masks, needs, need}
+use Rattle.fields.specs.Fields.{Accepted, nurses, days, groups, groupsAt, needsAt, masks, needs, need}
 use Rattle.penalty.specs.Penalty.{onDuty, members}
 use Rattle.penalty.specs.Columns.{Same}
 use Rattle.penalty.proofs.ColumnLaws.{count-same, all-same}

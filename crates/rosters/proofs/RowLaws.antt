@@ -16,7 +16,7 @@ use Rattle.numbers.specs.Digits.{has}
 use Rattle.numbers.proofs.RangeLaws.{and-parts, length-range, range-at, range-all, range-each, all-more, all-stop, all-end}
 use Rattle.numbers.proofs.DigitLaws.{number-lt, number-zero, number-suc}
 use Rattle.numbers.proofs.SetLaws.{number-is}
-use Rattle.ward.specs.Fields.{days, block, markOn}
+use Rattle.fields.specs.Fields.{days, block, markOn}
 use Rattle.rows.specs.Rows.{started, rowState, stateAfter, availableOn, dutyOf, dutyOn}
 use Rattle.nights.specs.Hers.{hers, hersOf}
 use Rattle.days.specs.Days.{choice, dayRule, dayRuleOf}

@@ -7,7 +7,7 @@ use native.Mathlib.Numerals.{add-one}
 use native.Mathlib.Omega.{arith}
 use lib.ListN.{length, take, drop, set as setAt, replicate, length-replicate, replicate-append-replicate}
 use lib.Seq.{paste, paste-suc, take-at, drop-at, take-all, drop-append-add}
-use Rattle.ward.specs.Fields.{Accepted, nurses, days, block}
+use Rattle.fields.specs.Fields.{Accepted, nurses, days, block}
 use Rattle.rows.specs.Rows.{dutyOn}
 use Rattle.rosters.specs.Letters.{letter, rowLettersOf, rowLetters, letters}
 use Rattle.rosters.proofs.RowLaws.{row-length, row-at, row-fits}

@@ -8,7 +8,7 @@ use lib.Dec.{eqb, leb}
 use lib.ListN.{length, getD, take, drop}
 use Rattle.numbers.specs.Range.{upFrom, all}
 use Rattle.numbers.specs.Digits.{numberOf}
-use Rattle.ward.specs.Fields.{nurses, days, groups, block, needs, need, low, high}
+use Rattle.fields.specs.Fields.{nurses, days, groups, block, needs, need, low, high}
 use Rattle.rows.specs.Rows.{dutyOn}
 use Rattle.nights.specs.Hers.{hersOf}
 use Rattle.days.specs.Days.{dayRuleOf}

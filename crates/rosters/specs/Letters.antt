@@ -5,7 +5,7 @@ use Prim.Native.Nat.{ℕ, zero, suc, _+_}
 use lib.Dec.{eqb}
 use lib.ListN.{getD}
 use Rattle.numbers.specs.Range.{upFrom}
-use Rattle.ward.specs.Fields.{days, block}
+use Rattle.fields.specs.Fields.{days, block}
 use Rattle.rows.specs.Rows.{dutyOn}
 
 -- the letter of a duty, as its byte

@@ -7,8 +7,8 @@ use Prim.Native.Nat.{ℕ}
 use Rattle.numbers.specs.Range.{upFrom, keep, all}
 use Rattle.numbers.specs.Sum.{sumTo}
 use Rattle.numbers.specs.Digits.{numberOf}
-use Rattle.ward.specs.Examples.{worked}
-use Rattle.ward.specs.Fields.{blockAt, block, groupsAt, masks, needsAt, needs}
+use Rattle.fields.specs.Worked.{worked}
+use Rattle.fields.specs.Fields.{blockAt, block, groupsAt, masks, needsAt, needs}
 use Rattle.rows.specs.Rows.{rowState, marksAllow, availableOn, dutyOn}
 use Rattle.nights.specs.Nights.{starts, follow, inCommon}
 use Rattle.nights.specs.Hers.{shifted, through, lastRun, hers}

@@ -2,13 +2,13 @@
 use mathlib.Core.Bool.{Bool, cond, _&&_}
 use mathlib.Core.List.{List, [], _∷_}
 use mathlib.Core.Option.{Option, none, some}
-use Prim.Native.Nat.{ℕ, suc, _-_}
+use Prim.Native.Nat.{ℕ, suc}
 use lib.Dec.{leb}
 use lib.ListN.{length, getD}
 use Rattle.numbers.specs.Range.{upFrom, all}
 use Rattle.numbers.specs.Sum.{countTo}
 use Rattle.numbers.specs.Digits.{has}
-use Rattle.ward.specs.Fields.{low, high}
+use Rattle.fields.specs.Fields.{low, high}
 use Rattle.rosters.specs.Letters.{isLetter}
 use Rattle.rosters.specs.declared.letters.Place.{Place}
 use Rattle.rosters.specs.declared.letters.Place.the-variants.{At, Nowhere}

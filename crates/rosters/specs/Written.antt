@@ -3,7 +3,7 @@ use mathlib.Core.Path.{_≡_}
 use mathlib.Core.List.{List, _++_}
 use Prim.Native.Nat.{ℕ, _-_, _*_}
 use lib.ListN.{replicate}
-use Rattle.ward.specs.Fields.{nurses, days}
+use Rattle.fields.specs.Fields.{nurses, days}
 use Rattle.rosters.specs.Letters.{letters}
 use Rattle.rosters.specs.declared.written.Roster.{Roster}
 

@@ -1,7 +1,6 @@
 // Letters: their duties, and question 12.
 ghost use mathlib.Core.Path.{_≡_};
-ghost use Prim.Native.Nat.{_<_, _≤_};
-ghost use lib.ListN.{length};
+ghost use Prim.Native.Nat.{_<_};
 ghost use Rattle.rosters.specs.Letters.{letter, isLetter};
 ghost use Rattle.rosters.specs.Check.{misplaced};
 ghost use Rattle.rosters.specs.Walk.{badFrom, foundOf};

@@ -5,10 +5,9 @@ mod rows_of;
 pub mod written;
 
 ghost use mathlib.Core.Path.{_≡_};
-ghost use mathlib.Core.Bool.{Bool};
-ghost use Prim.Native.Nat.{_*_, _<_, _≤_};
+ghost use Prim.Native.Nat.{_*_};
 ghost use lib.ListN.{length};
-ghost use Rattle.ward.specs.Fields.{Accepted, nurses, days};
+ghost use Rattle.fields.specs.Fields.{Accepted, nurses, days};
 ghost use Rattle.rosters.specs.Check.{holds};
 
 // Whether every row follows from patterns, and every day's needs, lows and highs hold.

@@ -1,10 +1,10 @@
 // Whether a roster meets the needs, lows and highs of every day.
 ghost use mathlib.Core.Path.{_≡_};
-ghost use mathlib.Core.Bool.{Bool, _&&_};
-ghost use Prim.Native.Nat.{ℕ, _+_, _*_, _<_, _≤_};
+ghost use mathlib.Core.Bool.{_&&_};
+ghost use Prim.Native.Nat.{_+_, _*_, _<_, _≤_};
 ghost use lib.ListN.{length};
 ghost use Rattle.numbers.specs.Digits.{has};
-ghost use Rattle.ward.specs.Fields.{Accepted, nurses, days};
+ghost use Rattle.fields.specs.Fields.{Accepted, nurses, days};
 ghost use Rattle.penalty.specs.Columns.{Same};
 ghost use Rattle.rosters.specs.Check.{dutyLetter, lettered, dutyHolds, dayHolds, daysHold};
 ghost use Rattle.rosters.specs.Walk.{boundsHold, allBoundsHold};
@@ -63,14 +63,14 @@ fn duty_holds(w: &[u64], roster: &[u8], k: usize, d: usize) -> bool
     requires { ⌜ Accepted (now w) × (length (now roster) ≡ nurses (now w) * days (now w)) × (k < 2) × (d < days (now w)) ⌝ }
     ensures { λ r. ⌜ r ≡ dutyHolds (now (w .entry)) (now (roster .entry)) k d ⌝ }
 {
-    let m = ward::fields::nurses(w);
-    let n = ward::fields::days(w);
+    let m = fields::nurses(w);
+    let n = fields::days(w);
     let col = column(roster, m, n, d, duty_letter(k));
-    let row = ward::fields::needs(w, d);
+    let row = fields::needs(w, d);
     if numbers::on_duty(col) < row[k] {
         return false;
     }
-    all_bounds_hold(ward::fields::masks(w), row, k, col)
+    all_bounds_hold(fields::masks(w), row, k, col)
 }
 
 // Both duties of the day of index d.
@@ -89,7 +89,7 @@ pub(crate) fn days_hold(w: &[u64], roster: &[u8]) -> bool
     requires { ⌜ Accepted (now w) × (length (now roster) ≡ nurses (now w) * days (now w)) ⌝ }
     ensures { λ r. ⌜ r ≡ daysHold (now (w .entry)) (now (roster .entry)) ⌝ }
 {
-    let n = ward::fields::days(w);
+    let n = fields::days(w);
     let mut d: usize = 0;
     while d < n {
         if day_holds(w, roster, d) {

@@ -1,9 +1,9 @@
 // Whether each row of a roster follows from patterns.
 ghost use mathlib.Core.Path.{_≡_};
 ghost use mathlib.Core.Bool.{cond};
-ghost use Prim.Native.Nat.{ℕ, _+_, _*_, _^_, _<_, _≤_};
+ghost use Prim.Native.Nat.{_+_, _*_, _^_, _<_, _≤_};
 ghost use lib.ListN.{length};
-ghost use Rattle.ward.specs.Fields.{Accepted, Block, nurses, days};
+ghost use Rattle.fields.specs.Fields.{Accepted, Block, nurses, days};
 ghost use Rattle.rosters.specs.Check.{lettersIn, sameRow, rowHolds, rowsHold};
 
 // The day's own set, or none.
@@ -57,13 +57,13 @@ fn row_holds(w: &[u64], roster: &[u8], i: usize) -> bool
     requires { ⌜ Accepted (now w) × (length (now roster) ≡ nurses (now w) * days (now w)) × (i < nurses (now w)) ⌝ }
     ensures { λ r. ⌜ r ≡ rowHolds (now (w .entry)) (now (roster .entry)) i ⌝ }
 {
-    let n = ward::fields::days(w);
+    let n = fields::days(w);
     let at = i * n;
     let p = days_with(roster, at, n as u64, b'N');
     let q = days_with(roster, at, n as u64, b'-');
-    if nights::hers::is_hers(w, i, p) {
+    if nights::is_hers(w, i, p) {
         if days::is_day_pattern(w, i, p, q) {
-            return same_row(ward::fields::block(w, i), n as u64, roster, at, p, q);
+            return same_row(fields::block(w, i), n as u64, roster, at, p, q);
         }
     }
     false
@@ -74,7 +74,7 @@ pub(crate) fn rows_hold(w: &[u64], roster: &[u8]) -> bool
     requires { ⌜ Accepted (now w) × (length (now roster) ≡ nurses (now w) * days (now w)) ⌝ }
     ensures { λ r. ⌜ r ≡ rowsHold (now (w .entry)) (now (roster .entry)) ⌝ }
 {
-    let m = ward::fields::nurses(w);
+    let m = fields::nurses(w);
     let mut i: usize = 0;
     while i < m {
         if row_holds(w, roster, i) {

@@ -3,7 +3,7 @@ ghost use mathlib.Core.Path.{_≡_};
 ghost use Prim.Native.Nat.{_+_, _≤_};
 ghost use lib.ListN.{getD};
 ghost use lib.Seq.{paste};
-ghost use Rattle.ward.specs.Fields.{Accepted, Block};
+ghost use Rattle.fields.specs.Fields.{Accepted, Block};
 ghost use Rattle.rosters.specs.Letters.{rowLettersOf};
 ghost use Rattle.rosters.specs.Written.{Written};
 
@@ -40,15 +40,15 @@ pub fn roster_of(w: &[u64], nights: [u32; 48], worked: [u32; 48]) -> Roster
     requires { ⌜ Accepted (now w) ⌝ }
     ensures { λ r. ⌜ Written (now (w .entry)) (λ i. getD nights i 0) (λ i. getD worked i 0) r ⌝ }
 {
-    let m = ward::fields::nurses(w);
-    let n = ward::fields::days(w);
+    let m = fields::nurses(w);
+    let n = fields::days(w);
     let mut roster = Roster {
         letters: [0; 1488],
         count: 0,
     };
     let mut i: usize = 0;
     while i < m {
-        roster = roster.with_row(ward::fields::block(w, i), n, nights[i], worked[i]);
+        roster = roster.with_row(fields::block(w, i), n, nights[i], worked[i]);
         i += 1;
     }
     roster

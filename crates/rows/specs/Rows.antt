@@ -1,13 +1,13 @@
 -- A nurse's row: its state on each day, what her marks allow, when she is available, and the duty of a day.
 -- `b` is her block of the ward's numbers, p a night pattern, q a day pattern, d a day of the month, from 1.
-use mathlib.Core.Bool.{Bool, true, false, cond, _&&_, _||_}
+use mathlib.Core.Bool.{Bool, false, cond, _&&_, _||_}
 use mathlib.Core.List.{List, [], _∷_}
-use Prim.Native.Nat.{ℕ, zero, suc, _+_}
+use Prim.Native.Nat.{ℕ, zero, suc}
 use lib.Dec.{eqb}
 use lib.ListN.{getD}
 use Rattle.numbers.specs.Range.{upFrom, all}
 use Rattle.numbers.specs.Digits.{has}
-use Rattle.ward.specs.Fields.{duty, markOn}
+use Rattle.fields.specs.Fields.{duty, markOn}
 
 -- a pattern is a set of days: day d has bit d - 1
 abbrev pub started : ℕ → ℕ → Bool

@@ -1,5 +1,5 @@
 -- An advance over stored records, as a loop of steps makes it; and demand 3 of such advances.
-use Prim.Native.Nat.{ℕ, zero, _+_, _-_, _≤_, _<_, min}
+use Prim.Native.Nat.{ℕ, _+_, _-_, _≤_, _<_, min}
 use mathlib.Core.Path.{_≡_, refl, sym, ap, ap₂, _∙_, subst}
 use mathlib.Core.Bool.{Bool, true, false, cond, _&&_, false≢true}
 use mathlib.Core.Logic.{_≢_}
@@ -12,23 +12,24 @@ use lib.ListN.{length}
 use borrow.Author.Tests.{eq-eqb, ne-eqb, eqb-true}
 use Rattle.numbers.specs.Range.{Ascending, upFrom}
 use Rattle.numbers.proofs.AllLaws.{all-each}
-use Rattle.penalty.specs.Penalty.{Slot}
-use Rattle.search.specs.Phase.{Step, Phase, Call, No, Answer, refused, ended, End, End·zero, End·asked, End·none, exchanges, run, refusal, given}
-use Rattle.search.specs.History.{History, penalty, extend, reply, advance}
-use Rattle.search.specs.Record.{Record, recordOf, mayTake, costAfter, total, best, stepped, proceed, among, hers, allName, lacking, sound, replyOf}
-use Rattle.search.specs.Claim.{Lawful, Demand3}
+use Rattle.history.specs.Slot.{Slot}
+use Rattle.history.specs.Phase.{Step, Phase, Call, No, Answer, refused, ended, End, End·zero, End·asked, End·none, exchanges, run, refusal, given}
+use Rattle.history.specs.History.{History, penalty, extend, reply, advance}
+use Rattle.history.specs.Record.{Record, recordOf, mayTake, costAfter, total, best, stepped, proceed, among, hers, allName, lacking, sound, replyOf}
+use Rattle.history.specs.Claim.{Lawful, Demand3}
 use Rattle.search.specs.Stored.{store, view, viewOf, allZero, unusedZero, soundStored, refusalStored, replyStored, advanceStored, Sized, Fits}
-use Rattle.search.specs.Walk.{exchangedIn, bestOver, found, steppedOf}
+use Rattle.best.specs.Best.{bestOver, found}
+use Rattle.search.specs.Walk.{exchangedIn, steppedOf}
 use Rattle.search.specs.declared.Record.{Record as Stored}
 use Rattle.search.specs.declared.Stepped.{Stepped}
-use Rattle.search.specs.declared.best.Best.{Best}
-use Rattle.search.specs.declared.best.Best.the-variants.{Nothing, Exchange}
-use Rattle.search.proofs.TestLaws.{and-true}
-use Rattle.search.proofs.ChooseLaws.{least-first, offers-only, range-only}
-use Rattle.search.proofs.RunLaws.{run-zero, run-asked, run-stuck, run-on}
-use Rattle.search.proofs.FollowLaws.{Grown, first-none, among-member, fresh-record, removals-held, none-past, lacking-none, sound-record, advance-refused, advance-goes, proceed-extend}
-use Rattle.search.proofs.DemandLaws.{demand3-of}
-use Rattle.search.proofs.BestLaws.{found-best}
+use Rattle.best.specs.declared.Best.{Best}
+use Rattle.best.specs.declared.Best.the-variants.{Nothing, Exchange}
+use Rattle.history.proofs.TestLaws.{and-true}
+use Rattle.history.proofs.ChooseLaws.{least-first, offers-only, range-only}
+use Rattle.history.proofs.RunLaws.{run-zero, run-asked, run-stuck, run-on}
+use Rattle.history.proofs.FollowLaws.{Grown, first-none, among-member, fresh-record, removals-held, none-past, lacking-none, sound-record, advance-refused, advance-goes, proceed-extend}
+use Rattle.history.proofs.DemandLaws.{demand3-of}
+use Rattle.best.proofs.BestLaws.{found-best}
 use Rattle.search.proofs.StoredLaws.{Held, Whole, view-store, store-fresh, unused-store, view-exchanged, exchanged-whole, store-view}
 
 -- ---- an exchange to take names a nurse of the phase

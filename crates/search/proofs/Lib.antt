@@ -1,16 +1,6 @@
-pub mod TestLaws
-pub mod ChooseLaws
-pub mod AllowedLaws
-pub mod RunLaws
-pub mod FollowLaws
-pub mod PlacedLaws
-pub mod DemandLaws
-pub mod Unique
 pub mod Worked
-pub mod RemovalLaws
 pub mod ViewLaws
 pub mod StoredLaws
 pub mod AdvanceLaws
-pub mod BestLaws
 pub mod QuestionLaws
 pub mod SeekLaws

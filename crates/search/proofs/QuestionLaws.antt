@@ -3,7 +3,6 @@ use Prim.Native.Nat.{ℕ, zero, suc, _+_, _≤_, min}
 use mathlib.Core.Path.{_≡_, refl, sym, ap, ap₂, _∙_}
 use mathlib.Core.Bool.{Bool, _&&_}
 use mathlib.Core.List.{List, [], _∷_, _++_, map}
-use mathlib.Core.Option.{none}
 use native.Mathlib.Omega.{arith}
 use native.Mathlib.Numerals.{add-one}
 use lib.ListN.{length, getD, take}
@@ -11,12 +10,13 @@ use lib.Seq.{take-suc}
 use borrow.Author.Tests.{lt-ltb, eq-eqb}
 use Rattle.numbers.specs.Range.{upFrom, all}
 use Rattle.numbers.proofs.AllLaws.{all-none, all-more, all-same}
-use Rattle.search.specs.Phase.{Phase}
-use Rattle.search.specs.Record.{hers, names, allName, sound}
-use Rattle.search.specs.Stored.{slot, slotAt, removalOf, held, noRemoval, view, viewOf, namesAt, unusedZero, soundStored, Sized, Fits}
+use Rattle.history.specs.Phase.{Phase}
+use Rattle.history.specs.Record.{hers, names, allName, sound}
+use Rattle.removals.specs.Removals.{slot, removalOf, noRemoval}
+use Rattle.search.specs.Stored.{slotAt, held, view, viewOf, namesAt, unusedZero, soundStored, Sized, Fits}
 use Rattle.search.specs.declared.Record.{Record as Stored}
-use Rattle.search.specs.declared.Removal.{Removal as StoredRemoval}
-use Rattle.search.proofs.TestLaws.{and-assoc, and-with-true}
+use Rattle.removals.specs.declared.Removal.{Removal as StoredRemoval}
+use Rattle.history.proofs.TestLaws.{and-assoc, and-with-true}
 use Rattle.search.proofs.StoredLaws.{view-held}
 
 module _ (P : Phase) where

@@ -1,44 +1,48 @@
 -- Laws of the two searches: the sets, columns and costs that their loops make.
-use Prim.Native.Nat.{ℕ, zero, suc, _+_, _-_, _*_, _^_, _≤_, _<_}
+use Prim.Native.Nat.{ℕ, suc, _+_, _-_, _*_, _^_, _≤_, _<_}
 use mathlib.Core.Path.{_≡_, refl, sym, ap, ap₂, _∙_, subst, fun-ext}
-use mathlib.Core.Bool.{Bool, true, false, cond, not, _&&_}
-use mathlib.Core.List.{List, [], _∷_}
-use mathlib.Core.Option.{Option, none, some}
+use mathlib.Core.Bool.{Bool, true, false, not, _&&_}
+use mathlib.Core.List.{List}
 use native.Mathlib.Omega.{arith}
 use native.Mathlib.Nat.{add-zero}
-use lib.Dec.{eqb, ltb}
-use lib.Pow.{pow-mono, pow-lt}
-use lib.ListN.{length, getD, take, drop}
-use borrow.Author.Tests.{lt-ltb, eq-eqb, ne-eqb}
-use Rattle.numbers.specs.Sum.{sumTo, countTo, oneIf, Is}
-use Rattle.numbers.specs.Digits.{has, numberOf}
+use lib.Dec.{eqb}
+use lib.Pow.{pow-mono}
+use lib.ListN.{length, getD, take}
+use borrow.Author.Tests.{lt-ltb}
+use Rattle.numbers.specs.Sum.{countTo, oneIf, Is}
+use Rattle.numbers.specs.Digits.{numberOf}
 use Rattle.numbers.proofs.SumLaws.{sum-ext}
 use Rattle.numbers.proofs.DigitLaws.{number-lt, number-suc}
-use Rattle.ward.specs.Fields.{Accepted, Block, nurses, days, tabu, block, markOn}
+use Rattle.fields.specs.Fields.{Accepted, Block, nurses, days, tabu, block, markOn}
 use Rattle.own.specs.declared.masks.Masks.{Masks}
-use Rattle.nights.specs.Nights.{rulesOf, commonOf, inCommon}
+use Rattle.fields.specs.Rules.{rulesOf}
+use Rattle.nights.specs.Nights.{commonOf, inCommon}
 use Rattle.nights.specs.Hers.{hersOf}
 use Rattle.own.specs.Masks.{masksOf, AvailableDays}
-use Rattle.nights.proofs.AcceptedLaws.{block-is}
+use Rattle.fields.proofs.AcceptedLaws.{block-is}
 use Rattle.nights.proofs.ListLaws.{common-below, common-keeps}
 use Rattle.penalty.specs.declared.Penalty.{Penalty}
 use Rattle.penalty.specs.declared.columns.Columns.{Columns}
-use Rattle.penalty.specs.declared.costs.Costs.{Costs}
-use Rattle.penalty.specs.Penalty.{Slot, Parts, partsOf, total, rest, isNone, unplacedIn, unplacedCost, exchanged, startsIn, workedIn, nightParts, dayParts, nightPenalty, dayPenalty}
-use Rattle.penalty.specs.Columns.{ShownNight, ShownDay, Empty, NursePut, Frees}
-use Rattle.penalty.specs.Costs.{TrialsNight, TrialsDay, Small, Chunks, trialOf}
+use Rattle.trials.specs.declared.costs.Costs.{Costs}
+use Rattle.history.specs.Slot.{Slot, isNone}
+use Rattle.penalty.specs.Penalty.{partsOf, total, rest, unplacedIn, exchanged, startsIn, workedIn, nightParts, dayParts, nightPenalty, dayPenalty}
+use Rattle.penalty.specs.Columns.{ShownNight, ShownDay, Empty, NursePut}
+use Rattle.trials.specs.Costs.{Small, Chunks, trialOf}
 use Rattle.penalty.proofs.ColumnLaws.{night-none, night-more, day-none, day-more}
 use Rattle.penalty.proofs.BoundLaws.{night-split, day-split, unplaced-after}
-use Rattle.search.specs.Phase.{Phase, Step}
-use Rattle.search.specs.Record.{Record, mayTake, costAfter}
-use Rattle.search.specs.Stored.{slot, slotAt, view, viewOf, Fits}
-use Rattle.search.specs.Walk.{overList, costIn, bestOver, considered, improves, exchangedIn, steppedOf}
-use Rattle.search.specs.Seek.{costOf, restOf, patternFor, Shown, tableTrial, DayTrials, NightTrials, Tables, Agree, stretch, triedBy, Lists, Seeks}
+use Rattle.history.specs.Phase.{Phase}
+use Rattle.history.specs.Record.{Record, mayTake}
+use Rattle.removals.specs.Removals.{slot}
+use Rattle.search.specs.Stored.{slotAt, view, viewOf, Fits}
+use Rattle.best.specs.Best.{overList, costIn, bestOver, considered, improves}
+use Rattle.search.specs.Walk.{exchangedIn, steppedOf}
+use Rattle.search.specs.Seek.{costOf, restOf, patternFor, Shown, Agree, stretch, Seeks}
+use Rattle.trials.specs.Tables.{tableTrial, DayTrials, NightTrials, Tables}
 use Rattle.search.proofs.AdvanceLaws.{takes-none, takes-some, takes-nurse}
-use Rattle.search.proofs.BestLaws.{turn-barred, turn-worse, turn-considered, over-keep, nurses-none, nurses-turn}
+use Rattle.best.proofs.BestLaws.{turn-barred, turn-worse, turn-considered, over-keep, nurses-none, nurses-turn}
 use Rattle.search.specs.declared.Record.{Record as Stored}
-use Rattle.search.specs.declared.best.Best.{Best}
-use Rattle.search.specs.declared.best.Best.the-variants.{Nothing, Exchange}
+use Rattle.best.specs.declared.Best.{Best}
+use Rattle.best.specs.declared.Best.the-variants.{Nothing, Exchange}
 
 -- ---- a set of days, one day more
 
@@ -187,19 +191,6 @@ others-placed u a e q = (rw e at q) ∙ add-zero a
 
 pub others-unplaced : {b : Bool} (u a : ℕ) → b ≡ false → u ≡ a + oneIf (not b) → u ≡ a + 1
 others-unplaced u a e q = rw e at q
-
--- ---- her table
-
-module _ (daily : Bool) (w : List ℕ) (cols : Columns) (i : ℕ) {c : Costs} {t : List ℕ} (small : Small c (days w)) (sums : Chunks c t) where
-  pub tables-day : daily ≡ true → ((l : ℕ → Slot) → ShownDay w l (nurses w) cols → TrialsDay w l i c) → Tables daily w cols i t
-  tables-day d f =
-      subst (λ (b : Bool). Tables b w cols i t) (sym d)
-      (λ slots s. record { worked = λ q. (c, days w, small, sums, f slots s .afresh q) })
-
-  pub tables-night : daily ≡ false → ((l : ℕ → Slot) → ShownNight w l (nurses w) cols → TrialsNight w l i c) → Tables daily w cols i t
-  tables-night d f =
-      subst (λ (b : Bool). Tables b w cols i t) (sym d)
-      (λ slots s. record { started = λ p free y. (c, days w, small, sums, f slots s .afresh p free y) })
 
 -- ---- what nurse i tries
 

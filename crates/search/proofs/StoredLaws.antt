@@ -15,13 +15,14 @@ use borrow.Author.Tests.{le-ltb, ltb-true, ltb-false, eqb-true, eqb-false, ne-eq
 use Rattle.numbers.specs.Range.{upFrom, all}
 use Rattle.numbers.proofs.RangeLaws.{length-range, and-parts}
 use Rattle.numbers.proofs.AllLaws.{all-each, all-if}
-use Rattle.penalty.specs.Penalty.{Slot}
-use Rattle.search.specs.Phase.{Step, exchanged}
-use Rattle.search.specs.Record.{Removal, Record, fresh, stepped}
-use Rattle.search.specs.Stored.{slot, slotAt, removalOf, held, view, patternOf, flagOf, storedRemoval, noRemoval, padded, store, allZero, slotZero, removalZero, unusedZero, Sized}
-use Rattle.search.specs.Walk.{removalBy, inFront, pushed, exchangedIn}
+use Rattle.history.specs.Slot.{Slot}
+use Rattle.history.specs.Phase.{Step, exchanged}
+use Rattle.history.specs.Record.{Removal, Record, fresh, stepped}
+use Rattle.removals.specs.Removals.{slot, removalOf, patternOf, flagOf, storedRemoval, noRemoval, slotZero, removalZero, inFront, pushed}
+use Rattle.search.specs.Stored.{slotAt, held, view, padded, store, allZero, unusedZero, Sized}
+use Rattle.search.specs.Walk.{removalBy, exchangedIn}
 use Rattle.search.specs.declared.Record.{Record as Stored}
-use Rattle.search.specs.declared.Removal.{Removal as StoredRemoval}
+use Rattle.removals.specs.declared.Removal.{Removal as StoredRemoval}
 
 -- ---- lists
 

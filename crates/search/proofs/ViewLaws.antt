@@ -1,18 +1,19 @@
 -- What the code asks of a stored record, in terms of the record that it stands for.
-use Prim.Native.Nat.{ℕ, _+_, _-_, _<_, min}
+use Prim.Native.Nat.{ℕ, _+_, _<_, min}
 use mathlib.Core.Path.{_≡_}
 use mathlib.Core.Bool.{Bool, true, false, not}
 use mathlib.Core.List.{List, map}
 use native.Mathlib.Numerals.{add-one}
-use lib.ListN.{take, set}
-use borrow.Author.Tests.{lt-ltb, eq-eqb, ne-eqb}
+use lib.ListN.{getD, take, set}
+use borrow.Author.Tests.{lt-ltb}
 use Rattle.numbers.specs.Range.{upFrom, all}
-use Rattle.search.specs.Phase.{holds}
-use Rattle.search.specs.Record.{barred, mayTake}
-use Rattle.search.specs.Stored.{slotAt, removalOf, view, slotZero, removalZero, unusedZero}
-use Rattle.search.specs.Walk.{inFront, pushed, removalBy, exchangedIn}
+use Rattle.history.specs.Phase.{holds}
+use Rattle.history.specs.Record.{barred, mayTake}
+use Rattle.removals.specs.Removals.{removalOf, slotZero, removalZero, pushed}
+use Rattle.search.specs.Stored.{slotAt, view, unusedZero}
+use Rattle.search.specs.Walk.{removalBy, exchangedIn}
 use Rattle.search.specs.declared.Record.{Record as Stored}
-use Rattle.search.specs.declared.Removal.{Removal as StoredRemoval}
+use Rattle.removals.specs.declared.Removal.{Removal as StoredRemoval}
 
 module _ (m tl : ℕ) (r : Stored) (i p : ℕ) (l : i < m) where
   -- in use by her
@@ -26,16 +27,13 @@ module _ (m tl : ℕ) (r : Stored) (i p : ℕ) (l : i < m) where
   unfolding mayTake view
   may-else e q f = rw (lt-ltb i m l, e, f, q, add-one i)
 
--- ---- one more removal
+-- ---- what a step takes away
 
-pub push-none : (tl steps : ℕ) (x : StoredRemoval) (rs : List StoredRemoval) → tl ≡ 0 → rs ≡ pushed tl steps x rs
-unfolding pushed
-push-none tl steps x rs e = rw (eq-eqb tl 0 e)
+pub removal-placed : (r : Stored) (i : ℕ) → getD (r .placed) i false ≡ true → record { nurse = i + 1; has = true; pattern = getD (r .patterns) i 0 } ≡ removalBy r i
+removal-placed r i e = rw (e, add-one i)
 
-pub push-one : (tl steps : ℕ) (x : StoredRemoval) (rs : List StoredRemoval) {k : ℕ} {ys : List StoredRemoval} → (tl ≡ 0 → ⊥) → k ≡ min steps (tl - 1) → ys ≡ inFront k x rs
-    → ys ≡ pushed tl steps x rs
-unfolding pushed
-push-one tl steps x rs n q e = rw (ne-eqb tl 0 n, e, q)
+pub removal-unplaced : (r : Stored) (i : ℕ) → getD (r .placed) i false ≡ false → record { nurse = i + 1; has = false; pattern = 0 } ≡ removalBy r i
+removal-unplaced r i e = rw (e, add-one i)
 
 -- ---- a step's change of the record
 

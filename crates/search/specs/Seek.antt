@@ -1,19 +1,18 @@
 -- The two searches that the code makes, by night and by day: what they cost, what a nurse tries, and which phases they serve.
-use Prim.Native.Nat.{ℕ, zero, suc, _+_, _-_, _≤_, _<_}
+use Prim.Native.Nat.{ℕ, _+_, _-_, _≤_, _<_}
 use mathlib.Core.Path.{_≡_}
 use mathlib.Core.Bool.{Bool, true, false}
 use mathlib.Core.List.{List, []}
 use lib.ListN.{length, getD, take, drop}
 use Rattle.numbers.specs.Range.{keep, Ascending}
-use Rattle.ward.specs.Fields.{nurses, tabu}
+use Rattle.fields.specs.Fields.{nurses, tabu}
 use Rattle.nights.specs.Nights.{commonOf}
 use Rattle.nights.specs.Hers.{hersOf}
 use Rattle.penalty.specs.declared.columns.Columns.{Columns}
-use Rattle.penalty.specs.declared.costs.Costs.{Costs}
-use Rattle.penalty.specs.Penalty.{Slot, rest, exchanged, startsIn, workedIn, nightParts, dayParts, nightPenalty, dayPenalty}
-use Rattle.penalty.specs.Columns.{ShownNight, ShownDay, Frees}
-use Rattle.penalty.specs.Costs.{Small, Chunks, trialOf}
-use Rattle.search.specs.Phase.{Phase, Answer, ended, End·zero, End·asked, End·none}
+use Rattle.history.specs.Slot.{Slot}
+use Rattle.penalty.specs.Penalty.{rest, startsIn, workedIn, nightParts, dayParts, nightPenalty, dayPenalty}
+use Rattle.penalty.specs.Columns.{ShownNight, ShownDay}
+use Rattle.history.specs.Phase.{Phase, Answer, ended, End·zero, End·asked, End·none}
 use Rattle.search.specs.Stored.{slotAt, viewOf, soundStored}
 use Rattle.search.specs.declared.Ending.{Ending}
 use Rattle.search.specs.declared.Ending.the-variants.{Zero, Asked, Stuck}
@@ -38,22 +37,6 @@ patternFor false w i s = startsIn w i s
 abbrev pub Shown : Bool → List ℕ → (ℕ → Slot) → ℕ → Columns → Type 0
 Shown true w slots m c = ShownDay w slots m c
 Shown false w slots m c = ShownNight w slots m c
-
--- a trial by the sums of a nurse's table comes to x
-abbrev pub tableTrial : List ℕ → ℕ → ℕ → ℕ → Type 0
-tableTrial t nights free x = (c : Costs) × (n : ℕ) × Small c n × Chunks c t × (trialOf c n nights free ≡ x)
-
--- what a trial by nurse i's table costs, by the pattern that she takes
-pub record DayTrials (t : List ℕ) (cost : ℕ → ℕ) : Type 0 where
-  pub worked : (q : ℕ) → tableTrial t 0 q (cost q)
-
-pub record NightTrials (w : List ℕ) (i : ℕ) (t : List ℕ) (cost : ℕ → ℕ) : Type 0 where
-  pub started : (p free : ℕ) → Frees w i p free → tableTrial t p free (cost p)
-
--- her table, all others as the columns show them: a trial is what is short and over, counted afresh after the exchange
-abbrev pub Tables : Bool → List ℕ → Columns → ℕ → List ℕ → Type 0
-Tables true w cols i t = (slots : ℕ → Slot) → ShownDay w slots (nurses w) cols → DayTrials t (λ q. rest (dayParts w (exchanged slots i q)))
-Tables false w cols i t = (slots : ℕ → Slot) → ShownNight w slots (nurses w) cols → NightTrials w i t (λ p. rest (nightParts w (exchanged slots i p)))
 
 -- these slots are those of a stored record, as far as there are nurses
 unfoldable pub Agree : List ℕ → Stored → (ℕ → Slot) → Type 0

@@ -1,31 +1,24 @@
 -- How a record is stored, what a stored record of any content stands for, and the advances over stored records.
 use Prim.Native.Nat.{ℕ, _+_, _-_, _≤_, min}
 use mathlib.Core.Path.{_≡_}
-use mathlib.Core.Bool.{Bool, true, false, cond, not, _&&_, _||_}
+use mathlib.Core.Bool.{Bool, false, cond, _&&_}
 use mathlib.Core.List.{List, _++_, map}
 use mathlib.Core.Option.{Option, none, some}
-use lib.Dec.{ltb, eqb}
+use lib.Dec.{ltb}
 use lib.ListN.{length, getD, take, replicate}
 use Rattle.numbers.specs.Range.{upFrom, all}
-use Rattle.penalty.specs.Penalty.{Slot}
-use Rattle.search.specs.Phase.{Phase, Call, No, Answer, refused, refusal, first, unless}
-use Rattle.search.specs.Record.{Record, Removal, lacking, names, sound, proceed, replyOf}
+use Rattle.history.specs.Slot.{Slot}
+use Rattle.history.specs.Phase.{Phase, Call, No, Answer, refused, refusal, first, unless}
+use Rattle.history.specs.Record.{Record, lacking, names, sound, proceed, replyOf}
+use Rattle.removals.specs.Removals.{slot, removalOf, patternOf, flagOf, storedRemoval, noRemoval, slotZero, removalZero}
 use Rattle.search.specs.declared.Record.{Record as Stored}
-use Rattle.search.specs.declared.Removal.{Removal as StoredRemoval}
+use Rattle.removals.specs.declared.Removal.{Removal as StoredRemoval}
 
 -- ---- what is stored
-
--- a flag and a pattern
-abbrev pub slot : Bool → ℕ → Slot
-slot true p = some p
-slot false p = none
 
 -- nurse i's
 abbrev pub slotAt : Stored → ℕ → Slot
 slotAt r i = slot (getD (r .placed) i false) (getD (r .patterns) i 0)
-
-abbrev pub removalOf : StoredRemoval → Removal
-removalOf x = record { nurse = x .nurse; pattern = slot (x .has) (x .pattern) }
 
 -- the removals held: as many as steps so far, but not above TL
 abbrev pub held : ℕ → Stored → ℕ
@@ -39,22 +32,6 @@ view m tl r =
       removals = map removalOf (take (held tl r) (r .removals));
       steps = r .steps;
     }
-
--- a slot's pattern, 0 where there is none, and its flag
-abbrev pub patternOf : Slot → ℕ
-patternOf none = 0
-patternOf (some p) = p
-
-abbrev pub flagOf : Slot → Bool
-flagOf none = false
-flagOf (some p) = true
-
-abbrev pub storedRemoval : Removal → StoredRemoval
-storedRemoval x = record { nurse = x .nurse; has = flagOf (x .pattern); pattern = patternOf (x .pattern) }
-
--- an unused place
-abbrev pub noRemoval : StoredRemoval
-noRemoval = record { nurse = 0; has = false; pattern = 0 }
 
 -- n places: those of a list, and d in the rest
 abbrev pub padded : {A : Type 0} → ℕ → A → List A → List A
@@ -75,17 +52,6 @@ abbrev pub allZero : Stored
 allZero = record { patterns = replicate 48 0; placed = replicate 48 false; removals = replicate 64 noRemoval; steps = 0 }
 
 -- ---- unused fields
-
--- an unplaced nurse's pattern; past nurse m the pattern and the flag
-abbrev pub slotZero : ℕ → List Bool → List ℕ → ℕ → Bool
-slotZero m placed patterns i =
-    cond (ltb i m) (getD placed i false || eqb (getD patterns i 0) 0) (not (getD placed i false) && eqb (getD patterns i 0) 0)
-
--- the pattern of a removal with none; past the n removals held, all
-abbrev pub removalZero : ℕ → List StoredRemoval → ℕ → Bool
-removalZero n rs j =
-    let x = getD rs j noRemoval in
-    cond (ltb j n) (x .has || eqb (x .pattern) 0) (eqb (x .nurse) 0 && (not (x .has) && eqb (x .pattern) 0))
 
 -- is every unused field 0?
 unfoldable pub unusedZero : ℕ → ℕ → Stored → Bool

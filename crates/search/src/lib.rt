@@ -1,29 +1,19 @@
 // The search, for any phase: its record, what a step makes of it, and which exchange a step takes.
-pub mod best;
-mod removals;
 pub mod slots;
 pub mod tries;
-mod unused;
 
 use best::Best;
+use removals::Removal;
 use tries::Plan;
 ghost use mathlib.Core.Path.{_≡_};
 ghost use mathlib.Core.Bool.{true};
 ghost use Prim.Native.Nat.{ℕ, _+_, _<_, _≤_};
-ghost use Rattle.ward.specs.Fields.{Accepted};
-ghost use Rattle.search.specs.Phase.{Phase};
+ghost use Rattle.fields.specs.Fields.{Accepted};
+ghost use Rattle.history.specs.Phase.{Phase};
 ghost use Rattle.search.specs.Seek.{Lists, Seeks, Served, ServedSound, answerOf};
-ghost use Rattle.search.specs.Record.{mayTake};
+ghost use Rattle.history.specs.Record.{mayTake};
 ghost use Rattle.search.specs.Stored.{view, allZero, unusedZero, Sized, soundStored, replyStored};
 ghost use Rattle.search.specs.Walk.{removalBy, exchangedIn, steppedOf};
-
-// One of the TL places: a nurse's number, from 1, and the pattern that she gave up, or none where the step placed her.
-// A place not in use is all 0.
-pub struct Removal {
-    pub nurse: u32,
-    pub has: bool,
-    pub pattern: u32,
-}
 
 // Everyone's pattern or none, the last TL removals, the last one first, and all steps so far.
 // The removals in use are as many as the steps, but not above TL.
@@ -130,7 +120,8 @@ impl Record {
         let placed = self.placed;
         let patterns = self.patterns;
         let list = self.removals;
-        unused::slots_zero(placed, patterns, m) && unused::removals_zero(list, held)
+        removals::unused::slots_zero(placed, patterns, m)
+            && removals::unused::removals_zero(list, held)
     }
 }
 
@@ -141,7 +132,7 @@ impl Record {
         requires { ⌜ Served (plan .daily) (now w) (now lists) (plan .ends) ⌝ }
         ensures { λ x. ⌜ ((P : Phase) → Seeks (plan .daily) (now (w .entry)) (now (lists .entry)) (plan .ends) P → x ≡ steppedOf P self) ⌝ }
     {
-        let tl = ward::fields::tabu(w);
+        let tl = fields::tabu(w);
         let best = tries::best_of(w, lists, plan, self);
         match best {
             Best::Nothing => Stepped {

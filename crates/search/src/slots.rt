@@ -2,14 +2,14 @@
 use crate::Record;
 use penalty::columns::Columns;
 ghost use mathlib.Core.Path.{_≡_};
-ghost use mathlib.Core.Bool.{Bool, false, not};
+ghost use mathlib.Core.Bool.{false, not};
 ghost use Prim.Native.Nat.{ℕ, suc, _+_, _≤_, _<_};
 ghost use lib.Dec.{eqb};
 ghost use lib.ListN.{getD};
 ghost use Rattle.numbers.specs.Sum.{countTo, oneIf, Is};
 ghost use Rattle.numbers.specs.Digits.{numberOf};
-ghost use Rattle.ward.specs.Fields.{Accepted, Block, nurses, markOn};
-ghost use Rattle.penalty.specs.Penalty.{Slot};
+ghost use Rattle.fields.specs.Fields.{Accepted, Block, nurses, markOn};
+ghost use Rattle.history.specs.Slot.{Slot};
 ghost use Rattle.search.specs.Stored.{slotAt};
 ghost use Rattle.search.specs.Seek.{costOf, patternFor, Shown, Agree};
 
@@ -37,8 +37,8 @@ fn pattern_in(w: &[u64], rec: Record, i: usize, daily: bool) -> u32
     if rec.placed[i] {
         return rec.patterns[i];
     }
-    let n = ward::fields::days(w);
-    let b = ward::fields::block(w, i);
+    let n = fields::days(w);
+    let b = fields::block(w, i);
     if daily {
         return marked_days(b, n, 2);
     }
@@ -50,7 +50,7 @@ fn with_row(cols: Columns, w: &[u64], rec: Record, i: usize, daily: bool) -> Col
     requires { ⌜ Accepted (now w) × (i < nurses (now w)) ⌝ }
     ensures { λ r. ⌜ ((slots : ℕ → Slot) → slots i ≡ slotAt rec i → Shown daily (now (w .entry)) slots i cols → Shown daily (now (w .entry)) slots (i + 1) r) ⌝ }
 {
-    let n = ward::fields::days(w);
+    let n = fields::days(w);
     let p = pattern_in(w, rec, i, daily);
     if daily {
         return cols.with_nurse(n, i, 0, p);
@@ -65,7 +65,7 @@ pub(crate) fn columns(w: &[u64], rec: Record, daily: bool) -> Columns
     requires { ⌜ Accepted (now w) ⌝ }
     ensures { λ r. ⌜ ((slots : ℕ → Slot) → Agree (now (w .entry)) rec slots → Shown daily (now (w .entry)) slots (nurses (now (w .entry))) r) ⌝ }
 {
-    let m = ward::fields::nurses(w);
+    let m = fields::nurses(w);
     let mut cols = Columns::empty();
     let mut i: usize = 0;
     while i < m {
@@ -98,7 +98,7 @@ pub fn penalty_of(w: &[u64], rec: Record, daily: bool) -> u64
     requires { ⌜ Accepted (now w) ⌝ }
     ensures { λ r. ⌜ ((slots : ℕ → Slot) → Agree (now (w .entry)) rec slots → r ≡ costOf daily (now (w .entry)) slots) ⌝ }
 {
-    let m = ward::fields::nurses(w);
+    let m = fields::nurses(w);
     let cols = columns(w, rec, daily);
     let waiting = unplaced(rec, m);
     if daily {

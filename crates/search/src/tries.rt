@@ -1,27 +1,28 @@
 // The best exchange over everyone's lists. A nurse's trials are reckoned by her table of days, all others as they are.
 use crate::Record;
-use crate::best;
-use crate::best::Best;
 use crate::slots;
+use best::Best;
 use own::masks::Masks;
 use penalty::Penalty;
 use penalty::columns::Columns;
 ghost use mathlib.Core.Path.{_≡_};
-ghost use mathlib.Core.Bool.{Bool, false, not, _&&_};
+ghost use mathlib.Core.Bool.{false, not, _&&_};
 ghost use Prim.Native.Nat.{ℕ, _+_, _*_, _≤_, _<_};
-ghost use lib.ListN.{length, getD};
+ghost use lib.ListN.{getD};
 ghost use Rattle.numbers.specs.Sum.{countTo, oneIf, Is};
-ghost use Rattle.ward.specs.Fields.{Accepted, nurses, days, tabu, block};
-ghost use Rattle.nights.specs.Nights.{rulesOf, commonOf};
+ghost use Rattle.fields.specs.Fields.{Accepted, nurses, days, tabu, block};
+ghost use Rattle.fields.specs.Rules.{rulesOf};
+ghost use Rattle.nights.specs.Nights.{commonOf};
 ghost use Rattle.nights.specs.Hers.{hersOf};
 ghost use Rattle.own.specs.Masks.{masksOf, Masked};
-ghost use Rattle.penalty.specs.Penalty.{Slot};
-ghost use Rattle.penalty.specs.Costs.{ChunksSmall};
-ghost use Rattle.search.specs.Phase.{Phase};
-ghost use Rattle.search.specs.Record.{mayTake};
+ghost use Rattle.history.specs.Slot.{Slot};
+ghost use Rattle.trials.specs.Costs.{ChunksSmall};
+ghost use Rattle.trials.specs.Tables.{DayTrials, NightTrials};
+ghost use Rattle.history.specs.Phase.{Phase};
+ghost use Rattle.history.specs.Record.{mayTake};
 ghost use Rattle.search.specs.Stored.{view, viewOf};
-ghost use Rattle.search.specs.Walk.{overList, costIn, bestOver};
-ghost use Rattle.search.specs.Seek.{Shown, Tables, DayTrials, NightTrials, Agree, Lists, Seeks};
+ghost use Rattle.best.specs.Best.{considered, overList, costIn, bestOver};
+ghost use Rattle.search.specs.Seek.{Shown, Agree, Lists, Seeks};
 
 // Which search it is, and by day where each nurse's stretch of the lists ends.
 pub struct Plan {
@@ -29,19 +30,23 @@ pub struct Plan {
     pub ends: [usize; 49],
 }
 
-// Nurse i's table, and its sums over three days each.
-fn table(w: &[u64], cols: Columns, i: usize, daily: bool) -> [u64; 704]
-    requires { ⌜ Accepted (now w) × (i < nurses (now w)) ⌝ }
-    ensures small { λ r. ⌜ ChunksSmall r ⌝ }
-    ensures trials { λ r. ⌜ Tables daily (now (w .entry)) cols i r ⌝ }
+// The best with one exchange more, which counts if the nurse may take the pattern.
+// A loop asks `improves` first: few exchanges pass that, and only for those the removals are looked through.
+fn consider(best: Best, rec: Record, tl: usize, nurse: usize, pattern: u32, cost: u64) -> Best
+    requires { ⌜ (tl ≤ 64) × (nurse < 48) ⌝ }
+    ensures { λ r. ⌜ ((m : ℕ) → nurse < m → r ≡ considered (mayTake (view m tl rec) nurse) (λ q. cost) nurse best pattern) ⌝ }
 {
-    let n = ward::fields::days(w);
-    if daily {
-        let costs = penalty::costs::nurse_costs_day(w, cols, i);
-        return penalty::chunks::chunks(costs, n);
+    if !rec.may_take(tl, nurse, pattern) {
+        return best;
     }
-    let costs = penalty::costs::nurse_costs_night(w, cols, i);
-    penalty::chunks::chunks(costs, n)
+    if !best::improves(best, cost) {
+        return best;
+    }
+    Best::Exchange {
+        nurse: nurse,
+        pattern: pattern,
+        cost: cost,
+    }
 }
 
 // The best of what is held and of nurse i's day list; others are unplaced besides her.
@@ -60,9 +65,9 @@ fn over_days(
     let mut best = held;
     for k in 0..part.len() {
         let q = part[k];
-        let c = penalty::chunks::chunk_trial(t, 0, q) + Penalty::UNPLACED * others;
+        let c = trials::chunks::chunk_trial(t, 0, q) + Penalty::UNPLACED * others;
         if best::improves(best, c) {
-            best = best::consider(best, rec, tl, i, q, c);
+            best = consider(best, rec, tl, i, q, c);
         }
     }
     best
@@ -90,9 +95,9 @@ fn over_nights(
         let p = list[k];
         if own::masks::passes(w, masks, p) {
             let free = own::masks::available_days(masks, p);
-            let c = penalty::chunks::chunk_trial(t, p, free) + Penalty::UNPLACED * others;
+            let c = trials::chunks::chunk_trial(t, p, free) + Penalty::UNPLACED * others;
             if best::improves(best, c) {
-                best = best::consider(best, rec, tl, i, p, c);
+                best = consider(best, rec, tl, i, p, c);
             }
         }
     }
@@ -131,8 +136,8 @@ fn over_nurse(
     ensures { λ r. ⌜ ((P : Phase) → Seeks (plan .daily) (now (w .entry)) (now (lists .entry)) (plan .ends) P → r ≡ overList (mayTake (viewOf P rec) i) (costIn P (viewOf P rec) i) i held (P .patterns i)) ⌝ }
 {
     let daily = plan.daily;
-    let tl = ward::fields::tabu(w);
-    let t = table(w, cols, i, daily);
+    let tl = fields::tabu(w);
+    let t = trials::table(w, cols, i, daily);
     let others = others_than(rec, waiting, i);
     if daily {
         let a = plan.ends[i];
@@ -148,7 +153,7 @@ pub(crate) fn best_of(w: &[u64], lists: &[u32], plan: Plan, rec: Record) -> Best
     requires { ⌜ Accepted (now w) × Lists (plan .daily) (now w) (now lists) (plan .ends) ⌝ }
     ensures { λ r. ⌜ ((P : Phase) → Seeks (plan .daily) (now (w .entry)) (now (lists .entry)) (plan .ends) P → r ≡ bestOver P (viewOf P rec) (P .nurses)) ⌝ }
 {
-    let m = ward::fields::nurses(w);
+    let m = fields::nurses(w);
     let cols = slots::columns(w, rec, plan.daily);
     let waiting = slots::unplaced(rec, m);
     let mut best = Best::Nothing;

@@ -1,5 +1,5 @@
 -- The reader's yes says that the ward is `Accepted`.
-use Prim.Native.Nat.{ℕ, zero, suc, _+_, _-_, _*_, _/_, _%_, _^_, _≤_, _<_}
+use Prim.Native.Nat.{ℕ, suc, _+_, _-_, _*_, _^_, _≤_, _<_}
 use mathlib.Core.Path.{_≡_, refl, sym, ap, _∙_, subst}
 use mathlib.Core.List.{List, [], _∷_}
 use mathlib.Core.Logic.{_⊎_, inl, inr, ⊎-elim}
@@ -9,16 +9,16 @@ use native.Mathlib.Decide.{decLt}
 use lib.ListN.{length, getD, take, drop, List·getD-eq-default, length-take, length-drop}
 use lib.Seq.{length-take-le, getD-take, getD-drop}
 use lib.Pow.{pow-pos}
-use Rattle.ward.specs.declared.layout.Head.{Head}
-use Rattle.ward.specs.declared.layout.Field.{Field}
-use Rattle.ward.specs.Grammar.{Grammar, done, number, asked, Read, good, bad, check}
-use Rattle.ward.specs.Layout.{range, one, repeat, day, days, group, groups, nurse, nurses, weights, limits, gaps, rules, sizes, ward}
-use Rattle.ward.specs.Answers.{readWard, checkWard}
-use Rattle.ward.specs.Fields as fields
-use Rattle.ward.specs.Fields.{Accepted, Block, blockAt, block, groupsAt, masks, needsAt, needs, weight}
-use Rattle.ward.proofs.GrammarLaws.{in-range}
-use Rattle.ward.proofs.AcceptLaws.{let-through}
-use Rattle.ward.proofs.AccessLaws.{After, First, Both, Most, Takes, number-has, numbers-have, numbers-all, after-at, after-add, past, takes-one, takes-both, takes-repeat, in-repeat, takes-day, takes-group, takes-nurse, nurse-duty, nurse-least-nights, nurse-most-nights, nurse-least-rests, nurse-most-rests, nurse-mark, day-in, day-pair}
+use Rattle.layout.specs.declared.Head.{Head}
+use Rattle.layout.specs.declared.Field.{Field}
+use Rattle.layout.specs.Grammar.{Grammar, done, number, asked, good, check}
+use Rattle.layout.specs.Layout.{range, one, repeat, day, days, group, groups, nurse, nurses, weights, limits, gaps, rules, sizes, ward}
+use Rattle.ward.specs.Answers.{checkWard}
+use Rattle.fields.specs.Fields as fields
+use Rattle.fields.specs.Fields.{Accepted, Block, blockAt, block, groupsAt, masks, needsAt, needs}
+use Rattle.layout.proofs.GrammarLaws.{in-range}
+use Rattle.layout.proofs.AcceptLaws.{let-through}
+use Rattle.layout.proofs.AccessLaws.{After, First, Both, Most, Takes, number-has, numbers-have, numbers-all, after-at, past, takes-one, takes-both, takes-repeat, in-repeat, takes-day, takes-group, takes-nurse, nurse-duty, nurse-least-nights, nurse-most-nights, nurse-least-rests, nurse-most-rests, nurse-mark, day-in, day-pair}
 
 split : (a b : ℕ) → (a < b) ⊎ (b ≤ a)
 split a b = go (decLt a b)

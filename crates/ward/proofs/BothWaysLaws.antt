@@ -1,5 +1,5 @@
 -- Reading and writing undo each other.
-use Prim.Native.Nat.{ℕ, zero, suc, _+_, _-_, _≤_, _<_}
+use Prim.Native.Nat.{ℕ, suc, _+_, _-_, _≤_, _<_}
 use mathlib.Core.Bool.{Bool, true, false, cond}
 use mathlib.Core.Path.{_≡_, refl, sym, ap, _∙_, subst}
 use mathlib.Core.List.{List, [], _∷_, _++_, append-assoc}
@@ -8,17 +8,14 @@ use borrow.Author.Tests.{le-ltb}
 use lib.Dec.{ltb}
 use lib.ListN.{length, take, drop, getD, replicate}
 use lib.Seq.{take-at}
-use Rattle.ward.specs.declared.Reading.{Reading}
 use Rattle.ward.specs.declared.Writing.{Writing}
-use Rattle.ward.specs.declared.Ward.{Ward}
-use Rattle.ward.specs.declared.Answer.{Answer}
 use Rattle.ward.specs.declared.Answer.the-variants.{Yes, No}
-use Rattle.ward.specs.Grammar.{Read, good, bad, bytesOf}
-use Rattle.ward.specs.Layout.{ward}
+use Rattle.layout.specs.Grammar.{Read, good, bad, bytesOf}
+use Rattle.layout.specs.Layout.{ward}
 use Rattle.ward.specs.Answers.{readWard, readingOf, refusedOf, counted, checkWard, writingOf, leftOf}
 use Rattle.ward.specs.BothWays.{BothWays}
-use Rattle.ward.proofs.AcceptLaws.{accepted}
-use Rattle.ward.proofs.WithinLaws.{within-ward}
+use Rattle.layout.proofs.AcceptLaws.{accepted}
+use Rattle.layout.proofs.WithinLaws.{within-ward}
 use Rattle.ward.proofs.RoundTrip.{AllBytes, ward-out, ward-back}
 
 pub all-bytes : (bs : List ℕ) → ((i : ℕ) → getD bs i 0 < 256) → AllBytes bs

@@ -1,22 +1,22 @@
 -- What the reader's loop keeps, and what each way out of it comes to.
-use Prim.Native.Nat.{ℕ, zero, suc, _+_, _-_, _^_, _≤_, _<_}
+use Prim.Native.Nat.{ℕ, suc, _+_, _-_, _≤_, _<_}
 use mathlib.Core.Path.{_≡_, refl, sym, ap, _∙_, subst}
 use mathlib.Core.List.{List, [], _∷_, _++_, append-nil}
 use native.Mathlib.Numerals.{add-one}
 use native.Mathlib.Omega.{arith}
 use lib.ListN.{length, take, drop, set, replicate, length-drop, length-set, length-replicate, take-append-drop}
-use lib.Seq.{take-suc-set, drop-set-lt, drop-drop, length-take-le, drop-length}
-use Rattle.ward.specs.declared.layout.Field.{Field}
+use lib.Seq.{take-suc-set, drop-set-lt, drop-drop, length-take-le}
+use Rattle.layout.specs.declared.Field.{Field}
 use Rattle.ward.specs.declared.Answer.the-variants.{Yes}
-use Rattle.ward.specs.declared.codec.Number.the-variants.{Value, Ended, Long}
-use Rattle.ward.specs.declared.layout.Want.the-variants.{Next, Nothing}
+use Rattle.codec.specs.declared.Number.the-variants.{Value, Ended, Long}
+use Rattle.layout.specs.declared.Want.the-variants.{Next, Nothing}
 use Rattle.ward.specs.declared.Reading.{Reading}
-use Rattle.ward.specs.Codec.{decode}
-use Rattle.ward.specs.Grammar.{Grammar, wanted, after, asked, Read, good, bad, prepend, read, Within}
-use Rattle.ward.specs.Layout.{ward}
+use Rattle.codec.specs.Codec.{decode}
+use Rattle.layout.specs.Grammar.{Grammar, wanted, after, asked, Read, good, bad, prepend, read, Within}
+use Rattle.layout.specs.Layout.{ward}
 use Rattle.ward.specs.Answers.{readWard, readingOf, refusedOf}
-use Rattle.ward.proofs.GrammarLaws.{within-step, prepend-more, read-good, read-ended, read-long, read-failed, read-over, read-extra, inside}
-use Rattle.ward.proofs.WithinLaws.{within-ward}
+use Rattle.layout.proofs.GrammarLaws.{within-step, prepend-more, read-good, read-ended, read-long, read-failed, read-over, read-extra, inside}
+use Rattle.layout.proofs.WithinLaws.{within-ward}
 
 -- `count` numbers are read and stand at the array's front, zeros after them; the grammar g is left to read at the offset `at`
 pub record So (file numbers : List ℕ) (count at : ℕ) (g : Grammar) : Type 0 where

@@ -7,9 +7,9 @@ use lib.ListN.{length, getD, take, length-append}
 use lib.Seq.{take-at}
 use Rattle.ward.specs.declared.Answer.the-variants.{Yes, No}
 use Rattle.ward.specs.declared.Reading.{Reading}
-use Rattle.ward.specs.Grammar.{Read, good, bad}
+use Rattle.layout.specs.Grammar.{Read, good, bad}
 use Rattle.ward.specs.Answers.{refusedOf, readingOf, readWard}
-use Rattle.ward.specs.Fields.{Accepted}
+use Rattle.fields.specs.Fields.{Accepted}
 use Rattle.ward.proofs.RoundTrip.{ward-back}
 use Rattle.ward.proofs.BothWaysLaws.{all-bytes}
 use Rattle.ward.proofs.AcceptedLaws.{accepted-ward}

@@ -1,25 +1,25 @@
 -- The round trips, of a number and of any grammar's numbers.
 use Prim.Native.Nat.{ℕ, zero, suc, _+_, _-_, _*_, _/_, _%_, _^_, _≤_, _<_}
-use mathlib.Core.Path.{_≡_, refl, sym, ap, ap₂, _∙_, subst}
+use mathlib.Core.Path.{_≡_, refl, sym, ap, ap₂, _∙_}
 use mathlib.Core.Bool.{Bool, true, false, cond}
-use mathlib.Core.List.{List, [], _∷_, _++_, append-assoc}
+use mathlib.Core.List.{List, [], _∷_, _++_}
 use native.Mathlib.Nat.{pow-succ'}
 use native.Mathlib.Numerals.{add-one}
 use native.Mathlib.Omega.{arith}
 use borrow.Author.Tests.{lt-ltb, le-ltb, ltb-true, ltb-false}
-use lib.ListN.{length, drop, take}
-use lib.Seq.{drop-at, drop-append-seam}
+use lib.ListN.{length, drop}
+use lib.Seq.{drop-append-seam}
 use lib.Dec.{ltb}
-use Rattle.ward.specs.declared.layout.Field.{Field}
-use Rattle.ward.specs.declared.codec.Number.{Number}
-use Rattle.ward.specs.declared.codec.Number.the-variants.{Value, Ended, Long}
-use Rattle.ward.specs.Codec.{encodeGroups, encode, under, final, decodeGroups, decode}
-use Rattle.ward.specs.Grammar.{Grammar, done, number, asked, Read, good, bad, prepend, unless, heard, read, check, bytesOf, Within}
-use Rattle.ward.specs.Layout.{ward}
+use Rattle.layout.specs.declared.Field.{Field}
+use Rattle.codec.specs.declared.Number.{Number}
+use Rattle.codec.specs.declared.Number.the-variants.{Value, Ended, Long}
+use Rattle.codec.specs.Codec.{encodeGroups, encode, under, final, decodeGroups, decode}
+use Rattle.layout.specs.Grammar.{Grammar, done, number, asked, good, prepend, heard, read, check, bytesOf, Within}
+use Rattle.layout.specs.Layout.{ward}
 use Rattle.ward.specs.Answers.{readWard, checkWard}
-use Rattle.ward.proofs.GrammarLaws.{in-range}
-use Rattle.ward.proofs.WithinLaws.{within-ward}
-use Rattle.ward.proofs.AcceptLaws.{let-through}
+use Rattle.layout.proofs.GrammarLaws.{in-range}
+use Rattle.layout.proofs.WithinLaws.{within-ward}
+use Rattle.layout.proofs.AcceptLaws.{let-through}
 
 -- ---- a number: what was written is read
 

@@ -1,23 +1,23 @@
 -- What the loop of `questions` keeps, and what each way out of it comes to.
-use Prim.Native.Nat.{ℕ, zero, suc, _+_, _-_, _*_, _^_, _≤_, _<_}
+use Prim.Native.Nat.{ℕ, _+_, _-_, _*_, _^_, _≤_, _<_}
 use mathlib.Core.Path.{_≡_, refl, sym, ap, _∙_, subst}
 use mathlib.Core.List.{List, [], _∷_, _++_, append-assoc, append-nil}
 use native.Mathlib.Numerals.{add-one}
 use native.Mathlib.Omega.{arith}
-use lib.ListN.{length, take, drop, getD, replicate, length-append, length-take, length-drop, length-replicate, drop-of-length-le, List·getD-append}
+use lib.ListN.{length, take, drop, getD, length-append, length-take, length-replicate, drop-of-length-le, List·getD-append}
 use lib.Seq.{drop-cons, take-suc, getD-take, take-all}
-use Rattle.ward.specs.declared.layout.Field.{Field}
+use Rattle.layout.specs.declared.Field.{Field}
 use Rattle.ward.specs.declared.Ward.{Ward}
 use Rattle.ward.specs.declared.Checked.{Checked}
 use Rattle.ward.specs.declared.Answer.the-variants.{Yes, No}
-use Rattle.ward.specs.declared.layout.Want.the-variants.{Next, Nothing}
-use Rattle.ward.specs.Codec.{encode}
-use Rattle.ward.specs.Grammar.{Grammar, wanted, after, asked, Read, good, bad, prepend, check, bytesOf, Within}
-use Rattle.ward.specs.Layout.{ward}
-use Rattle.ward.specs.Answers.{Small, counted, checkWard, checkedOf}
-use Rattle.ward.proofs.GrammarLaws.{in-range, small, within-some, within-step, prepend-more, check-good, check-failed, check-missing, check-over, check-extra}
-use Rattle.ward.proofs.WithinLaws.{within-ward}
-use Rattle.ward.proofs.EncodeLaws.{encode-most}
+use Rattle.layout.specs.declared.Want.the-variants.{Next, Nothing}
+use Rattle.codec.specs.Codec.{encode}
+use Rattle.layout.specs.Grammar.{Grammar, wanted, after, asked, Read, good, bad, prepend, check, bytesOf, Within, Small}
+use Rattle.layout.specs.Layout.{ward}
+use Rattle.ward.specs.Answers.{counted, checkWard, checkedOf}
+use Rattle.layout.proofs.GrammarLaws.{in-range, small, within-some, within-step, prepend-more, check-good, check-failed, check-missing, check-over, check-extra}
+use Rattle.layout.proofs.WithinLaws.{within-ward}
+use Rattle.codec.proofs.EncodeLaws.{encode-most}
 
 -- ---- the counted numbers
 

@@ -1,18 +1,16 @@
 -- What the calls answer.
-use Prim.Native.Nat.{ℕ, _+_, _-_, _<_, _^_}
+use Prim.Native.Nat.{ℕ, _-_}
 use mathlib.Core.Bool.{cond}
 use mathlib.Core.List.{List, _++_}
 use lib.ListN.{length, take, drop, replicate}
 use lib.Dec.{ltb}
-use Rattle.ward.specs.declared.layout.Want.{Want}
-use Rattle.ward.specs.declared.layout.Want.the-variants.{Next, Nothing}
 use Rattle.ward.specs.declared.Answer.the-variants.{Yes, No}
 use Rattle.ward.specs.declared.Reading.{Reading}
 use Rattle.ward.specs.declared.Ward.{Ward}
 use Rattle.ward.specs.declared.Checked.{Checked}
 use Rattle.ward.specs.declared.Writing.{Writing}
-use Rattle.ward.specs.Grammar.{Read, good, bad, read, check, bytesOf}
-use Rattle.ward.specs.Layout.{ward}
+use Rattle.layout.specs.Grammar.{Read, good, bad, read, check, bytesOf}
+use Rattle.layout.specs.Layout.{ward}
 
 unfoldable pub refusedOf : ℕ → ℕ → Reading
 refusedOf q p = record { answer = No q p; ward = record { numbers = replicate 4094 0; count = 0 } }
@@ -28,16 +26,7 @@ unfoldable pub readWard : List ℕ → Read
 unfolding read ward
 readWard file = read ward 0 file
 
--- a field's numbers fit seven groups
-abbrev pub Small : Want → Type 0
-Small (Next f) = f .most < 2 ^ 49
-Small Nothing = Unit
-
 -- ---- the writer
-
--- the list with xs in it from the place `at` on
-abbrev pub pasted : List ℕ → ℕ → List ℕ → List ℕ
-pasted b at xs = take at b ++ (xs ++ drop (at + length xs) b)
 
 -- the counted numbers, of which those past the array's end are 0
 unfoldable pub counted : Ward → List ℕ

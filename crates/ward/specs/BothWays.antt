@@ -5,7 +5,7 @@ use mathlib.Core.List.{List, _++_}
 use lib.ListN.{length, getD, take, drop}
 use Rattle.ward.specs.declared.Answer.the-variants.{Yes}
 use Rattle.ward.specs.declared.Ward.{Ward}
-use Rattle.ward.specs.Grammar.{good}
+use Rattle.layout.specs.Grammar.{good}
 use Rattle.ward.specs.Answers.{readWard, readingOf, counted, checkWard, writingOf, leftOf}
 
 pub record BothWays : Type 0 where

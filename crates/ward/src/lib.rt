@@ -1,7 +1,4 @@
 // The ward file: its reader and its writer.
-mod codec;
-pub mod fields;
-mod layout;
 
 use codec::Number;
 use layout::Want;

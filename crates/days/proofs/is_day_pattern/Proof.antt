@@ -1,6 +1,6 @@
 -- `days::is_day_pattern` meets its contract.
 use mathlib.Core.Path.{sym, _∙_}
-use Rattle.ward.specs.Fields.{block, days, longestDays}
+use Rattle.fields.specs.Fields.{block, days, longestDays}
 use Rattle.days.proofs.SheetLaws.{sheet-small, rule-is}
 use borrow.Author.Needs.{needs}
 use Rattle.days.proofs.is_day_pattern.Statement.{statement}

@@ -3,8 +3,8 @@ use mathlib.Core.Path.{sym, subst}
 use mathlib.Core.List.{List}
 use Prim.Native.Nat.{ℕ}
 use native.Mathlib.Omega.{arith}
-use Rattle.ward.specs.Fields.{Block, days, longestDays}
-use Rattle.days.specs.Walk.{IsSheet}
+use Rattle.fields.specs.Fields.{Block, days, longestDays}
+use Rattle.days.specs.Month.{IsSheet}
 use Rattle.days.proofs.SheetLaws.{block-ends, block-part}
 use borrow.Author.Needs.{needs}
 use Rattle.days.proofs.nurse_sheet.Statement.{statement}

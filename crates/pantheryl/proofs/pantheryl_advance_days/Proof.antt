@@ -1,4 +1,4 @@
--- `pantheryl_advance_days` meets its contract: a refusal, or the record, the lists and the letters that the planner gives.
+-- `pantheryl::pantheryl_advance_days` meets its contract: a refusal, or the record, the lists and the letters that the planner gives.
 use mathlib.Core.Path.{_≡_}
 use lib.ListN.{length, length-map}
 use borrow.Author.Tests.{not-true, not-false}

@@ -1,4 +1,4 @@
--- `pantheryl_advance_nights` meets its contract: a refusal, or the record that the planner hands back.
+-- `pantheryl::pantheryl_advance_nights` meets its contract: a refusal, or the record that the planner hands back.
 use borrow.Author.Tests.{not-true, not-false}
 use Rattle.pantheryl.proofs.AnswerLaws.{nights-refused, nights-done}
 use borrow.Author.Needs.{needs}

@@ -1,4 +1,4 @@
--- `pantheryl_check` meets its contract, by the planner's.
+-- `pantheryl::pantheryl_check` meets its contract, by the planner's.
 use mathlib.Core.Path.{ap, _∙_}
 use Rattle.pantheryl.specs.Answers.{checkWords}
 use borrow.Author.Needs.{needs}

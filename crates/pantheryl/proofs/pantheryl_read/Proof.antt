@@ -1,4 +1,4 @@
--- `pantheryl_read` meets its contract: the reader's refusal, or its numbers.
+-- `pantheryl::pantheryl_read` meets its contract: the reader's refusal, or its numbers.
 use Rattle.pantheryl.proofs.AnswerLaws.{read-refused, read-done}
 use borrow.Author.Needs.{needs}
 use Rattle.pantheryl.proofs.pantheryl_read.Statement.{statement}

@@ -1,4 +1,4 @@
--- `pantheryl_write` meets its contract, by the planner's.
+-- `pantheryl::pantheryl_write` meets its contract, by the planner's.
 use mathlib.Core.Path.{ap, _∙_}
 use Rattle.pantheryl.specs.Answers.{writeWords}
 use borrow.Author.Needs.{needs}

@@ -1,4 +1,4 @@
--- `day_day` meets its contract.
+-- `penalty::day_day` meets its contract.
 use native.Mathlib.Omega.{arith}
 use Rattle.penalty.proofs.FieldLaws.{row-of, light-of}
 use Rattle.penalty.proofs.CountLaws.{duty-of}

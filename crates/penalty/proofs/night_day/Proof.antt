@@ -1,4 +1,4 @@
--- `night_day` meets its contract: nights on the night column, day need and lows on the day column.
+-- `penalty::night_day` meets its contract: nights on the night column, day need and lows on the day column.
 use mathlib.Core.Path.{refl}
 use native.Mathlib.Omega.{arith}
 use Rattle.penalty.proofs.FieldLaws.{row-of, light-of}

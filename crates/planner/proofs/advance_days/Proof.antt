@@ -3,7 +3,7 @@ use lib.Seq.{length-take-le}
 use mathlib.Core.Path.{sym}
 use Rattle.ward.proofs.ReadingLaws.{reading-accepted, reading-fits}
 use Rattle.planner.proofs.AnswerLaws.{reading-good, reading-bad}
-use Rattle.planner.proofs.DayLaws.{days-refused, days-advanced}
+use Rattle.planner.proofs.FileLaws.{days-refused, days-advanced}
 use borrow.Author.Needs.{needs}
 use Rattle.planner.proofs.advance_days.Statement.{statement}
 use Rattle.planner.proofs.advance_days.Tie as tie

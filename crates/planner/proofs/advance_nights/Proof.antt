@@ -3,53 +3,43 @@ use lib.Seq.{length-take-le}
 use mathlib.Core.Path.{sym}
 use Rattle.ward.proofs.ReadingLaws.{reading-accepted, reading-fits}
 use Rattle.planner.proofs.AnswerLaws.{reading-good, reading-bad}
-use Rattle.planner.proofs.AdvanceLaws.{file-refused, file-advanced}
+use Rattle.planner.proofs.FileLaws.{file-refused, file-advanced}
 use borrow.Author.Needs.{needs}
 use Rattle.planner.proofs.advance_nights.Statement.{statement}
 use Rattle.planner.proofs.advance_nights.Tie as tie
 use Rattle.planner.proofs.advance_nights.Reads as reads
 use Rattle.planner.proofs.advance_nights.Lts as lts
-use Rattle.planner.proofs.by_night.advance_on.Reads as advance-on-reads
-use Rattle.planner.proofs.by_night.refuse.Reads as refuse-reads
+use Rattle.nightadvance.proofs.advance_on.Reads as advance-on-reads
+use Rattle.nightadvance.proofs.refuse.Reads as refuse-reads
 use Rattle.ward.proofs.read.Reads as read-reads
 
--- src/lib.rt:97:9
 read-requires : tie.Need-read-requires
 read-requires c κs = search needs
 
--- src/lib.rt:100:22
 enum-known-answer : tie.Need-enum-known-answer
 enum-known-answer c = search needs
 
--- src/lib.rt:100:43
 refuse-requires : tie.Need-refuse-requires
 refuse-requires c κs = search needs
 
--- src/lib.rt:102:17
 enum-told : tie.Need-enum-told
 enum-told c = search needs
 
--- src/lib.rt:104:39
 array-share-prefix-numbers : tie.Need-array-share-prefix-numbers
 array-share-prefix-numbers c = reading-fits _ _ (c .before .before .before .read .ensures)
 
--- src/lib.rt:104:39
 slice-aggregate-advance-on : tie.Need-slice-aggregate-advance-on
 slice-aggregate-advance-on c = sym (length-take-le _ _ (reading-fits _ _ (c .before .before .before .before .read .ensures)))
 
--- src/lib.rt:104:13
 advance-on-requires : tie.Need-advance-on-requires
 advance-on-requires c κs = reading-accepted (c .before .before .before .before .before .before .before .before .args .file .now) _ (λ i. c .before .before .before .before .before .before .before .shared-slice-known .given i .fits) (c .before .before .before .before .before .read .ensures) (c .before .before .before .enum-told .given .1)
 
--- src/lib.rt:93:1
 returns : tie.Need-returns
 returns c = file-refused (c .before .before .before .before .before .before .before .args .file .now) (c .before .before .before .before .before .before .before .args .rec) (c .before .before .before .before .before .before .before .args .k) (c .before .before .before .before .before .before .before .args .buffer .now) (reading-bad (c .before .before .before .before .before .before .before .args .file .now) _ (c .before .before .before .before .read .ensures) (c .before .before .answer .given .1)) (c .refuse .ensures)
 
--- src/lib.rt:93:1
 same-length : tie.Need-same-length
 same-length c = search needs
 
--- src/lib.rt:93:1
 returns-2 : tie.Need-returns-2
 returns-2 c = file-advanced (c .before .before .before .before .before .before .before .before .before .before .before .args .file .now) (c .before .before .before .before .before .before .before .before .before .before .before .args .rec) (c .before .before .before .before .before .before .before .before .before .before .before .args .k) (c .before .before .before .before .before .before .before .before .before .before .before .args .buffer .now) (reading-good (c .before .before .before .before .before .before .before .before .before .before .before .args .file .now) _ (c .before .before .before .before .before .before .before .before .read .ensures) (c .before .before .before .before .before .before .enum-told .given .1)) (c .before .before .advance-on .ensures)
 

@@ -1,4 +1,4 @@
--- `check` meets its contract: the reader's refusal, or what the numbers that it gave say of the roster.
+-- `planner::check` meets its contract: the reader's refusal, or what the numbers that it gave say of the roster.
 use lib.Seq.{length-take-le}
 use mathlib.Core.Path.{sym}
 use Rattle.ward.proofs.ReadingLaws.{reading-accepted, reading-fits}

@@ -1,4 +1,4 @@
--- `check_letters` meets its contract: question 12's place, then what the rules say.
+-- `planner::check_letters` meets its contract: question 12's place, then what the rules say.
 use native.Mathlib.Nat.{mul-le-mul}
 use native.Mathlib.Omega.{arith}
 use mathlib.Core.Path.{sym, _∙_}

@@ -1,4 +1,4 @@
--- `show_roster` keeps within its letters.
+-- `roster::show_roster` keeps within its letters.
 use mathlib.Core.Path.{sym}
 use lib.Seq.{length-take-le}
 use borrow.Author.Needs.{needs}

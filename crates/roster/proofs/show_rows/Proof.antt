@@ -1,7 +1,6 @@
--- `show_rows` keeps within its letters: each turn prints one nurse.
+-- `roster::show_rows` keeps within its letters: each turn prints one nurse.
 use borrow.Author.Needs.{needs}
 use Prim.Native.Nat.{_≤_, _-_}
-use native.Mathlib.Omega.{arith}
 use lib.ListN.{length}
 use Rattle.roster.proofs.show_rows.Statement.{statement}
 use Rattle.roster.proofs.show_rows.Tie as tie

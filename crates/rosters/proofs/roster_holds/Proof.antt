@@ -1,4 +1,4 @@
--- `roster_holds` meets its contract.
+-- `rosters::roster_holds` meets its contract.
 use borrow.Author.Needs.{needs}
 use mathlib.Core.Path.{sym, _∙_}
 use Rattle.rosters.proofs.CheckLaws.{rows-and-days, rows-fail}

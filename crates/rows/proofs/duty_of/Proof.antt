@@ -1,4 +1,4 @@
-use borrow.Author.Tests.{eq-eqb, ne-eqb}
+-- `rows::duty_of` meets its contract.
 use native.Mathlib.Omega.{arith}
 use Rattle.rows.proofs.RowLaws.{duty-open}
 use borrow.Author.Needs.{needs}
@@ -8,23 +8,18 @@ use Rattle.rows.proofs.duty_of.Reads as reads
 use Rattle.rows.proofs.duty_of.Lts as lts
 use Rattle.rows.proofs.open_duty.Reads as open-duty-reads
 
--- src/lib.rt:72:14
 open-duty-requires : tie.Need-open-duty-requires
 open-duty-requires c κs = search needs
 
--- src/lib.rt:64:1
 returns : tie.Need-returns
 returns c = (rw (c .match .keys1), omega arith)
 
--- src/lib.rt:64:1
 returns-2 : tie.Need-returns-2
 returns-2 c = (rw (c .match .keys2), omega arith)
 
--- src/lib.rt:64:1
 returns-3 : tie.Need-returns-3
 returns-3 c = (rw (c .match .keys3), omega arith)
 
--- src/lib.rt:64:1
 returns-4 : tie.Need-returns-4
 returns-4 c = duty-open (c .before .before .args .mark) _ (c .before .before .args .worked) (c .open-duty .ensures) (c .before .match .rest)
 

@@ -1,23 +1,19 @@
+-- `rows::is_available` meets its contract.
 use borrow.Author.Tests.{eq-eqb, ne-eqb}
-use native.Mathlib.Omega.{arith}
 use Rattle.rows.proofs.is_available.Statement.{statement}
 use Rattle.rows.proofs.is_available.Tie as tie
 use Rattle.rows.proofs.is_available.Reads as reads
 use Rattle.rows.proofs.is_available.Lts as lts
 
--- src/lib.rt:57:1
 returns : tie.Need-returns
 returns c = simp (eq-eqb _ _ (c .before .if1 .taken), eq-eqb _ _ (c .if2 .taken))
 
--- src/lib.rt:57:1
 returns-2 : tie.Need-returns-2
 returns-2 c = simp (eq-eqb _ _ (c .before .before .if1 .taken), ne-eqb _ _ (c .before .if2 .left), eq-eqb _ _ (c .if3 .taken))
 
--- src/lib.rt:57:1
 returns-3 : tie.Need-returns-3
 returns-3 c = simp (eq-eqb _ _ (c .before .before .if1 .taken), ne-eqb _ _ (c .before .if2 .left), ne-eqb _ _ (c .if3 .left))
 
--- src/lib.rt:57:1
 returns-4 : tie.Need-returns-4
 returns-4 c = simp (ne-eqb _ _ (c .if1 .left))
 

@@ -1,3 +1,4 @@
+-- `rows::open_duty` meets its contract.
 use borrow.Author.Tests.{eq-eqb, ne-eqb}
 use native.Mathlib.Omega.{arith}
 use borrow.Author.Needs.{needs}
@@ -6,15 +7,12 @@ use Rattle.rows.proofs.open_duty.Tie as tie
 use Rattle.rows.proofs.open_duty.Reads as reads
 use Rattle.rows.proofs.open_duty.Lts as lts
 
--- src/lib.rt:82:9
 returns : tie.Need-returns
 returns c = search needs
 
--- src/lib.rt:85:9
 returns-2 : tie.Need-returns-2
 returns-2 c = (simp (c .before .if1 .left, eq-eqb _ _ (c .if2 .taken)), omega arith)
 
--- src/lib.rt:77:1
 returns-3 : tie.Need-returns-3
 returns-3 c = (simp (c .before .if1 .left, ne-eqb _ _ (c .if2 .left)), omega arith)
 

@@ -1,3 +1,4 @@
+-- `rows::state_after` meets its contract.
 use borrow.Author.Tests.{eq-eqb, ne-eqb}
 use native.Mathlib.Omega.{arith}
 use borrow.Author.Needs.{needs}
@@ -6,19 +7,15 @@ use Rattle.rows.proofs.state_after.Tie as tie
 use Rattle.rows.proofs.state_after.Reads as reads
 use Rattle.rows.proofs.state_after.Lts as lts
 
--- src/lib.rt:31:9
 returns : tie.Need-returns
 returns c = search needs
 
--- src/lib.rt:34:9
 returns-2 : tie.Need-returns-2
 returns-2 c = (simp (c .before .if1 .left, eq-eqb _ _ (c .if2 .taken)), omega arith)
 
--- src/lib.rt:37:9
 returns-3 : tie.Need-returns-3
 returns-3 c = (simp (c .before .before .if1 .left, ne-eqb _ _ (c .before .if2 .left), eq-eqb _ _ (c .if3 .taken)), omega arith)
 
--- src/lib.rt:26:1
 returns-4 : tie.Need-returns-4
 returns-4 c = (simp (c .before .before .if1 .left, ne-eqb _ _ (c .before .if2 .left), ne-eqb _ _ (c .if3 .left)), omega arith)
 

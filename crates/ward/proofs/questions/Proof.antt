@@ -1,24 +1,23 @@
-use mathlib.Core.Path.{_≡_, sym, _∙_, ap, subst, subst⁻¹}
+-- `ward::questions` meets its contract.
+use mathlib.Core.Path.{_≡_, sym, _∙_, ap, subst}
 use native.Mathlib.Omega.{arith}
 use lib.ListN.{length, getD}
-use Rattle.ward.specs.Place.{tree}
-use Rattle.ward.specs.Grammar.{after}
-use Rattle.ward.specs.declared.Checked.{Checked}
+use Rattle.layout.specs.Place.{tree}
 use Rattle.ward.specs.declared.Answer.the-variants.{No}
-use Rattle.ward.proofs.GrammarLaws.{small}
-use Rattle.ward.proofs.EncodeLaws.{encode-most}
+use Rattle.layout.proofs.GrammarLaws.{small}
+use Rattle.codec.proofs.EncodeLaws.{encode-most}
 use Rattle.ward.proofs.WriteLaws.{Walked, begin, missing, room-here, failed, below, turn, extra, whole}
 use borrow.Author.Needs.{needs}
-use Prim.Native.Nat.{ℕ, _-_}
+use Prim.Native.Nat.{_-_}
 use Rattle.ward.proofs.questions.Statement.{statement}
 use Rattle.ward.proofs.questions.Tie as tie
 use Rattle.ward.proofs.questions.Reads as reads
 use Rattle.ward.proofs.questions.Lts as lts
-use Rattle.ward.proofs.layout.ask.Reads as ask-reads
-use Rattle.ward.proofs.codec.size.Reads as size-reads
-use Rattle.ward.proofs.layout.start.Reads as start-reads
-use Rattle.ward.proofs.layout.step.Reads as step-reads
-use Rattle.ward.proofs.layout.wanted_at.Reads as wanted-at-reads
+use Rattle.layout.proofs.ask.Reads as ask-reads
+use Rattle.codec.proofs.size.Reads as size-reads
+use Rattle.layout.proofs.start.Reads as start-reads
+use Rattle.layout.proofs.step.Reads as step-reads
+use Rattle.layout.proofs.wanted_at.Reads as wanted-at-reads
 
 abbrev Inv-loop : tie.InvT-loop
 Inv-loop ward count i₀ bytes₀ c₀ i bytes c = Walked ward i bytes (tree c)
@@ -26,79 +25,61 @@ Inv-loop ward count i₀ bytes₀ c₀ i bytes c = Walked ward i bytes (tree c)
 abbrev μ-loop : tie.MeasureT-loop
 μ-loop ward count i₀ bytes₀ c₀ i bytes c = 4094 - i
 
--- src/lib.rt:490:9
 start-requires : tie.Need-start-requires Inv-loop μ-loop
 start-requires c κs = search needs
 
--- src/lib.rt:491:5
 loop-holds : tie.Need-loop-holds Inv-loop μ-loop
 loop-holds c =
     let l : length (c .before .args .t1 .numbers) ≡ 4094 = search needs in
     subst (Walked _ 0 0) (sym (c .start .ensures)) (begin _ l)
 
--- src/lib.rt:492:15
 wanted-at-requires : tie.Need-wanted-at-requires Inv-loop μ-loop
 wanted-at-requires c κs = small (4094 - c .loop .i) (tree (c .loop .c)) (c .loop .inv .room)
 
--- src/lib.rt:494:20
 enum-told : tie.Need-enum-told Inv-loop μ-loop
 enum-told c = search needs
 
--- src/lib.rt:495:21
 returns : tie.Need-returns Inv-loop μ-loop
 returns c = extra _ _ _ _ (c .before .before .before .before .loop .inv) (sym (c .before .before .before .wanted-at .ensures) ∙ c .before .enum-told .given .1) (c .if1 .taken)
 
--- src/lib.rt:503:17
 returns-2 : tie.Need-returns-2 Inv-loop μ-loop
 returns-2 c = whole _ _ _ _ (c .before .before .before .before .loop .inv) (sym (c .before .before .before .wanted-at .ensures) ∙ c .before .enum-told .given .1) (c .if1 .left)
 
--- src/lib.rt:508:24
 enum-known-f : tie.Need-enum-known-f Inv-loop μ-loop
 enum-known-f c = search needs
 
--- src/lib.rt:510:21
 returns-3 : tie.Need-returns-3 Inv-loop μ-loop
 returns-3 c = missing _ _ _ _ (c .before .before .before .before .before .loop .inv) _ (sym (c .before .before .before .before .wanted-at .ensures) ∙ c .before .before .f .given .1) (c .if2 .taken)
 
--- src/lib.rt:518:25
 mul-v : tie.Need-mul-v Inv-loop μ-loop
 mul-v c = let s = room-here _ _ _ _ (c .before .before .before .before .before .loop .inv) _ (sym (c .before .before .before .before .wanted-at .ensures) ∙ c .before .before .f .given .1) in omega arith
 
--- src/lib.rt:518:25
 element-copy-out-v : tie.Need-element-copy-out-v Inv-loop μ-loop
 element-copy-out-v c = room-here _ _ _ _ (c .before .before .before .before .before .loop .inv) _ (sym (c .before .before .before .before .wanted-at .ensures) ∙ c .before .before .f .given .1)
 
--- src/lib.rt:519:21
 ask-requires : tie.Need-ask-requires Inv-loop μ-loop
 ask-requires c κs = search needs
 
--- src/lib.rt:521:21
 returns-4 : tie.Need-returns-4 Inv-loop μ-loop
 returns-4 c =
     ap (λ q. record { answer = No q (c .before .before .before .before .before .before .before .before .loop .i); bytes = 0 }) (c .before .ask .ensures)
     ∙ failed _ _ _ _ (c .before .before .before .before .before .before .before .before .loop .inv) _ (sym (c .before .before .before .before .before .before .before .wanted-at .ensures) ∙ c .before .before .before .before .before .f .given .1) (c .before .before .before .if2 .left) (λ z. c .if3 .taken (c .before .ask .ensures ∙ z))
 
--- src/lib.rt:526:26
 size-requires : tie.Need-size-requires Inv-loop μ-loop
 size-requires c κs = below _ _ _ _ (c .before .before .before .before .before .before .before .before .loop .inv) _ (sym (c .before .before .before .before .before .before .before .wanted-at .ensures) ∙ c .before .before .before .before .before .f .given .1) (c .before .before .before .if2 .left) (sym (c .before .ask .ensures) ∙ c .if3 .left)
 
--- src/lib.rt:526:17
 add-bytes : tie.Need-add-bytes Inv-loop μ-loop
 add-bytes c = let s = room-here _ _ _ _ (c .before .before .before .before .before .before .before .before .before .loop .inv) _ (sym (c .before .before .before .before .before .before .before .before .wanted-at .ensures) ∙ c .before .before .before .before .before .before .f .given .1) in omega (arith, c .before .before .before .before .before .before .before .before .before .loop .inv .few, c .size .ensures, encode-most (getD (c .before .before .before .before .before .before .before .before .before .before .before .args .t1 .numbers) (c .before .before .before .before .before .before .before .before .before .loop .i) 0))
 
--- src/lib.rt:527:17
 add-i : tie.Need-add-i Inv-loop μ-loop
 add-i c = let s = room-here _ _ _ _ (c .before .before .before .before .before .before .before .before .before .loop .inv) _ (sym (c .before .before .before .before .before .before .before .before .wanted-at .ensures) ∙ c .before .before .before .before .before .before .f .given .1) in omega arith
 
--- src/lib.rt:528:17
 step-requires : tie.Need-step-requires Inv-loop μ-loop
 step-requires c κs = search needs
 
--- src/lib.rt:491:5
 loop-less : tie.Need-loop-less Inv-loop μ-loop
 loop-less c = let s = room-here _ _ _ _ (c .before .before .before .before .before .before .before .before .before .before .loop .inv) _ (sym (c .before .before .before .before .before .before .before .before .before .wanted-at .ensures) ∙ c .before .before .before .before .before .before .before .f .given .1) in omega arith
 
--- src/lib.rt:491:5
 loop-again : tie.Need-loop-again Inv-loop μ-loop
 loop-again c =
     let t = turn _ _ _ _ (c .before .before .before .before .before .before .before .before .before .before .loop .inv) _ (sym (c .before .before .before .before .before .before .before .before .before .wanted-at .ensures) ∙ c .before .before .before .before .before .before .before .f .given .1) (c .before .before .before .before .before .if2 .left) (sym (c .before .before .before .ask .ensures) ∙ c .before .before .if3 .left) in

@@ -1,23 +1,23 @@
-use mathlib.Core.Path.{ap}
+-- `ward::read` meets its contract.
+use mathlib.Core.Path.{ap, sym, _∙_, subst}
 use Rattle.ward.specs.Answers.{refusedOf}
-use Prim.Native.Nat.{ℕ, _-_}
-use mathlib.Core.Path.{_≡_, sym, _∙_, subst}
+use Prim.Native.Nat.{_-_}
 use native.Mathlib.Omega.{arith}
 use borrow.Author.Needs.{needs}
 use lib.ListN.{length}
-use Rattle.ward.specs.Place.{tree}
+use Rattle.layout.specs.Place.{tree}
 use Rattle.ward.proofs.ReadLaws.{So, begin, past-end, moves, failed, space, turn, ended, long-form, extra, whole}
-use Rattle.ward.proofs.GrammarLaws.{small}
+use Rattle.layout.proofs.GrammarLaws.{small}
 use Rattle.ward.proofs.read.Statement.{statement}
 use Rattle.ward.proofs.read.Tie as tie
 use Rattle.ward.proofs.read.Reads as reads
 use Rattle.ward.proofs.read.Lts as lts
-use Rattle.ward.proofs.layout.ask.Reads as ask-reads
-use Rattle.ward.proofs.codec.number_at.Reads as number-at-reads
+use Rattle.layout.proofs.ask.Reads as ask-reads
+use Rattle.codec.proofs.number_at.Reads as number-at-reads
 use Rattle.ward.proofs.refused.Reads as refused-reads
-use Rattle.ward.proofs.layout.start.Reads as start-reads
-use Rattle.ward.proofs.layout.step.Reads as step-reads
-use Rattle.ward.proofs.layout.wanted_at.Reads as wanted-at-reads
+use Rattle.layout.proofs.start.Reads as start-reads
+use Rattle.layout.proofs.step.Reads as step-reads
+use Rattle.layout.proofs.wanted_at.Reads as wanted-at-reads
 
 abbrev Inv-loop : tie.InvT-loop
 Inv-loop file numbers₀ count₀ at₀ c₀ numbers count at c = So file numbers count at (tree c)
@@ -25,109 +25,83 @@ Inv-loop file numbers₀ count₀ at₀ c₀ numbers count at c = So file number
 abbrev μ-loop : tie.MeasureT-loop
 μ-loop file numbers₀ count₀ at₀ c₀ numbers count at c = length file - at
 
--- src/lib.rt:410:9
 start-requires : tie.Need-start-requires Inv-loop μ-loop
 start-requires c κs = search needs
 
--- src/lib.rt:411:5
 loop-holds : tie.Need-loop-holds Inv-loop μ-loop
 loop-holds c = subst (So _ _ 0 0) (sym (c .start .ensures)) (begin _)
 
--- src/lib.rt:412:15
 wanted-at-requires : tie.Need-wanted-at-requires Inv-loop μ-loop
 wanted-at-requires c κs = small (4094 - c .loop .count) (tree (c .loop .c)) (c .loop .inv .room)
 
--- src/lib.rt:414:25
 enum-told : tie.Need-enum-told Inv-loop μ-loop
 enum-told c = search needs
 
--- src/lib.rt:415:21
 refused-requires : tie.Need-refused-requires Inv-loop μ-loop
 refused-requires c κs = search needs
 
--- src/lib.rt:415:21
 returns : tie.Need-returns Inv-loop μ-loop
 returns c = c .refused .ensures ∙ extra _ _ _ _ _ (c .before .before .before .before .before .loop .inv) (sym (c .before .before .before .before .wanted-at .ensures) ∙ c .before .before .enum-told .given .1) (c .before .if1 .taken)
 
--- src/lib.rt:417:17
 returns-2 : tie.Need-returns-2 Inv-loop μ-loop
 returns-2 c = whole _ _ _ _ _ (c .before .before .before .before .loop .inv) (sym (c .before .before .before .wanted-at .ensures) ∙ c .before .enum-told .given .1) (c .if1 .left)
 
--- src/lib.rt:422:24
 enum-known-f : tie.Need-enum-known-f Inv-loop μ-loop
 enum-known-f c = search needs
 
--- src/lib.rt:422:36
 number-at-requires : tie.Need-number-at-requires Inv-loop μ-loop
 number-at-requires c κs = c .before .before .before .before .loop .inv .inFile
 
--- src/lib.rt:423:34
 enum-told-2 : tie.Need-enum-told-2 Inv-loop μ-loop
 enum-told-2 c = search needs
 
--- src/lib.rt:423:34
 refused-requires-2 : tie.Need-refused-requires-2 Inv-loop μ-loop
 refused-requires-2 c κs = search needs
 
--- src/lib.rt:423:34
 returns-3 : tie.Need-returns-3 Inv-loop μ-loop
 returns-3 c = c .refused2 .ensures ∙ ended _ _ _ _ _ (c .before .before .before .before .before .before .before .before .loop .inv) _ (sym (c .before .before .before .before .before .before .before .wanted-at .ensures) ∙ c .before .before .before .before .before .f .given .1) (sym (c .before .before .before .number-at .ensures .0) ∙ c .before .enum-told2 .given .1)
 
--- src/lib.rt:424:33
 enum-told-3 : tie.Need-enum-told-3 Inv-loop μ-loop
 enum-told-3 c = search needs
 
--- src/lib.rt:424:33
 refused-requires-3 : tie.Need-refused-requires-3 Inv-loop μ-loop
 refused-requires-3 c κs = search needs
 
--- src/lib.rt:424:33
 returns-4 : tie.Need-returns-4 Inv-loop μ-loop
 returns-4 c = c .refused3 .ensures ∙ long-form _ _ _ _ _ (c .before .before .before .before .before .before .before .before .loop .inv) _ (sym (c .before .before .before .before .before .before .before .wanted-at .ensures) ∙ c .before .before .before .before .before .f .given .1) (sym (c .before .before .before .number-at .ensures .0) ∙ c .before .enum-told3 .given .1)
 
--- src/lib.rt:425:33
 enum-known-value : tie.Need-enum-known-value Inv-loop μ-loop
 enum-known-value c = search needs
 
--- src/lib.rt:426:25
 ask-requires : tie.Need-ask-requires Inv-loop μ-loop
 ask-requires c κs = search needs
 
--- src/lib.rt:428:25
 refused-requires-4 : tie.Need-refused-requires-4 Inv-loop μ-loop
 refused-requires-4 c κs = search needs
 
--- src/lib.rt:428:25
 returns-5 : tie.Need-returns-5 Inv-loop μ-loop
 returns-5 c =
     c .refused4 .ensures ∙ ap (λ q. refusedOf q (c .before .before .before .before .before .before .before .before .before .before .before .loop .at)) (c .before .before .ask .ensures)
     ∙ failed _ _ _ _ _ (c .before .before .before .before .before .before .before .before .before .before .before .loop .inv) _ (sym (c .before .before .before .before .before .before .before .before .before .before .wanted-at .ensures) ∙ c .before .before .before .before .before .before .before .before .f .given .1) _ _ (sym (c .before .before .before .before .before .before .number-at .ensures .0) ∙ c .before .before .before .before .value .given .1) (λ z. c .before .if2 .taken (c .before .before .ask .ensures ∙ z))
 
--- src/lib.rt:430:21
 mul-numbers : tie.Need-mul-numbers Inv-loop μ-loop
 mul-numbers c = let s = space _ _ _ _ _ (c .before .before .before .before .before .before .before .before .before .before .loop .inv) _ (sym (c .before .before .before .before .before .before .before .before .before .wanted-at .ensures) ∙ c .before .before .before .before .before .before .before .f .given .1) _ _ (sym (c .before .before .before .before .before .number-at .ensures .0) ∙ c .before .before .before .value .given .1) (sym (c .before .ask .ensures) ∙ c .if2 .left) in omega arith
 
--- src/lib.rt:430:21
 array-write-numbers : tie.Need-array-write-numbers Inv-loop μ-loop
 array-write-numbers c = space _ _ _ _ _ (c .before .before .before .before .before .before .before .before .before .before .loop .inv) _ (sym (c .before .before .before .before .before .before .before .before .before .wanted-at .ensures) ∙ c .before .before .before .before .before .before .before .f .given .1) _ _ (sym (c .before .before .before .before .before .number-at .ensures .0) ∙ c .before .before .before .value .given .1) (sym (c .before .ask .ensures) ∙ c .if2 .left)
 
--- src/lib.rt:431:21
 add-count : tie.Need-add-count Inv-loop μ-loop
 add-count c = let s = space _ _ _ _ _ (c .before .before .before .before .before .before .before .before .before .before .loop .inv) _ (sym (c .before .before .before .before .before .before .before .before .before .wanted-at .ensures) ∙ c .before .before .before .before .before .before .before .f .given .1) _ _ (sym (c .before .before .before .before .before .number-at .ensures .0) ∙ c .before .before .before .value .given .1) (sym (c .before .ask .ensures) ∙ c .if2 .left) in omega arith
 
--- src/lib.rt:432:21
 add-at : tie.Need-add-at Inv-loop μ-loop
 add-at c = let s = past-end _ _ _ _ _ (c .before .before .before .before .before .before .before .before .before .before .loop .inv) _ (sym (c .before .before .before .before .before .before .before .before .before .wanted-at .ensures) ∙ c .before .before .before .before .before .before .before .f .given .1) _ _ (sym (c .before .before .before .before .before .number-at .ensures .0) ∙ c .before .before .before .value .given .1) in omega (arith, c .before .before .before .before .before .before .before .before .before .before .before .before .before .good)
 
--- src/lib.rt:433:21
 step-requires : tie.Need-step-requires Inv-loop μ-loop
 step-requires c κs = search needs
 
--- src/lib.rt:411:5
 loop-less : tie.Need-loop-less Inv-loop μ-loop
 loop-less c = let s = past-end _ _ _ _ _ (c .before .before .before .before .before .before .before .before .before .before .before .loop .inv) _ (sym (c .before .before .before .before .before .before .before .before .before .before .wanted-at .ensures) ∙ c .before .before .before .before .before .before .before .before .f .given .1) _ _ (sym (c .before .before .before .before .before .before .number-at .ensures .0) ∙ c .before .before .before .before .value .given .1) in let t = moves _ _ _ _ _ (c .before .before .before .before .before .before .before .before .before .before .before .loop .inv) _ (sym (c .before .before .before .before .before .before .before .before .before .before .wanted-at .ensures) ∙ c .before .before .before .before .before .before .before .before .f .given .1) _ _ (sym (c .before .before .before .before .before .before .number-at .ensures .0) ∙ c .before .before .before .before .value .given .1) in omega arith
 
--- src/lib.rt:411:5
 loop-again : tie.Need-loop-again Inv-loop μ-loop
 loop-again c = subst (So _ _ _ _) (sym (c .step .ensures)) (turn _ _ _ _ _ (c .before .before .before .before .before .before .before .before .before .before .before .loop .inv) _ (sym (c .before .before .before .before .before .before .before .before .before .before .wanted-at .ensures) ∙ c .before .before .before .before .before .before .before .before .f .given .1) _ _ (sym (c .before .before .before .before .before .before .number-at .ensures .0) ∙ c .before .before .before .before .value .given .1) (sym (c .before .before .ask .ensures) ∙ c .before .if2 .left))
 

@@ -1,6 +1,6 @@
+-- `ward_run::count_of` meets its contract.
 use borrow.Author.Needs.{needs}
 use Prim.Native.Nat.{_≤_, _-_}
-use mathlib.Core.Path.{_≡_}
 use lib.ListN.{length}
 use Rattle.ward_run.proofs.count_of.Statement.{statement}
 use Rattle.ward_run.proofs.count_of.Tie as tie
@@ -14,31 +14,24 @@ Inv-loop bytes byte n₀ i₀ i-end n i = i ≤ length bytes
 abbrev μ-loop : tie.MeasureT-loop
 μ-loop bytes byte n₀ i₀ i-end n i = length bytes - i
 
--- src/main.rt:66:5
 loop-holds : tie.Need-loop-holds Inv-loop μ-loop
 loop-holds c = search needs
 
--- src/main.rt:67:12
 shared-slice-read-if1 : tie.Need-shared-slice-read-if1 Inv-loop μ-loop
 shared-slice-read-if1 c = search needs
 
--- src/main.rt:68:13
 wrapping-add-u64-requires : tie.Need-wrapping-add-u64-requires Inv-loop μ-loop
 wrapping-add-u64-requires c κs = search needs
 
--- src/main.rt:66:9
 add-i : tie.Need-add-i Inv-loop μ-loop
 add-i c = search needs
 
--- src/main.rt:66:5
 loop-less : tie.Need-loop-less Inv-loop μ-loop
 loop-less c = search needs
 
--- src/main.rt:66:5
 loop-again : tie.Need-loop-again Inv-loop μ-loop
 loop-again c = search needs
 
--- src/main.rt:64:1
 returns : tie.Need-returns Inv-loop μ-loop
 returns c = search needs
 

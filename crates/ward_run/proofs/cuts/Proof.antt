@@ -1,6 +1,7 @@
+-- `ward_run::cuts` meets its contract.
 use borrow.Author.Needs.{needs}
 use Prim.Native.Nat.{_≤_, _-_}
-use mathlib.Core.Path.{_≡_, sym}
+use mathlib.Core.Path.{sym}
 use lib.Seq.{length-take-le}
 use native.Mathlib.Omega.{arith}
 use lib.ListN.{length}
@@ -17,35 +18,27 @@ Inv-loop file t₀ i₀ i-end t i = i ≤ length file
 abbrev μ-loop : tie.MeasureT-loop
 μ-loop file t₀ i₀ i-end t i = length file - i
 
--- src/main.rt:44:9
 empty-requires : tie.Need-empty-requires Inv-loop μ-loop
 empty-requires c κs = search needs
 
--- src/main.rt:45:5
 loop-holds : tie.Need-loop-holds Inv-loop μ-loop
 loop-holds c = search needs
 
--- src/main.rt:46:26
 slice-aggregate-read-once : tie.Need-slice-aggregate-read-once Inv-loop μ-loop
 slice-aggregate-read-once c = sym (length-take-le _ _ (omega arith))
 
--- src/main.rt:46:9
 read-once-requires : tie.Need-read-once-requires Inv-loop μ-loop
 read-once-requires c κs = search needs
 
--- src/main.rt:45:9
 add-i : tie.Need-add-i Inv-loop μ-loop
 add-i c = search needs
 
--- src/main.rt:45:5
 loop-less : tie.Need-loop-less Inv-loop μ-loop
 loop-less c = search needs
 
--- src/main.rt:45:5
 loop-again : tie.Need-loop-again Inv-loop μ-loop
 loop-again c = search needs
 
--- src/main.rt:43:1
 returns : tie.Need-returns Inv-loop μ-loop
 returns c = search needs
 

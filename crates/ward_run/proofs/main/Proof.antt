@@ -1,3 +1,4 @@
+-- `ward_run::main` meets its contract.
 use mathlib.Core.Path.{sym}
 use lib.Seq.{length-take-le}
 use native.Mathlib.Omega.{arith}
@@ -12,59 +13,45 @@ use Rattle.ward_run.proofs.show_damaged.Reads as show-damaged-reads
 use Rattle.ward_run.proofs.show_extended.Reads as show-extended-reads
 use Rattle.ward_run.proofs.show_whole.Reads as show-whole-reads
 
--- src/main.rt:166:19
 buffer-requires : tie.Need-buffer-requires
 buffer-requires c κs = search needs
 
--- src/main.rt:167:30
 slice-aggregate-read-full : tie.Need-slice-aggregate-read-full
 slice-aggregate-read-full c = search needs
 
--- src/main.rt:167:9
 read-full-requires : tie.Need-read-full-requires
 read-full-requires c κs = search needs
 
--- src/main.rt:169:30
 add-buf : tie.Need-add-buf
 add-buf c = search needs
 
--- src/main.rt:169:23
 array-share-prefix-buf : tie.Need-array-share-prefix-buf
 array-share-prefix-buf c = search needs
 
--- src/main.rt:169:23
 slice-aggregate-show-extended : tie.Need-slice-aggregate-show-extended
 slice-aggregate-show-extended c = sym (length-take-le _ _ (omega arith))
 
--- src/main.rt:169:9
 show-extended-requires : tie.Need-show-extended-requires
 show-extended-requires c κs = search needs
 
--- src/main.rt:171:16
 array-share-prefix-buf-2 : tie.Need-array-share-prefix-buf-2
 array-share-prefix-buf-2 c = search needs
 
--- src/main.rt:171:16
 slice-aggregate-show-whole : tie.Need-slice-aggregate-show-whole
 slice-aggregate-show-whole c = search needs
 
--- src/main.rt:171:5
 show-whole-requires : tie.Need-show-whole-requires
 show-whole-requires c κs = search needs
 
--- src/main.rt:172:18
 array-borrow-prefix-buf : tie.Need-array-borrow-prefix-buf
 array-borrow-prefix-buf c = search needs
 
--- src/main.rt:172:18
 slice-aggregate-show-damaged : tie.Need-slice-aggregate-show-damaged
 slice-aggregate-show-damaged c = search needs
 
--- src/main.rt:172:5
 show-damaged-requires : tie.Need-show-damaged-requires
 show-damaged-requires c κs = search needs
 
--- src/main.rt:165:1
 returns : tie.Need-returns
 returns c = search needs
 

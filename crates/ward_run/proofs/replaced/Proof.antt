@@ -1,3 +1,4 @@
+-- `ward_run::replaced` meets its contract.
 use borrow.Author.Needs.{needs}
 use Prim.Native.Nat.{_≤_, _-_}
 use mathlib.Core.Path.{_≡_}
@@ -15,47 +16,36 @@ Inv-loop file₀ byte t₀ i₀ i-end file t i = (i ≤ length file) × (length 
 abbrev μ-loop : tie.MeasureT-loop
 μ-loop file₀ byte t₀ i₀ i-end file t i = length file₀ - i
 
--- src/main.rt:53:9
 empty-requires : tie.Need-empty-requires Inv-loop μ-loop
 empty-requires c κs = search needs
 
--- src/main.rt:54:5
 loop-holds : tie.Need-loop-holds Inv-loop μ-loop
 loop-holds c = search needs
 
--- src/main.rt:55:19
 slice-read-old : tie.Need-slice-read-old Inv-loop μ-loop
 slice-read-old c = search needs
 
--- src/main.rt:56:9
 slice-write-file : tie.Need-slice-write-file Inv-loop μ-loop
 slice-write-file c = search needs
 
--- src/main.rt:57:9
 read-once-requires : tie.Need-read-once-requires Inv-loop μ-loop
 read-once-requires c κs = search needs
 
--- src/main.rt:58:9
 slice-write-file-2 : tie.Need-slice-write-file-2 Inv-loop μ-loop
 slice-write-file-2 c = search needs
 
--- src/main.rt:54:9
 add-i : tie.Need-add-i Inv-loop μ-loop
 add-i c = search needs
 
--- src/main.rt:54:5
 loop-less : tie.Need-loop-less Inv-loop μ-loop
 loop-less c = search needs
 
--- src/main.rt:54:5
 loop-again : tie.Need-loop-again Inv-loop μ-loop
 loop-again c = simp (length-set, length-set) (search needs)
 
--- src/main.rt:52:1
 same-length : tie.Need-same-length Inv-loop μ-loop
 same-length c = search needs
 
--- src/main.rt:52:1
 returns : tie.Need-returns Inv-loop μ-loop
 returns c = search needs
 

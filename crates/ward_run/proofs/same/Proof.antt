@@ -1,3 +1,4 @@
+-- `ward_run::same` meets its contract.
 use borrow.Author.Needs.{needs}
 use Prim.Native.Nat.{_≤_, _-_}
 use mathlib.Core.Path.{_≡_}
@@ -16,47 +17,36 @@ Inv-loop file buf n₀ i₀ i-end n i = (i ≤ length file) × (length buf ≡ 4
 abbrev μ-loop : tie.MeasureT-loop
 μ-loop file buf n₀ i₀ i-end n i = length file - i
 
--- src/main.rt:92:9
 read-requires : tie.Need-read-requires Inv-loop μ-loop
 read-requires c κs = search needs
 
--- src/main.rt:94:20
 slice-aggregate-write : tie.Need-slice-aggregate-write Inv-loop μ-loop
 slice-aggregate-write c = search needs
 
--- src/main.rt:94:5
 write-requires : tie.Need-write-requires Inv-loop μ-loop
 write-requires c κs = search needs
 
--- src/main.rt:96:5
 loop-holds : tie.Need-loop-holds Inv-loop μ-loop
 loop-holds c = search needs
 
--- src/main.rt:98:16
 array-read-if2 : tie.Need-array-read-if2 Inv-loop μ-loop
 array-read-if2 c = search needs
 
--- src/main.rt:98:26
 shared-slice-read-if2 : tie.Need-shared-slice-read-if2 Inv-loop μ-loop
 shared-slice-read-if2 c = search needs
 
--- src/main.rt:99:17
 wrapping-add-u64-requires : tie.Need-wrapping-add-u64-requires Inv-loop μ-loop
 wrapping-add-u64-requires c κs = search needs
 
--- src/main.rt:96:9
 add-i : tie.Need-add-i Inv-loop μ-loop
 add-i c = search needs
 
--- src/main.rt:96:5
 loop-less : tie.Need-loop-less Inv-loop μ-loop
 loop-less c = search needs
 
--- src/main.rt:96:5
 loop-again : tie.Need-loop-again Inv-loop μ-loop
 loop-again c = search needs
 
--- src/main.rt:90:1
 returns : tie.Need-returns Inv-loop μ-loop
 returns c = search needs
 

@@ -1,7 +1,7 @@
+-- `ward_run::show` meets its contract.
 use borrow.Author.Needs.{needs}
 use Prim.Native.Nat.{_≤_, _-_}
 use mathlib.Core.Path.{_≡_}
-use lib.ListN.{length}
 use Rattle.ward_run.proofs.show.Statement.{statement}
 use Rattle.ward_run.proofs.show.Tie as tie
 use Rattle.ward_run.proofs.show.Reads as reads
@@ -15,67 +15,51 @@ Inv-loop name t q₀ t5 t6 t7 q = (t7 ≡ t7) × (q ≤ 8)
 abbrev μ-loop : tie.MeasureT-loop
 μ-loop name t q₀ t5 t6 t7 q = 8 - q
 
--- src/main.rt:107:5
 write-all-requires : tie.Need-write-all-requires Inv-loop μ-loop
 write-all-requires c κs = search needs
 
--- src/main.rt:108:5
 loop-holds : tie.Need-loop-holds Inv-loop μ-loop
 loop-holds c = search needs
 
--- src/main.rt:109:26
 slice-aggregate-write-all : tie.Need-slice-aggregate-write-all Inv-loop μ-loop
 slice-aggregate-write-all c = search needs
 
--- src/main.rt:109:9
 write-all-requires-2 : tie.Need-write-all-requires-2 Inv-loop μ-loop
 write-all-requires-2 c κs = search needs
 
--- src/main.rt:110:30
 mul-print-decimal : tie.Need-mul-print-decimal Inv-loop μ-loop
 mul-print-decimal c = search needs
 
--- src/main.rt:110:30
 element-copy-out-print-decimal : tie.Need-element-copy-out-print-decimal Inv-loop μ-loop
 element-copy-out-print-decimal c = search needs
 
--- src/main.rt:110:9
 print-decimal-requires : tie.Need-print-decimal-requires Inv-loop μ-loop
 print-decimal-requires c κs = search needs
 
--- src/main.rt:108:9
 add-q : tie.Need-add-q Inv-loop μ-loop
 add-q c = search needs
 
--- src/main.rt:108:5
 loop-less : tie.Need-loop-less Inv-loop μ-loop
 loop-less c = search needs
 
--- src/main.rt:108:5
 loop-again : tie.Need-loop-again Inv-loop μ-loop
 loop-again c = search needs
 
--- src/main.rt:112:22
 slice-aggregate-write-all-2 : tie.Need-slice-aggregate-write-all-2 Inv-loop μ-loop
 slice-aggregate-write-all-2 c = search needs
 
--- src/main.rt:112:5
 write-all-requires-3 : tie.Need-write-all-requires-3 Inv-loop μ-loop
 write-all-requires-3 c κs = search needs
 
--- src/main.rt:113:5
 print-decimal-requires-2 : tie.Need-print-decimal-requires-2 Inv-loop μ-loop
 print-decimal-requires-2 c κs = search needs
 
--- src/main.rt:114:22
 slice-aggregate-write-all-3 : tie.Need-slice-aggregate-write-all-3 Inv-loop μ-loop
 slice-aggregate-write-all-3 c = search needs
 
--- src/main.rt:114:5
 write-all-requires-4 : tie.Need-write-all-requires-4 Inv-loop μ-loop
 write-all-requires-4 c κs = search needs
 
--- src/main.rt:106:1
 returns : tie.Need-returns Inv-loop μ-loop
 returns c = search needs
 

@@ -1,3 +1,4 @@
+-- `ward_run::show_damaged` meets its contract.
 use borrow.Author.Needs.{needs}
 use Prim.Native.Nat.{_≤_, _-_}
 use mathlib.Core.Path.{_≡_}
@@ -17,51 +18,39 @@ Inv-loop file₀ k₀ t5 file k = (k ≤ 5) × (length file ≡ length file₀)
 abbrev μ-loop : tie.MeasureT-loop
 μ-loop file₀ k₀ t5 file k = 5 - k
 
--- src/main.rt:140:5
 loop-holds : tie.Need-loop-holds Inv-loop μ-loop
 loop-holds c = search needs
 
--- src/main.rt:141:20
 array-read-byte : tie.Need-array-read-byte Inv-loop μ-loop
 array-read-byte c = search needs
 
--- src/main.rt:142:30
 wide-byte-requires : tie.Need-wide-byte-requires Inv-loop μ-loop
 wide-byte-requires c κs = search needs
 
--- src/main.rt:142:9
 print-decimal-requires : tie.Need-print-decimal-requires Inv-loop μ-loop
 print-decimal-requires c κs = search needs
 
--- src/main.rt:143:13
 replaced-requires : tie.Need-replaced-requires Inv-loop μ-loop
 replaced-requires c κs = search needs
 
--- src/main.rt:144:14
 slice-aggregate-show : tie.Need-slice-aggregate-show Inv-loop μ-loop
 slice-aggregate-show c = search needs
 
--- src/main.rt:144:9
 show-requires : tie.Need-show-requires Inv-loop μ-loop
 show-requires c κs = search needs
 
--- src/main.rt:140:9
 add-k : tie.Need-add-k Inv-loop μ-loop
 add-k c = search needs
 
--- src/main.rt:140:5
 loop-less : tie.Need-loop-less Inv-loop μ-loop
 loop-less c = search needs
 
--- src/main.rt:140:5
 loop-again : tie.Need-loop-again Inv-loop μ-loop
 loop-again c = search needs
 
--- src/main.rt:139:1
 same-length : tie.Need-same-length Inv-loop μ-loop
 same-length c = search needs
 
--- src/main.rt:139:1
 returns : tie.Need-returns Inv-loop μ-loop
 returns c = search needs
 

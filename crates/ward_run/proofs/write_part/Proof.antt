@@ -1,3 +1,4 @@
+-- `ward_run::write_part` meets its contract.
 use mathlib.Core.Path.{sym}
 use lib.Seq.{length-take-le}
 use native.Mathlib.Omega.{arith}
@@ -9,31 +10,24 @@ use Rattle.ward_run.proofs.write_part.Lts as lts
 use Rattle.ward.proofs.read.Reads as read-reads
 use Rattle.ward.proofs.write.Reads as write-reads
 
--- src/main.rt:76:9
 read-requires : tie.Need-read-requires
 read-requires c κs = search needs
 
--- src/main.rt:79:9
 returns : tie.Need-returns
 returns c = search needs
 
--- src/main.rt:81:31
 slice-relend-prefix-write : tie.Need-slice-relend-prefix-write
 slice-relend-prefix-write c = search needs
 
--- src/main.rt:81:31
 slice-aggregate-write : tie.Need-slice-aggregate-write
 slice-aggregate-write c = sym (length-take-le _ _ (omega arith))
 
--- src/main.rt:81:9
 write-requires : tie.Need-write-requires
 write-requires c κs = search needs
 
--- src/main.rt:75:1
 same-length : tie.Need-same-length
 same-length c = search needs
 
--- src/main.rt:75:1
 returns-2 : tie.Need-returns-2
 returns-2 c = search needs
 

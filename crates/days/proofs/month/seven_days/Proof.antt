@@ -3,7 +3,7 @@ use mathlib.Core.Path.{_≡_, refl, _∙_}
 use Prim.Native.Nat.{ℕ, _-_, _≤_, _<_}
 use native.Mathlib.Omega.{arith}
 use lib.ListN.{length, getD, length-set}
-use Rattle.ward.specs.Fields.{duty}
+use Rattle.fields.specs.Fields.{duty}
 use Rattle.days.proofs.MonthLaws.{place-turn}
 use borrow.Author.Needs.{needs}
 use Rattle.days.proofs.month.seven_days.Statement.{statement}

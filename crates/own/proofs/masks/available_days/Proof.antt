@@ -1,4 +1,4 @@
--- `nights::masks::available_days` meets its contract.
+-- `own::masks::available_days` meets its contract.
 use Prim.Native.Nat.{_-_, _^_}
 use lib.Bits.{bitOr}
 use Rattle.own.proofs.MaskLaws.{masked-half, masks-row, masks-available}

@@ -1,4 +1,4 @@
--- `nights::masks::bars_of` meets its contract.
+-- `own::masks::bars_of` meets its contract.
 use borrow.Author.Needs.{needs}
 use Rattle.own.proofs.masks.bars_of.Statement.{statement}
 use Rattle.own.proofs.masks.bars_of.Tie as tie

@@ -1,4 +1,4 @@
--- `nights::masks::day_if` meets its contract.
+-- `own::masks::day_if` meets its contract.
 use mathlib.Core.Path.{_∙_}
 use borrow.Author.Needs.{needs}
 use Rattle.own.proofs.masks.day_if.Statement.{statement}

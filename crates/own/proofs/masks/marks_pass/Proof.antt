@@ -1,4 +1,4 @@
--- `nights::masks::marks_pass` meets its contract.
+-- `own::masks::marks_pass` meets its contract.
 use Rattle.own.proofs.MaskLaws.{masks-row, masks-bar, masks-allow}
 use borrow.Author.Needs.{needs}
 use Rattle.own.proofs.masks.marks_pass.Statement.{statement}

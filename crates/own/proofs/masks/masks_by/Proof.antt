@@ -1,4 +1,4 @@
--- `nights::masks::masks_by` meets its contract: each field is what its call says.
+-- `own::masks::masks_by` meets its contract: each field is what its call says.
 use mathlib.Core.Path.{ap, _∙_}
 use Prim.Native.Nat.{ℕ, _-_, _^_}
 use native.Mathlib.Omega.{arith}

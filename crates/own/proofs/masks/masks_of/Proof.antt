@@ -1,11 +1,11 @@
--- `nights::masks::masks_of` meets its contract.
+-- `own::masks::masks_of` meets its contract.
 use Prim.Native.Nat.{ℕ}
 use mathlib.Core.Path.{ap₂, _∙_}
 use mathlib.Core.List.{List}
-use Rattle.ward.specs.Fields.{days}
-use Rattle.nights.specs.declared.Rules.{Rules}
+use Rattle.fields.specs.Fields.{days}
+use Rattle.fields.specs.declared.rules.Rules.{Rules}
 use Rattle.own.specs.Masks.{masksOf}
-use Rattle.nights.proofs.AcceptedLaws.{rules-small, block-is}
+use Rattle.fields.proofs.AcceptedLaws.{rules-small, block-is}
 use borrow.Author.Needs.{needs}
 use Rattle.own.proofs.masks.masks_of.Statement.{statement}
 use Rattle.own.proofs.masks.masks_of.Tie as tie

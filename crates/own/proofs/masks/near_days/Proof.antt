@@ -1,8 +1,8 @@
--- `nights::masks::near_days` meets its contract: each answer is the case that its tests name.
+-- `own::masks::near_days` meets its contract: each answer is the case that its tests name.
 use Rattle.own.proofs.NearLaws.{near-none, near-some}
 use native.Mathlib.Omega.{arith}
 use Prim.Native.Nat.{_-_}
-use Rattle.nights.proofs.WalkLaws.{gap-small}
+use Rattle.fields.proofs.AcceptedLaws.{gap-small}
 use borrow.Author.Needs.{needs}
 use Rattle.own.proofs.masks.near_days.Statement.{statement}
 use Rattle.own.proofs.masks.near_days.Tie as tie

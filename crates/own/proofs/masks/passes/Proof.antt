@@ -1,12 +1,13 @@
--- `nights::masks::passes` meets its contract: each way out decides one part of `hers`, or all.
+-- `own::masks::passes` meets its contract: each way out decides one part of `hers`, or all.
 use mathlib.Core.Path.{sym, ap, _∙_}
 use native.Mathlib.Omega.{arith}
 use borrow.Author.Tests.{not-true, not-false}
-use Rattle.ward.specs.Fields.{days, block}
-use Rattle.nights.specs.declared.Rules.{Rules}
-use Rattle.nights.specs.Nights.{rulesOf, follow, starts}
+use Rattle.fields.specs.Fields.{days, block}
+use Rattle.fields.specs.declared.rules.Rules.{Rules}
+use Rattle.fields.specs.Rules.{rulesOf}
+use Rattle.nights.specs.Nights.{follow, starts}
 use Rattle.nights.specs.Hers.{shifted}
-use Rattle.nights.proofs.AcceptedLaws.{rules-small}
+use Rattle.fields.proofs.AcceptedLaws.{rules-small}
 use Rattle.own.proofs.NearLaws.{out-marks, out-few, out-many, by-run, by-distance}
 use borrow.Author.Needs.{needs}
 use Rattle.own.proofs.masks.passes.Statement.{statement}

@@ -1,4 +1,4 @@
--- `nights::masks::row_of` meets its contract.
+-- `own::masks::row_of` meets its contract.
 use Prim.Native.Nat.{_-_, _^_, _<_, ℕ, _+_, _*_}
 use Rattle.own.proofs.MaskLaws.{masked-twice, row-made}
 use mathlib.Core.Path.{refl, ap}

@@ -1,4 +1,4 @@
--- `nights::masks::workable_days` meets its contract. The loop's invariant: the set holds the days passed.
+-- `own::masks::workable_days` meets its contract. The loop's invariant: the set holds the days passed.
 use Prim.Native.Nat.{ℕ, _^_, _≤_, _+_, _-_}
 use mathlib.Core.Path.{ap, _∙_, _≡_, refl}
 use mathlib.Core.Bool.{Bool, cond}

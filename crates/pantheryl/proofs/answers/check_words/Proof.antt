@@ -1,4 +1,4 @@
--- `check_words` meets its contract, by the cases of the answer.
+-- `pantheryl::answers::check_words` meets its contract, by the cases of the answer.
 use borrow.Author.Needs.{needs}
 use Rattle.pantheryl.proofs.answers.check_words.Statement.{statement}
 use Rattle.pantheryl.proofs.answers.check_words.Tie as tie

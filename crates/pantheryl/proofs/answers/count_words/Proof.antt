@@ -1,4 +1,4 @@
--- `count_words` meets its contract, by the cases of the answer.
+-- `pantheryl::answers::count_words` meets its contract, by the cases of the answer.
 use borrow.Author.Needs.{needs}
 use Rattle.pantheryl.proofs.answers.count_words.Statement.{statement}
 use Rattle.pantheryl.proofs.answers.count_words.Tie as tie

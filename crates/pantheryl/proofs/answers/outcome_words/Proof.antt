@@ -1,4 +1,4 @@
--- `outcome_words` meets its contract, by the cases of the outcome.
+-- `pantheryl::answers::outcome_words` meets its contract, by the cases of the outcome.
 use borrow.Author.Needs.{needs}
 use Rattle.pantheryl.proofs.answers.outcome_words.Statement.{statement}
 use Rattle.pantheryl.proofs.answers.outcome_words.Tie as tie

@@ -1,4 +1,4 @@
--- `put_letters` meets its contract: with no letters the roster is as it was.
+-- `pantheryl::answers::put_letters` meets its contract: with no letters the roster is as it was.
 use mathlib.Core.Path.{_≡_}
 use native.Mathlib.Omega.{arith}
 use borrow.Author.Needs.{needs}

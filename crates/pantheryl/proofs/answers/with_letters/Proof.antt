@@ -1,4 +1,4 @@
--- `with_letters` meets its contract.
+-- `pantheryl::answers::with_letters` meets its contract.
 use Prim.Native.Nat.{_-_}
 use mathlib.Core.Path.{refl}
 use Rattle.pantheryl.proofs.CopyLaws.{Copied, copied-start, copied-turn, copied-front}

@@ -1,4 +1,4 @@
--- `flags_of` meets its contract.
+-- `pantheryl::words::flags_of` meets its contract.
 use Prim.Native.Nat.{_-_}
 use mathlib.Core.Bool.{false}
 use mathlib.Core.List.{map}

@@ -1,4 +1,4 @@
--- `patterns_of` meets its contract.
+-- `pantheryl::words::patterns_of` meets its contract.
 use Prim.Native.Nat.{_-_}
 use native.Mathlib.Omega.{arith}
 use lib.ListN.{take}

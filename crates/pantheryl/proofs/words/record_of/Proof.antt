@@ -1,4 +1,4 @@
--- `record_of` meets its contract, field by field.
+-- `pantheryl::words::record_of` meets its contract, field by field.
 use Rattle.pantheryl.specs.Words.{recordOfWords}
 use borrow.Author.Needs.{needs}
 use Rattle.pantheryl.proofs.words.record_of.Statement.{statement}

@@ -1,4 +1,4 @@
--- `removal_at` meets its contract.
+-- `pantheryl::words::removal_at` meets its contract.
 use borrow.Author.Needs.{needs}
 use Rattle.pantheryl.proofs.words.removal_at.Statement.{statement}
 use Rattle.pantheryl.proofs.words.removal_at.Tie as tie

@@ -1,4 +1,4 @@
--- `removal_word` meets its contract, by the cases of its tests.
+-- `pantheryl::words::removal_word` meets its contract, by the cases of its tests.
 use borrow.Author.Tests.{eq-eqb, ne-eqb}
 use borrow.Author.Needs.{needs}
 use Rattle.pantheryl.proofs.words.removal_word.Statement.{statement}

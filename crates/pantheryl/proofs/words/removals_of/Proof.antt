@@ -1,4 +1,4 @@
--- `removals_of` meets its contract.
+-- `pantheryl::words::removals_of` meets its contract.
 use Prim.Native.Nat.{_-_}
 use mathlib.Core.List.{map}
 use native.Mathlib.Omega.{arith}

@@ -1,4 +1,4 @@
--- `word_of` meets its contract, by the part of the record that the word is in.
+-- `pantheryl::words::word_of` meets its contract, by the part of the record that the word is in.
 use lib.ListN.{length-map}
 use Rattle.search.specs.Stored.{Sized}
 use Rattle.pantheryl.proofs.WordLaws.{word-pattern, word-flag, word-removal, word-steps}

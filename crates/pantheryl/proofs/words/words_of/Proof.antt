@@ -1,4 +1,4 @@
--- `words_of` meets its contract.
+-- `pantheryl::words::words_of` meets its contract.
 use Prim.Native.Nat.{_-_}
 use native.Mathlib.Omega.{arith}
 use lib.ListN.{length-map}

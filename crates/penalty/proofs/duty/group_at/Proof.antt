@@ -1,4 +1,4 @@
--- `duty::group_at` meets its contract.
+-- `penalty::duty::group_at` meets its contract.
 use Rattle.penalty.proofs.DutyLaws.{group-is}
 use native.Mathlib.Omega.{arith}
 use borrow.Author.Needs.{needs}

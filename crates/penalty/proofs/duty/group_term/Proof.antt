@@ -1,4 +1,4 @@
--- `duty::group_term` meets its contract.
+-- `penalty::duty::group_term` meets its contract.
 use Prim.Native.Nat.{_≤_}
 use native.Mathlib.Omega.{arith}
 use Rattle.penalty.proofs.DutyLaws.{u-le, v-le}

@@ -1,4 +1,4 @@
--- `duty::on_column` meets its contract: the loop over the groups adds up their terms.
+-- `penalty::duty::on_column` meets its contract: the loop over the groups adds up their terms.
 use borrow.Author.Needs.{needs}
 use Prim.Native.Nat.{_-_}
 use mathlib.Core.Path.{refl}

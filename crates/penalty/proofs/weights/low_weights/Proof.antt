@@ -1,4 +1,4 @@
--- `weights::low_weights` meets its contract.
+-- `penalty::weights::low_weights` meets its contract.
 use borrow.Author.Needs.{needs}
 use mathlib.Core.Path.{ap}
 use Rattle.penalty.specs.Walk.{noHigh}

@@ -1,4 +1,4 @@
--- `weights::weights` meets its contract.
+-- `penalty::weights::weights` meets its contract.
 use mathlib.Core.Path.{refl}
 use Rattle.penalty.specs.Walk.{weightsOf}
 use borrow.Author.Needs.{needs}

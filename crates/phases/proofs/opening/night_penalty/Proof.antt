@@ -1,4 +1,4 @@
--- `opening::night_penalty` meets its contract.
+-- `phases::opening::night_penalty` meets its contract.
 use mathlib.Core.Path.{refl}
 use Rattle.phases.proofs.OpeningLaws.{everyone-placed}
 use borrow.Author.Needs.{needs}

@@ -1,11 +1,11 @@
--- `opening::nights_hers` meets its contract. The loop's invariant: the nurses from i on decide.
+-- `phases::opening::nights_hers` meets its contract. The loop's invariant: the nurses from i on decide.
 use borrow.Author.Needs.{needs}
 use Prim.Native.Nat.{_≤_, _-_}
 use mathlib.Core.Path.{_≡_, sym, _∙_}
 use native.Mathlib.Omega.{arith}
 use Rattle.numbers.specs.Range.{upFrom, all}
 use Rattle.numbers.proofs.RangeLaws.{all-more, all-stop, all-end}
-use Rattle.ward.specs.Fields.{nurses}
+use Rattle.fields.specs.Fields.{nurses}
 use Rattle.nights.specs.Hers.{hersOf}
 use Rattle.phases.specs.Phases.{nightOf}
 use Rattle.phases.proofs.QuestionLaws.{all-from}

@@ -1,4 +1,4 @@
--- `opening::nights_open` meets its contract.
+-- `phases::opening::nights_open` meets its contract.
 use Rattle.phases.proofs.OpeningLaws.{opens-at-zero, stays-shut}
 use borrow.Author.Needs.{needs}
 use Rattle.phases.proofs.opening.nights_open.Statement.{statement}

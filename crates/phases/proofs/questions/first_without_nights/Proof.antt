@@ -1,12 +1,12 @@
--- `questions::first_without_nights` meets its contract. The loop's invariant: the nurses from i on decide.
+-- `phases::questions::first_without_nights` meets its contract. The loop's invariant: the nurses from i on decide.
 use borrow.Author.Needs.{needs}
 use Prim.Native.Nat.{_≤_, _-_}
 use mathlib.Core.Path.{_≡_, sym, _∙_}
 use native.Mathlib.Omega.{arith}
 use Rattle.numbers.specs.Range.{upFrom}
-use Rattle.ward.specs.Fields.{nurses}
+use Rattle.fields.specs.Fields.{nurses}
 use Rattle.nights.specs.Hers.{nightList}
-use Rattle.search.specs.Record.{lacking}
+use Rattle.history.specs.Record.{lacking}
 use Rattle.phases.proofs.QuestionLaws.{lacking-begin, lacking-more, lacking-stop, lacking-end}
 use Rattle.phases.proofs.questions.first_without_nights.Statement.{statement}
 use Rattle.phases.proofs.questions.first_without_nights.Tie as tie

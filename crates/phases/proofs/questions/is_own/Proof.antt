@@ -1,4 +1,4 @@
--- `questions::is_own` meets its contract, by those of the tests of one pattern.
+-- `phases::questions::is_own` meets its contract, by those of the tests of one pattern.
 use Rattle.phases.proofs.QuestionLaws.{own-night, own-day}
 use borrow.Author.Needs.{needs}
 use Rattle.phases.proofs.questions.is_own.Statement.{statement}

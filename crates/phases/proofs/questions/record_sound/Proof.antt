@@ -1,4 +1,4 @@
--- `questions::record_sound` meets its contract, by its three parts.
+-- `phases::questions::record_sound` meets its contract, by its three parts.
 use Rattle.phases.proofs.QuestionLaws.{sound-unused, sound-removals, sound-slots}
 use borrow.Author.Needs.{needs}
 use Rattle.phases.proofs.questions.record_sound.Statement.{statement}

@@ -1,4 +1,4 @@
--- `questions::removal_names` meets its contract.
+-- `phases::questions::removal_names` meets its contract.
 use Rattle.phases.proofs.QuestionLaws.{names-within, names-past}
 use borrow.Author.Needs.{needs}
 use Rattle.phases.proofs.questions.removal_names.Statement.{statement}

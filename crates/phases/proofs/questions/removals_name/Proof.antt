@@ -1,4 +1,4 @@
--- `questions::removals_name` meets its contract. The loop's invariant: the removals from j on decide.
+-- `phases::questions::removals_name` meets its contract. The loop's invariant: the removals from j on decide.
 use borrow.Author.Needs.{needs}
 use Prim.Native.Nat.{_≤_, _-_}
 use mathlib.Core.Path.{_≡_, refl, sym, _∙_}

@@ -1,4 +1,4 @@
--- `questions::slot_own` meets its contract.
+-- `phases::questions::slot_own` meets its contract.
 use Rattle.phases.proofs.QuestionLaws.{slot-placed}
 use borrow.Author.Needs.{needs}
 use Rattle.phases.proofs.questions.slot_own.Statement.{statement}

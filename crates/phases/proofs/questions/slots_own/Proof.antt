@@ -1,11 +1,11 @@
--- `questions::slots_own` meets its contract. The loop's invariant: the nurses from i on decide.
+-- `phases::questions::slots_own` meets its contract. The loop's invariant: the nurses from i on decide.
 use borrow.Author.Needs.{needs}
 use Prim.Native.Nat.{_≤_, _-_}
 use mathlib.Core.Path.{_≡_, sym, _∙_}
 use native.Mathlib.Omega.{arith}
 use Rattle.numbers.specs.Range.{upFrom, all}
 use Rattle.numbers.proofs.RangeLaws.{all-more, all-stop, all-end}
-use Rattle.search.specs.Record.{hers}
+use Rattle.history.specs.Record.{hers}
 use Rattle.search.specs.Stored.{slotAt}
 use Rattle.phases.specs.Asked.{phaseOf}
 use Rattle.phases.proofs.QuestionLaws.{nurses-begin}

@@ -1,4 +1,4 @@
--- `questions::steps_allowed` meets its contract.
+-- `phases::questions::steps_allowed` meets its contract.
 use borrow.Author.Tests.{lt-leb, le-leb}
 use borrow.Author.Needs.{needs}
 use Rattle.phases.proofs.questions.steps_allowed.Statement.{statement}

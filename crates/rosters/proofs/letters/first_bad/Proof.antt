@@ -1,4 +1,4 @@
--- `letters::first_bad` meets its contract. The loop's invariant: the answer is that of the letters from i on.
+-- `rosters::letters::first_bad` meets its contract. The loop's invariant: the answer is that of the letters from i on.
 use Prim.Native.Nat.{_≤_, _-_}
 use mathlib.Core.Path.{_≡_, refl, sym, _∙_}
 use native.Mathlib.Omega.{arith}

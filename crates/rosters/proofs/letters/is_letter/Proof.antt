@@ -1,4 +1,4 @@
--- `letters::is_letter` meets its contract: the five letters in turn.
+-- `rosters::letters::is_letter` meets its contract: the five letters in turn.
 
 use borrow.Author.Tests.{eq-eqb, ne-eqb}
 use Rattle.rosters.specs.Letters.{isLetter}

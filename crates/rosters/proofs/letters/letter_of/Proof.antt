@@ -1,4 +1,4 @@
--- `letters::letter_of` meets its contract: the table is the definition's list.
+-- `rosters::letters::letter_of` meets its contract: the table is the definition's list.
 use mathlib.Core.Path.{refl}
 use Rattle.rosters.specs.Letters.{letter}
 use borrow.Author.Needs.{needs}

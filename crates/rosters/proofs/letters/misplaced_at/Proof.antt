@@ -1,4 +1,4 @@
--- `letters::misplaced_at` meets its contract: a bad letter before the end, the right count, or the count.
+-- `rosters::letters::misplaced_at` meets its contract: a bad letter before the end, the right count, or the count.
 use Rattle.rosters.proofs.LetterLaws.{place-bad, place-none, place-count}
 use borrow.Author.Needs.{needs}
 use Rattle.rosters.proofs.letters.misplaced_at.Statement.{statement}

@@ -1,4 +1,4 @@
--- `needs::all_bounds_hold` meets its contract. The loop's invariant: the groups from g on decide.
+-- `rosters::needs::all_bounds_hold` meets its contract. The loop's invariant: the groups from g on decide.
 use Prim.Native.Nat.{_≤_, _-_}
 use mathlib.Core.Path.{_≡_, refl, sym, _∙_}
 use native.Mathlib.Omega.{arith}

@@ -1,4 +1,4 @@
--- `needs::bounds_hold` meets its contract.
+-- `rosters::needs::bounds_hold` meets its contract.
 use borrow.Author.Tests.{le-leb, lt-leb}
 use Rattle.rosters.specs.Walk.{boundsHold}
 use borrow.Author.Needs.{needs}

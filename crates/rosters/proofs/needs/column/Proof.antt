@@ -1,4 +1,4 @@
--- `needs::column` meets its contract. The loop's invariant: the column has the first i nurses.
+-- `rosters::needs::column` meets its contract. The loop's invariant: the column has the first i nurses.
 
 use Rattle.rosters.proofs.NeedLaws.{column-end}
 use Prim.Native.Nat.{_≤_, _-_}

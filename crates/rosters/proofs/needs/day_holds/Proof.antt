@@ -1,4 +1,4 @@
--- `needs::day_holds` meets its contract.
+-- `rosters::needs::day_holds` meets its contract.
 use mathlib.Core.Path.{sym, _∙_}
 use Rattle.rosters.proofs.NeedLaws.{both-duties, night-fails}
 use borrow.Author.Needs.{needs}

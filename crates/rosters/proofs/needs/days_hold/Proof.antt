@@ -1,4 +1,4 @@
--- `needs::days_hold` meets its contract. The loop's invariant: the days from d on decide.
+-- `rosters::needs::days_hold` meets its contract. The loop's invariant: the days from d on decide.
 use borrow.Author.Needs.{needs}
 use Prim.Native.Nat.{_≤_, _-_}
 use mathlib.Core.Path.{_≡_, sym, _∙_}

@@ -1,4 +1,4 @@
--- `needs::duty_holds` meets its contract: counts over the day's column are counts over the nurses.
+-- `rosters::needs::duty_holds` meets its contract: counts over the day's column are counts over the nurses.
 
 use mathlib.Core.Path.{sym, ap, ap₂, _∙_}
 use Prim.Native.Nat.{ℕ, _*_}

@@ -1,8 +1,7 @@
--- `needs::duty_letter` meets its contract.
+-- `rosters::needs::duty_letter` meets its contract.
 use mathlib.Core.Path.{_≡_, sym, ap}
 use native.Mathlib.Omega.{arith}
 use Rattle.rosters.specs.Check.{dutyLetter}
-use mathlib.Core.Path.{_≡_}
 use Rattle.rosters.specs.Letters.{letter}
 use Rattle.rosters.proofs.needs.duty_letter.Statement.{statement}
 use Rattle.rosters.proofs.needs.duty_letter.Tie as tie

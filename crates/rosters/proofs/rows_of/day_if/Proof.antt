@@ -1,4 +1,4 @@
--- `rows_of::day_if` meets its contract.
+-- `rosters::rows_of::day_if` meets its contract.
 use mathlib.Core.Path.{sym, ap, _∙_}
 use mathlib.Core.Bool.{Bool, cond}
 use Prim.Native.Nat.{_^_}

@@ -1,4 +1,4 @@
--- `rows_of::days_with` meets its contract. The loop's invariant: the set has the first d days' letters.
+-- `rosters::rows_of::days_with` meets its contract. The loop's invariant: the set has the first d days' letters.
 use borrow.Author.Needs.{needs}
 use Prim.Native.Nat.{_≤_, _<_, _-_}
 use mathlib.Core.Path.{_≡_}

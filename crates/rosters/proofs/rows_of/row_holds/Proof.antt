@@ -1,4 +1,4 @@
--- `rows_of::row_holds` meets its contract.
+-- `rosters::rows_of::row_holds` meets its contract.
 
 use mathlib.Core.Path.{sym, _∙_}
 use Prim.Native.Nat.{_≤_}

@@ -1,4 +1,4 @@
--- `rows_of::rows_hold` meets its contract. The loop's invariant: the nurses from i on decide.
+-- `rosters::rows_of::rows_hold` meets its contract. The loop's invariant: the nurses from i on decide.
 use borrow.Author.Needs.{needs}
 use Prim.Native.Nat.{_≤_, _-_}
 use mathlib.Core.Path.{_≡_, sym, _∙_}

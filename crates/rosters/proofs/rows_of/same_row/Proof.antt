@@ -1,4 +1,4 @@
--- `rows_of::same_row` meets its contract. The loop's invariant: the days from d on decide, and `state` is the row's on the day before them.
+-- `rosters::rows_of::same_row` meets its contract. The loop's invariant: the days from d on decide, and `state` is the row's on the day before them.
 use Prim.Native.Nat.{_≤_, _-_}
 use mathlib.Core.Path.{_≡_, sym, _∙_}
 use native.Mathlib.Omega.{arith}

@@ -1,4 +1,4 @@
--- `written::roster_of` meets its contract. The loop's invariant: the first i nurses' rows are in.
+-- `rosters::written::roster_of` meets its contract. The loop's invariant: the first i nurses' rows are in.
 use borrow.Author.Needs.{needs}
 use Prim.Native.Nat.{_≤_, _-_}
 use mathlib.Core.Path.{refl}

@@ -1,12 +1,12 @@
 -- `search::Record::advance` meets its contract: what is left to run is the rest of the run.
-use Prim.Native.Nat.{ℕ, _+_, _-_, _≤_}
+use Prim.Native.Nat.{_-_}
 use mathlib.Core.Bool.{true}
-use mathlib.Core.Path.{_≡_, sym, _∙_, ap}
+use mathlib.Core.Path.{_≡_}
 use native.Mathlib.Omega.{arith}
 use borrow.Author.Tests.{not-true, not-false}
-use lib.ListN.{length, length-map}
+use lib.ListN.{length-map}
 use borrow.Author.Needs.{needs}
-use Rattle.search.specs.Phase.{Phase}
+use Rattle.history.specs.Phase.{Phase}
 use Rattle.search.specs.Stored.{Sized, soundStored}
 use Rattle.search.specs.Seek.{Seeks}
 use Rattle.search.proofs.AdvanceLaws.{Running, running-start, ends-zero, ends-asked, stays-none, moves-on}
@@ -24,49 +24,40 @@ Inv-loop w lists plan k daily kept₀ made₀ kept made = (P : Phase) → Seeks 
 abbrev μ-loop : tie.MeasureT-loop
 μ-loop w lists plan k daily kept₀ made₀ kept made = k - made
 
--- src/lib.rt:174:9
 loop-holds : tie.Need-loop-holds Inv-loop μ-loop
 loop-holds c = λ P s e.
     let z : Sized (c .before .before .args .self) = record { patterns-long = search needs; placed-long = search needs; removals-long = simp length-map at (c .before .before .good .0 .1 .1 .1 .1 .0 .1 .0 .1) } in
     running-start P (c .before .before .args .k) (c .before .before .args .self) z e
 
--- src/lib.rt:175:17
 penalty-of-requires : tie.Need-penalty-of-requires Inv-loop μ-loop
 penalty-of-requires c κs = c .before .before .before .pre .0 .0
 
--- src/lib.rt:177:17
 returns : tie.Need-returns Inv-loop μ-loop
 returns c = λ P s e. ends-zero P (c .before .before .before .before .before .args .k) (c .before .before .before .before .before .args .self) (c .before .before .loop .inv P s e) (seeks-fits (c .before .before .before .before .before .args .plan .daily) (c .before .before .before .before .before .args .w .now) P s (c .before .before .before .before .before .pre .0 .0)) (seeks-cost (c .before .before .before .before .before .args .plan .daily) (c .before .before .before .before .before .args .w .now) P s (c .before .before .loop .kept) (c .before .penalty-of .ensures)) (c .if1 .taken)
 
--- src/lib.rt:185:17
 returns-2 : tie.Need-returns-2 Inv-loop μ-loop
 returns-2 c = λ P s e. ends-asked P (c .before .before .before .before .before .before .args .k) (c .before .before .before .before .before .before .args .self) (c .before .before .before .loop .inv P s e) (seeks-fits (c .before .before .before .before .before .before .args .plan .daily) (c .before .before .before .before .before .before .args .w .now) P s (c .before .before .before .before .before .before .pre .0 .0)) (seeks-cost (c .before .before .before .before .before .before .args .plan .daily) (c .before .before .before .before .before .before .args .w .now) P s (c .before .before .before .loop .kept) (c .before .before .penalty-of .ensures)) (c .before .if1 .left) (c .if2 .taken)
 
--- src/lib.rt:192:17
 step-requires : tie.Need-step-requires Inv-loop μ-loop
 step-requires c κs = let v = c .before .before .before .before .before .before .pre .1 in
     let run = c .before .before .before .loop .inv (v .0) (v .1) (v .2) in
     ((c .before .before .before .before .before .before .pre .0 .0, c .before .before .before .before .before .before .pre .0 .1, omega (arith, run .counted, run .at-most, c .if2 .left, c .before .before .before .before .before .before .pre .0 .2)), (v .0, v .1))
 
--- src/lib.rt:194:17
 returns-3 : tie.Need-returns-3 Inv-loop μ-loop
 returns-3 c = λ P s e.
     let run = c .before .before .before .before .before .before .loop .inv P s e in
     stays-none P (c .before .before .before .before .before .before .before .before .before .args .k) (c .before .before .before .before .before .before .before .before .before .args .self) run (seeks-fits (c .before .before .before .before .before .before .before .before .before .args .plan .daily) (c .before .before .before .before .before .before .before .before .before .args .w .now) P s (c .before .before .before .before .before .before .before .before .before .pre .0 .0)) (seeks-cost (c .before .before .before .before .before .before .before .before .before .args .plan .daily) (c .before .before .before .before .before .before .before .before .before .args .w .now) P s (c .before .before .before .before .before .before .loop .kept) (c .before .before .before .before .before .penalty-of .ensures)) (c .before .before .before .before .if1 .left) (omega (arith, run .at-most, c .before .before .before .if2 .left)) (c .before .before .step .ensures P s) (not-true _ (c .if3 .taken))
 
--- src/lib.rt:203:13
 add-made : tie.Need-add-made Inv-loop μ-loop
 add-made c = let v = c .before .before .before .before .before .before .before .before .before .before .pre .1 in
     let run = c .before .before .before .before .before .before .before .loop .inv (v .0) (v .1) (v .2) in
     omega (arith, run .at-most, c .before .before .before .before .before .before .before .before .before .before .pre .0 .2)
 
--- src/lib.rt:174:9
 loop-less : tie.Need-loop-less Inv-loop μ-loop
 loop-less c = let v = c .before .before .before .before .before .before .before .before .before .before .pre .1 in
     let run = c .before .before .before .before .before .before .before .loop .inv (v .0) (v .1) (v .2) in
     omega (arith, run .at-most, c .before .before .before .before .if2 .left)
 
--- src/lib.rt:174:9
 loop-again : tie.Need-loop-again Inv-loop μ-loop
 loop-again c = λ P s e.
     let run = c .before .before .before .before .before .before .before .loop .inv P s e in

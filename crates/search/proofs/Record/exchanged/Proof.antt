@@ -1,4 +1,4 @@
--- `Record::exchanged` meets its contract, by those of the functions that it calls.
+-- `search::Record::exchanged` meets its contract, by those of the functions that it calls.
 use Rattle.search.proofs.ViewLaws.{exchanged-is}
 use borrow.Author.Needs.{needs}
 use Rattle.search.proofs.Record.exchanged.Statement.{statement}

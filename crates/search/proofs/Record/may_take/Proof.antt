@@ -1,9 +1,9 @@
--- `Record::may_take` meets its contract, by what is in use and what the removals bar.
+-- `search::Record::may_take` meets its contract, by what is in use and what the removals bar.
 use mathlib.Core.Path.{_≡_}
 use mathlib.Core.Bool.{false}
 use mathlib.Core.Logic.{⊎-elim}
 use borrow.Author.Tests.{eq-eqb, ne-eqb}
-use Rattle.search.specs.Phase.{holds}
+use Rattle.history.specs.Phase.{holds}
 use Rattle.search.specs.Stored.{slotAt}
 use Rattle.search.proofs.ViewLaws.{may-not, may-else}
 use borrow.Author.Needs.{needs}

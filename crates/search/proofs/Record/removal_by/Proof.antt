@@ -1,5 +1,5 @@
--- `Record::removal_by` meets its contract.
-use Rattle.search.proofs.RemovalLaws.{removal-placed, removal-unplaced}
+-- `search::Record::removal_by` meets its contract.
+use Rattle.search.proofs.ViewLaws.{removal-placed, removal-unplaced}
 use borrow.Author.Needs.{needs}
 use Rattle.search.proofs.Record.removal_by.Statement.{statement}
 use Rattle.search.proofs.Record.removal_by.Tie as tie

@@ -1,6 +1,4 @@
 -- `search::Record::step` meets its contract.
-use native.Mathlib.Omega.{arith}
-use mathlib.Core.Path.{sym, _∙_}
 use Rattle.search.proofs.SeekLaws.{seeks-nurse, seeks-none, seeks-some}
 use borrow.Author.Needs.{needs}
 use Rattle.search.proofs.Record.step.Statement.{statement}
@@ -9,33 +7,26 @@ use Rattle.search.proofs.Record.step.Reads as reads
 use Rattle.search.proofs.Record.step.Lts as lts
 use Rattle.search.proofs.Record.exchanged.Reads as exchanged-reads
 use Rattle.search.proofs.tries.best_of.Reads as best-of-reads
-use Rattle.ward.proofs.fields.tabu.Reads as tabu-reads
+use Rattle.fields.proofs.tabu.Reads as tabu-reads
 
--- src/lib.rt:144:13
 tabu-requires : tie.Need-tabu-requires
 tabu-requires c κs = search needs
 
--- src/lib.rt:145:13
 best-of-requires : tie.Need-best-of-requires
 best-of-requires c κs = search needs
 
--- src/lib.rt:147:30
 enum-told : tie.Need-enum-told
 enum-told c = search needs
 
--- src/lib.rt:152:17
 enum-known-best : tie.Need-enum-known-best
 enum-known-best c = search needs
 
--- src/lib.rt:156:21
 exchanged-requires : tie.Need-exchanged-requires
 exchanged-requires c κs = (c .before .before .before .before .tabu .ensures .1, seeks-nurse (c .before .before .before .before .before .before .before .args .plan .daily) (c .before .before .before .before .before .before .before .args .w .now) (c .before .before .before .before .before .before .before .pre .1 .0) (c .before .before .before .before .before .before .before .pre .1 .1) (c .before .before .before .before .before .before .before .args .self) (c .before .before .before .before .before .before .before .pre .0 .0) (c .before .before .before .best-of .ensures (c .before .before .before .before .before .before .before .pre .1 .0) (c .before .before .before .before .before .before .before .pre .1 .1)) (c .before .best .given .1), c .before .before .before .before .before .before .before .pre .0 .2)
 
--- src/lib.rt:139:5
 returns : tie.Need-returns
 returns c = λ P s. seeks-none (c .before .before .before .before .before .before .args .plan .daily) (c .before .before .before .before .before .before .args .w .now) P s (c .before .before .before .before .before .before .args .self) (c .before .before .best-of .ensures P s) (c .enum-told .given .1)
 
--- src/lib.rt:139:5
 returns-2 : tie.Need-returns-2
 returns-2 c = λ P s. seeks-some (c .before .before .before .before .before .before .before .before .args .plan .daily) (c .before .before .before .before .before .before .before .before .args .w .now) P s (c .before .before .before .before .before .before .before .before .args .self) (c .before .before .before .before .best-of .ensures P s) (c .before .before .best .given .1) (c .before .before .before .before .before .tabu .ensures .0) (c .exchanged .ensures)
 

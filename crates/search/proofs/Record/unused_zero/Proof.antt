@@ -1,4 +1,4 @@
--- `Record::unused_zero` meets its contract, by those of the functions that it calls.
+-- `search::Record::unused_zero` meets its contract, by those of the functions that it calls.
 use mathlib.Core.Path.{_≡_}
 use lib.ListN.{length, length-map}
 use Rattle.search.proofs.ViewLaws.{unused-both, unused-slots}

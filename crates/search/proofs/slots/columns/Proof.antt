@@ -1,19 +1,17 @@
-use Rattle.search.proofs.SeekLaws.{agree-at, columns-end}
-use borrow.Author.Needs.{needs}
 -- `search::slots::columns` meets its contract: the columns of the nurses before i.
-use Prim.Native.Nat.{ℕ, _+_, _-_, _≤_}
-use mathlib.Core.Path.{_≡_, sym, _∙_, ap, subst}
+use Rattle.search.proofs.SeekLaws.{agree-at, columns-end, columns-start}
+use borrow.Author.Needs.{needs}
+use Prim.Native.Nat.{ℕ, _-_, _≤_}
 use native.Mathlib.Omega.{arith}
-use Rattle.penalty.specs.Penalty.{Slot}
+use Rattle.history.specs.Slot.{Slot}
 use Rattle.search.specs.Seek.{Agree, Shown}
-use Rattle.search.proofs.SeekLaws.{columns-start}
 use Rattle.search.proofs.slots.columns.Statement.{statement}
 use Rattle.search.proofs.slots.columns.Tie as tie
 use Rattle.search.proofs.slots.columns.Reads as reads
 use Rattle.search.proofs.slots.columns.Lts as lts
 use Rattle.penalty.proofs.columns.Columns.empty.Reads as empty-reads
 use Rattle.search.proofs.slots.with_row.Reads as with-row-reads
-use Rattle.ward.proofs.fields.nurses.Reads as nurses-reads
+use Rattle.fields.proofs.nurses.Reads as nurses-reads
 
 abbrev Inv-loop : tie.InvT-loop
 Inv-loop w rec daily m cols₀ i₀ cols i = (i ≤ m) × ((slots : ℕ → Slot) → Agree w rec slots → Shown daily w slots i cols)
@@ -21,35 +19,27 @@ Inv-loop w rec daily m cols₀ i₀ cols i = (i ≤ m) × ((slots : ℕ → Slot
 abbrev μ-loop : tie.MeasureT-loop
 μ-loop w rec daily m cols₀ i₀ cols i = m - i
 
--- src/slots.rt:68:9
 nurses-requires : tie.Need-nurses-requires Inv-loop μ-loop
 nurses-requires c κs = search needs
 
--- src/slots.rt:69:9
 empty-requires : tie.Need-empty-requires Inv-loop μ-loop
 empty-requires c κs = search needs
 
--- src/slots.rt:71:5
 loop-holds : tie.Need-loop-holds Inv-loop μ-loop
 loop-holds c = (omega arith, λ slots a. columns-start (c .before .before .before .args .daily) (c .before .before .before .args .w .now) slots _ (c .empty .ensures))
 
--- src/slots.rt:72:9
 with-row-requires : tie.Need-with-row-requires Inv-loop μ-loop
 with-row-requires c κs = search needs
 
--- src/slots.rt:73:9
 add-i : tie.Need-add-i Inv-loop μ-loop
 add-i c = search needs
 
--- src/slots.rt:71:5
 loop-less : tie.Need-loop-less Inv-loop μ-loop
 loop-less c = search needs
 
--- src/slots.rt:71:5
 loop-again : tie.Need-loop-again Inv-loop μ-loop
 loop-again c = (search needs, λ slots a. c .with-row .ensures slots (agree-at (c .before .before .before .before .before .before .args .w .now) (c .before .before .before .before .before .before .args .rec) slots (c .before .before .loop .i) a (omega (arith, c .before .before .before .before .nurses .ensures .0))) (c .before .before .loop .inv .1 slots a))
 
--- src/slots.rt:64:1
 returns : tie.Need-returns Inv-loop μ-loop
 returns c = λ slots a. columns-end (c .before .before .before .before .before .args .daily) (c .before .before .before .before .before .args .w .now) slots _ (c .before .loop .inv .1 slots a) (c .before .loop .inv .0) (c .loop-test .left) (c .before .before .before .nurses .ensures .0)
 

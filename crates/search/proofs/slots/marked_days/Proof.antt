@@ -1,6 +1,6 @@
-use borrow.Author.Needs.{needs}
 -- `search::slots::marked_days` meets its contract: the set of the first d days.
-use Prim.Native.Nat.{suc, _+_, _-_, _≤_}
+use borrow.Author.Needs.{needs}
+use Prim.Native.Nat.{suc, _-_, _≤_}
 use mathlib.Core.Path.{_≡_, sym, _∙_, ap}
 use mathlib.Core.Logic.{⊎-elim}
 use native.Mathlib.Omega.{arith}
@@ -8,7 +8,7 @@ use lib.Dec.{eqb}
 use borrow.Author.Tests.{eq-eqb, ne-eqb}
 use Rattle.numbers.specs.Digits.{numberOf}
 use Rattle.numbers.proofs.DigitLaws.{number-zero}
-use Rattle.ward.specs.Fields.{markOn}
+use Rattle.fields.specs.Fields.{markOn}
 use Rattle.search.proofs.SeekLaws.{set-yes, set-no, set-fits}
 use Rattle.search.proofs.slots.marked_days.Statement.{statement}
 use Rattle.search.proofs.slots.marked_days.Tie as tie
@@ -22,43 +22,33 @@ Inv-loop b n mark set₀ d₀ set d = (d ≤ n) × (set ≡ numberOf (λ e. eqb 
 abbrev μ-loop : tie.MeasureT-loop
 μ-loop b n mark set₀ d₀ set d = n - d
 
--- src/slots.rt:23:5
 loop-holds : tie.Need-loop-holds Inv-loop μ-loop
 loop-holds c = (search needs, sym (number-zero _))
 
--- src/slots.rt:24:14
 add-if1 : tie.Need-add-if1 Inv-loop μ-loop
 add-if1 c = search needs
 
--- src/slots.rt:24:12
 mul-if1 : tie.Need-mul-if1 Inv-loop μ-loop
 mul-if1 c = search needs
 
--- src/slots.rt:24:12
 shared-slice-read-if1 : tie.Need-shared-slice-read-if1 Inv-loop μ-loop
 shared-slice-read-if1 c = search needs
 
--- src/slots.rt:25:25
 bit-requires : tie.Need-bit-requires Inv-loop μ-loop
 bit-requires c κs = search needs
 
--- src/slots.rt:25:19
 add-set : tie.Need-add-set Inv-loop μ-loop
 add-set c = omega (arith, set-fits (λ e. eqb (markOn (c .before .before .before .before .before .before .args .b .now) (suc e)) (c .before .before .before .before .before .before .args .mark)) (c .before .before .before .before .loop .d) (c .before .before .before .before .loop .inv .1) (c .bit .ensures) (omega arith))
 
--- src/slots.rt:27:9
 add-d : tie.Need-add-d Inv-loop μ-loop
 add-d c = search needs
 
--- src/slots.rt:23:5
 loop-less : tie.Need-loop-less Inv-loop μ-loop
 loop-less c = search needs
 
--- src/slots.rt:23:5
 loop-again : tie.Need-loop-again Inv-loop μ-loop
 loop-again c = (search needs, ⊎-elim (λ t. t .2 ∙ set-yes (λ e. eqb (markOn (c .before .before .before .before .before .args .b .now) (suc e)) (c .before .before .before .before .before .args .mark)) (c .before .before .before .loop .d) (c .before .before .before .loop .inv .1) (t .1 .ensures) (eq-eqb _ _ (t .0 .taken))) (λ t. t .1 ∙ set-no (λ e. eqb (markOn (c .before .before .before .before .before .args .b .now) (suc e)) (c .before .before .before .before .before .args .mark)) (c .before .before .before .loop .d) (c .before .before .before .loop .inv .1) (ne-eqb _ _ (t .0 .left))) (c .if1 .came))
 
--- src/slots.rt:17:1
 returns : tie.Need-returns Inv-loop μ-loop
 returns c = let q : c .before .loop .d ≡ c .before .before .before .args .n = omega arith in c .before .loop .inv .1 ∙ ap (numberOf (λ e. eqb (markOn (c .before .before .before .args .b .now) (suc e)) (c .before .before .before .args .mark))) q
 

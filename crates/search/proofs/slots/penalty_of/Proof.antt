@@ -10,41 +10,32 @@ use Rattle.penalty.proofs.day_parts.Reads as day-parts-reads
 use Rattle.penalty.proofs.night_parts.Reads as night-parts-reads
 use Rattle.search.proofs.slots.columns.Reads as columns-reads
 use Rattle.search.proofs.slots.unplaced.Reads as unplaced-reads
-use Rattle.ward.proofs.fields.nurses.Reads as nurses-reads
+use Rattle.fields.proofs.nurses.Reads as nurses-reads
 
--- src/slots.rt:101:9
 nurses-requires : tie.Need-nurses-requires
 nurses-requires c κs = search needs
 
--- src/slots.rt:102:9
 columns-requires : tie.Need-columns-requires
 columns-requires c κs = search needs
 
--- src/slots.rt:103:9
 unplaced-requires : tie.Need-unplaced-requires
 unplaced-requires c κs = search needs
 
--- src/slots.rt:105:13
 day-parts-requires : tie.Need-day-parts-requires
 day-parts-requires c κs = search needs
 
--- src/slots.rt:106:9
 total-requires : tie.Need-total-requires
 total-requires c κs = search needs
 
--- src/slots.rt:106:9
 returns : tie.Need-returns
 returns c = λ slots a. penalty-day (c .before .before .before .before .before .before .before .args .daily) (c .before .before .before .before .before .before .before .args .w .now) (c .before .before .before .before .before .before .before .args .rec) slots _ (c .before .before .before .before .before .nurses .ensures .0) (c .before .before .before .unplaced .ensures) a (c .before .before .before .before .columns .ensures) (c .before .before .if1 .taken) (c .total .ensures) (c .before .day-parts .ensures .1)
 
--- src/slots.rt:108:9
 night-parts-requires : tie.Need-night-parts-requires
 night-parts-requires c κs = search needs
 
--- src/slots.rt:109:5
 total-requires-2 : tie.Need-total-requires-2
 total-requires-2 c κs = search needs
 
--- src/slots.rt:97:1
 returns-2 : tie.Need-returns-2
 returns-2 c = λ slots a. penalty-night (c .before .before .before .before .before .before .before .args .daily) (c .before .before .before .before .before .before .before .args .w .now) (c .before .before .before .before .before .before .before .args .rec) slots _ (c .before .before .before .before .before .nurses .ensures .0) (c .before .before .before .unplaced .ensures) a (c .before .before .before .before .columns .ensures) (c .before .before .if1 .left) (c .total2 .ensures) (c .before .night-parts .ensures .1)
 

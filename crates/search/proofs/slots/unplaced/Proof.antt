@@ -1,8 +1,8 @@
-use borrow.Author.Needs.{needs}
 -- `search::slots::unplaced` meets its contract: a sum over the nurses.
+use borrow.Author.Needs.{needs}
 use Prim.Native.Nat.{_+_, _*_, _-_, _≤_}
 use mathlib.Core.Bool.{false, not}
-use mathlib.Core.Path.{_≡_, refl, sym, _∙_, ap}
+use mathlib.Core.Path.{refl}
 use native.Mathlib.Omega.{arith}
 use lib.ListN.{getD}
 use Rattle.numbers.specs.Sum.{sumTo, oneIf, Is}
@@ -19,35 +19,27 @@ Inv-loop m rec count₀ i₀ count i = (i ≤ m) × Is count (0 + sumTo i (λ j.
 abbrev μ-loop : tie.MeasureT-loop
 μ-loop m rec count₀ i₀ count i = m - i
 
--- src/slots.rt:90:5
 loop-holds : tie.Need-loop-holds Inv-loop μ-loop
 loop-holds c = (omega arith, loop-start 0 0 (λ j. oneIf (not (getD (c .args .t1 .placed) j false))) (record { is = refl; most = omega arith }))
 
--- src/slots.rt:91:33
 element-copy-out-one-if : tie.Need-element-copy-out-one-if Inv-loop μ-loop
 element-copy-out-one-if c = search needs
 
--- src/slots.rt:91:25
 one-if-requires : tie.Need-one-if-requires Inv-loop μ-loop
 one-if-requires c κs = search needs
 
--- src/slots.rt:91:17
 add-count : tie.Need-add-count Inv-loop μ-loop
 add-count c = search needs
 
--- src/slots.rt:90:9
 add-i : tie.Need-add-i Inv-loop μ-loop
 add-i c = search needs
 
--- src/slots.rt:90:5
 loop-less : tie.Need-loop-less Inv-loop μ-loop
 loop-less c = search needs
 
--- src/slots.rt:90:5
 loop-again : tie.Need-loop-again Inv-loop μ-loop
 loop-again c = (omega arith, loop-turn 0 0 1 (λ j. oneIf (not (getD (c .before .before .before .before .args .t1 .placed) j false))) (c .before .before .before .loop .i) (c .before .before .before .loop .inv .1) (record { is = c .one-if .ensures .0; most = c .one-if .ensures .1 }))
 
--- src/slots.rt:85:1
 returns : tie.Need-returns Inv-loop μ-loop
 returns c = loop-end0 1 (λ j. oneIf (not (getD (c .before .before .args .t1 .placed) j false))) (c .before .before .args .m) 48 (c .before .loop .inv .1) (omega arith) (omega arith)
 

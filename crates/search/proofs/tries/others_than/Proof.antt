@@ -7,23 +7,18 @@ use Rattle.search.proofs.tries.others_than.Tie as tie
 use Rattle.search.proofs.tries.others_than.Reads as reads
 use Rattle.search.proofs.tries.others_than.Lts as lts
 
--- src/tries.rt:100:8
 element-copy-out-if1 : tie.Need-element-copy-out-if1
 element-copy-out-if1 c = search needs
 
--- src/tries.rt:101:9
 returns : tie.Need-returns
 returns c = ((λ a q. others-placed _ a (c .if1 .taken) q), omega arith)
 
--- src/tries.rt:104:16
 sub-result : tie.Need-sub-result
 sub-result c = search needs
 
--- src/tries.rt:104:9
 returns-2 : tie.Need-returns-2
 returns-2 c = ((λ a q. omega (arith, others-unplaced _ a (c .before .if1 .left) q)), omega arith)
 
--- src/tries.rt:95:1
 returns-3 : tie.Need-returns-3
 returns-3 c = ((λ a q. omega (arith, others-unplaced _ a (c .before .if1 .left) q)), omega arith)
 

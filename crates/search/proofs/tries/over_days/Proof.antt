@@ -1,23 +1,23 @@
-use borrow.Author.Needs.{needs}
 -- `search::tries::over_days` meets its contract: the best of the first k of her list.
+use borrow.Author.Needs.{needs}
 use Prim.Native.Nat.{ℕ, _+_, _*_, _-_, _≤_, _<_}
-use mathlib.Core.Path.{_≡_, sym, _∙_, ap}
+use mathlib.Core.Path.{_≡_, sym, _∙_}
 use mathlib.Core.Logic.{⊎-elim}
 use native.Mathlib.Omega.{arith}
-use lib.ListN.{length, take, getD}
-use Rattle.search.specs.Record.{mayTake}
+use lib.ListN.{length, take}
+use Rattle.history.specs.Record.{mayTake}
 use Rattle.search.specs.Stored.{view}
-use Rattle.search.specs.Walk.{overList}
-use Rattle.search.specs.Seek.{DayTrials}
-use Rattle.search.proofs.BestLaws.{over-nil, over-done, turn-worse, turn-considered}
+use Rattle.best.specs.Best.{overList}
+use Rattle.trials.specs.Tables.{DayTrials}
+use Rattle.best.proofs.BestLaws.{over-nil, over-done, turn-worse, turn-considered}
 use Rattle.search.proofs.SeekLaws.{trial-costs}
 use Rattle.search.proofs.tries.over_days.Statement.{statement}
 use Rattle.search.proofs.tries.over_days.Tie as tie
 use Rattle.search.proofs.tries.over_days.Reads as reads
 use Rattle.search.proofs.tries.over_days.Lts as lts
-use Rattle.penalty.proofs.chunks.chunk_trial.Reads as chunk-trial-reads
-use Rattle.search.proofs.best.consider.Reads as consider-reads
-use Rattle.search.proofs.best.improves.Reads as improves-reads
+use Rattle.trials.proofs.chunks.chunk_trial.Reads as chunk-trial-reads
+use Rattle.search.proofs.tries.consider.Reads as consider-reads
+use Rattle.best.proofs.improves.Reads as improves-reads
 
 abbrev Inv-loop : tie.InvT-loop
 Inv-loop part t others rec tl i best₀ k₀ k-end best k = (k ≤ length part) × ((m : ℕ) (cost : ℕ → ℕ) → i < m → DayTrials t cost → best ≡ overList (mayTake (view m tl rec) i) (λ q. cost q + 10000000 * others) i best₀ (take k part))
@@ -25,47 +25,36 @@ Inv-loop part t others rec tl i best₀ k₀ k-end best k = (k ≤ length part) 
 abbrev μ-loop : tie.MeasureT-loop
 μ-loop part t others rec tl i best₀ k₀ k-end best k = length part - k
 
--- src/tries.rt:53:5
 loop-holds : tie.Need-loop-holds Inv-loop μ-loop
 loop-holds c = (search needs, λ m cost l t. sym (over-nil _ _ _ _))
 
--- src/tries.rt:54:17
 mul-q : tie.Need-mul-q Inv-loop μ-loop
 mul-q c = search needs
 
--- src/tries.rt:54:17
 shared-slice-read-q : tie.Need-shared-slice-read-q Inv-loop μ-loop
 shared-slice-read-q c = search needs
 
--- src/tries.rt:55:17
 chunk-trial-requires : tie.Need-chunk-trial-requires Inv-loop μ-loop
 chunk-trial-requires c κs = search needs
 
--- src/tries.rt:55:57
 mul-c : tie.Need-mul-c Inv-loop μ-loop
 mul-c c = search needs
 
--- src/tries.rt:55:17
 add-c : tie.Need-add-c Inv-loop μ-loop
 add-c c = search needs
 
--- src/tries.rt:56:12
 improves-requires : tie.Need-improves-requires Inv-loop μ-loop
 improves-requires c κs = search needs
 
--- src/tries.rt:57:13
 consider-requires : tie.Need-consider-requires Inv-loop μ-loop
 consider-requires c κs = search needs
 
--- src/tries.rt:53:9
 add-k : tie.Need-add-k Inv-loop μ-loop
 add-k c = search needs
 
--- src/tries.rt:53:5
 loop-less : tie.Need-loop-less Inv-loop μ-loop
 loop-less c = search needs
 
--- src/tries.rt:53:5
 loop-again : tie.Need-loop-again Inv-loop μ-loop
 loop-again c = let a = c .before .before .before .before .before .before .before .args in (
   omega arith,
@@ -76,7 +65,6 @@ loop-again c = let a = c .before .before .before .before .before .before .before
       (c .if1 .came),
 )
 
--- src/tries.rt:48:1
 returns : tie.Need-returns Inv-loop μ-loop
 returns c = λ m cost l t. c .before .loop .inv .1 m cost l t ∙ over-done _ _ _ _ _ _ (c .loop-test .left)
 

@@ -1,18 +1,18 @@
-use borrow.Author.Needs.{needs}
 -- `search::tries::over_nights` meets its contract: the best of what is hers among the first k of the common list.
+use borrow.Author.Needs.{needs}
 use Prim.Native.Nat.{ℕ, _+_, _*_, _-_, _≤_, _<_}
-use mathlib.Core.Path.{_≡_, sym, _∙_, ap}
+use mathlib.Core.Path.{_≡_, sym, _∙_}
 use mathlib.Core.Bool.{_&&_}
 use mathlib.Core.Logic.{⊎-elim}
 use native.Mathlib.Omega.{arith}
 use lib.ListN.{length, take, getD}
-use Rattle.nights.specs.Nights.{rulesOf}
+use Rattle.fields.specs.Rules.{rulesOf}
 use Rattle.nights.specs.Hers.{hersOf}
-use Rattle.search.specs.Record.{mayTake}
+use Rattle.history.specs.Record.{mayTake}
 use Rattle.search.specs.Stored.{view}
-use Rattle.search.specs.Walk.{overList}
-use Rattle.search.specs.Seek.{NightTrials}
-use Rattle.search.proofs.BestLaws.{over-nil, over-done}
+use Rattle.best.specs.Best.{overList}
+use Rattle.trials.specs.Tables.{NightTrials}
+use Rattle.best.proofs.BestLaws.{over-nil, over-done}
 use Rattle.search.proofs.SeekLaws.{common-at, night-costs, not-hers, no-better, hers-considered}
 use Rattle.search.proofs.tries.over_nights.Statement.{statement}
 use Rattle.search.proofs.tries.over_nights.Tie as tie
@@ -20,9 +20,9 @@ use Rattle.search.proofs.tries.over_nights.Reads as reads
 use Rattle.search.proofs.tries.over_nights.Lts as lts
 use Rattle.own.proofs.masks.available_days.Reads as available-days-reads
 use Rattle.own.proofs.masks.passes.Reads as passes-reads
-use Rattle.penalty.proofs.chunks.chunk_trial.Reads as chunk-trial-reads
-use Rattle.search.proofs.best.consider.Reads as consider-reads
-use Rattle.search.proofs.best.improves.Reads as improves-reads
+use Rattle.trials.proofs.chunks.chunk_trial.Reads as chunk-trial-reads
+use Rattle.search.proofs.tries.consider.Reads as consider-reads
+use Rattle.best.proofs.improves.Reads as improves-reads
 
 abbrev Inv-loop : tie.InvT-loop
 Inv-loop w list masks t others rec tl i best₀ k₀ k-end best k = (k ≤ length list) × ((m : ℕ) (cost : ℕ → ℕ) → i < m → NightTrials w i t cost → best ≡ overList (λ p. hersOf w i p && mayTake (view m tl rec) i p) (λ p. cost p + 10000000 * others) i best₀ (take k list))
@@ -30,55 +30,42 @@ Inv-loop w list masks t others rec tl i best₀ k₀ k-end best k = (k ≤ lengt
 abbrev μ-loop : tie.MeasureT-loop
 μ-loop w list masks t others rec tl i best₀ k₀ k-end best k = length list - k
 
--- src/tries.rt:81:5
 loop-holds : tie.Need-loop-holds Inv-loop μ-loop
 loop-holds c = (search needs, λ m cost l t. sym (over-nil _ _ _ _))
 
--- src/tries.rt:82:17
 mul-p : tie.Need-mul-p Inv-loop μ-loop
 mul-p c = search needs
 
--- src/tries.rt:82:17
 shared-slice-read-p : tie.Need-shared-slice-read-p Inv-loop μ-loop
 shared-slice-read-p c = search needs
 
--- src/tries.rt:83:12
 passes-requires : tie.Need-passes-requires Inv-loop μ-loop
 passes-requires c κs = search needs
 
--- src/tries.rt:84:17
 available-days-requires : tie.Need-available-days-requires Inv-loop μ-loop
 available-days-requires c κs = search needs
 
--- src/tries.rt:85:21
 chunk-trial-requires : tie.Need-chunk-trial-requires Inv-loop μ-loop
 chunk-trial-requires c κs = search needs
 
--- src/tries.rt:85:64
 mul-c : tie.Need-mul-c Inv-loop μ-loop
 mul-c c = search needs
 
--- src/tries.rt:85:21
 add-c : tie.Need-add-c Inv-loop μ-loop
 add-c c = search needs
 
--- src/tries.rt:86:16
 improves-requires : tie.Need-improves-requires Inv-loop μ-loop
 improves-requires c κs = search needs
 
--- src/tries.rt:87:17
 consider-requires : tie.Need-consider-requires Inv-loop μ-loop
 consider-requires c κs = search needs
 
--- src/tries.rt:81:9
 add-k : tie.Need-add-k Inv-loop μ-loop
 add-k c = search needs
 
--- src/tries.rt:81:5
 loop-less : tie.Need-loop-less Inv-loop μ-loop
 loop-less c = search needs
 
--- src/tries.rt:81:5
 loop-again : tie.Need-loop-again Inv-loop μ-loop
 loop-again c = let a = c .before .before .before .before .before .before .before .args in
     let w = a .w .now in
@@ -104,7 +91,6 @@ loop-again c = let a = c .before .before .before .before .before .before .before
           (c .if1 .came),
     )
 
--- src/tries.rt:64:1
 returns : tie.Need-returns Inv-loop μ-loop
 returns c = λ m cost l t. c .before .loop .inv .1 m cost l t ∙ over-done _ _ _ _ _ _ (c .loop-test .left)
 

@@ -11,74 +11,57 @@ use Rattle.own.proofs.masks.masks_of.Reads as masks-of-reads
 use Rattle.search.proofs.tries.others_than.Reads as others-than-reads
 use Rattle.search.proofs.tries.over_days.Reads as over-days-reads
 use Rattle.search.proofs.tries.over_nights.Reads as over-nights-reads
-use Rattle.search.proofs.tries.table.Reads as table-reads
-use Rattle.ward.proofs.fields.tabu.Reads as tabu-reads
+use Rattle.trials.proofs.table.Reads as table-reads
+use Rattle.fields.proofs.tabu.Reads as tabu-reads
 
--- src/tries.rt:126:9
 tabu-requires : tie.Need-tabu-requires
 tabu-requires c κs = search needs
 
--- src/tries.rt:127:13
 table-requires : tie.Need-table-requires
 table-requires c κs = search needs
 
--- src/tries.rt:128:9
 others-than-requires : tie.Need-others-than-requires
 others-than-requires c κs = search needs
 
--- src/tries.rt:130:17
 mul-a : tie.Need-mul-a
 mul-a c = search needs
 
--- src/tries.rt:130:17
 element-copy-out-a : tie.Need-element-copy-out-a
 element-copy-out-a c = search needs
 
--- src/tries.rt:131:27
 add-e : tie.Need-add-e
 add-e c = search needs
 
--- src/tries.rt:131:17
 mul-e : tie.Need-mul-e
 mul-e c = search needs
 
--- src/tries.rt:131:17
 element-copy-out-e : tie.Need-element-copy-out-e
 element-copy-out-e c = search needs
 
--- src/tries.rt:132:26
 mul-over-days : tie.Need-mul-over-days
 mul-over-days c = omega (arith, c .before .before .before .before .before .before .before .before .pre .0 .2 .begins (c .before .before .if1 .taken) (c .before .before .before .before .before .before .before .before .args .i) (c .before .before .before .before .before .before .before .before .pre .0 .1), c .before .before .before .before .before .before .before .before .pre .0 .2 .finishes (c .before .before .if1 .taken) (c .before .before .before .before .before .before .before .before .args .i) (c .before .before .before .before .before .before .before .before .pre .0 .1), c .before .before .before .before .before .before .before .before .good)
 
--- src/tries.rt:132:26
 sub-over-days : tie.Need-sub-over-days
 sub-over-days c = c .before .before .before .before .before .before .before .before .pre .0 .2 .begins (c .before .before .if1 .taken) (c .before .before .before .before .before .before .before .before .args .i) (c .before .before .before .before .before .before .before .before .pre .0 .1)
 
--- src/tries.rt:132:26
 part-over-days-start : tie.Need-part-over-days-start
 part-over-days-start c = c .before .before .before .before .before .before .before .before .pre .0 .2 .begins (c .before .before .if1 .taken) (c .before .before .before .before .before .before .before .before .args .i) (c .before .before .before .before .before .before .before .before .pre .0 .1)
 
--- src/tries.rt:132:26
 part-over-days-end : tie.Need-part-over-days-end
 part-over-days-end c = c .before .before .before .before .before .before .before .before .pre .0 .2 .finishes (c .before .before .if1 .taken) (c .before .before .before .before .before .before .before .before .args .i) (c .before .before .before .before .before .before .before .before .pre .0 .1)
 
--- src/tries.rt:132:9
 over-days-requires : tie.Need-over-days-requires
 over-days-requires c κs = search needs
 
--- src/tries.rt:132:9
 returns : tie.Need-returns
 returns c = λ P s. nurse-days (c .before .before .before .before .before .before .before .before .before .before .before .args .w .now) (c .before .before .before .before .before .before .before .before .before .before .before .args .rec) (c .before .before .before .before .before .before .before .before .before .before .before .args .i) (c .before .before .before .before .before .before .before .before .before .before .before .pre .0 .1) P (c .before .before .before .before .before .before .before .before .before .before .before .args .lists .now) (c .before .before .before .before .before .before .before .before .before .before .before .args .t3 .ends) _ (c .before .before .before .before .before .before .before .before .before .before .before .args .cols) _ _ (c .before .before .before .before .before .before .before .before .before .before .before .args .held) (c .before .before .before .before .before .before .before .before .before .before .before .pre .0 .0) (c .before .before .before .before .before .before .before .before .before .before .before .pre .1 .0 .is) (c .before .before .before .before .before .before .others-than .ensures .0) (c .before .before .before .before .before .before .before .before .tabu .ensures .0) (c .before .before .before .before .before .before .before .before .before .before .before .args .t3 .daily) _ (c .before .before .before .before .before .if1 .taken) s (c .before .before .before .before .before .before .before .before .before .before .before .pre .1 .1) (c .before .before .before .before .before .before .before .table .ensures .1) refl (c .over-days .ensures)
 
--- src/tries.rt:134:9
 masks-of-requires : tie.Need-masks-of-requires
 masks-of-requires c κs = search needs
 
--- src/tries.rt:135:5
 over-nights-requires : tie.Need-over-nights-requires
 over-nights-requires c κs = ((c .before .before .before .before .before .before .before .before .pre .0 .0, c .before .before .before .before .before .before .before .before .pre .0 .1, c .before .before .before .before .before .before .before .before .pre .0 .2 .common-list (c .before .before .if1 .left)), ((c .before .masks-of .ensures .1, c .before .masks-of .ensures .0), (c .before .before .before .before .table .ensures .0, omega (arith, c .before .before .before .others-than .ensures .1, c .before .before .before .before .before .before .before .before .pre .1 .0 .most), c .before .before .before .before .before .tabu .ensures .1)))
 
--- src/tries.rt:110:1
 returns-2 : tie.Need-returns-2
 returns-2 c = λ P s. nurse-nights (c .before .before .before .before .before .before .before .before .before .args .w .now) (c .before .before .before .before .before .before .before .before .before .args .rec) (c .before .before .before .before .before .before .before .before .before .args .i) (c .before .before .before .before .before .before .before .before .before .pre .0 .1) P (c .before .before .before .before .before .before .before .before .before .args .lists .now) (c .before .before .before .before .before .before .before .before .before .args .t3 .ends) _ (c .before .before .before .before .before .before .before .before .before .args .cols) _ _ (c .before .before .before .before .before .before .before .before .before .args .held) (c .before .before .before .before .before .before .before .before .before .pre .0 .0) (c .before .before .before .before .before .before .before .before .before .pre .1 .0 .is) (c .before .before .before .before .others-than .ensures .0) (c .before .before .before .before .before .before .tabu .ensures .0) (c .before .before .before .before .before .before .before .before .before .args .t3 .daily) (c .before .before .before .if1 .left) s (c .before .before .before .before .before .before .before .before .before .pre .1 .1) (c .before .before .before .before .before .table .ensures .1) (c .over-nights .ensures)
 

@@ -1,4 +1,4 @@
--- `Columns::empty` meets its contract.
+-- `penalty::columns::Columns::empty` meets its contract.
 use Rattle.penalty.proofs.ColumnLaws.{zeros}
 use Rattle.penalty.proofs.columns.Columns.empty.Statement.{statement}
 use Rattle.penalty.proofs.columns.Columns.empty.Tie as tie

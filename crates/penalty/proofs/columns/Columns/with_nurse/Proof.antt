@@ -1,4 +1,4 @@
--- `Columns::with_nurse` meets its contract: day by day the nurse's bit is put as the two sets say.
+-- `penalty::columns::Columns::with_nurse` meets its contract: day by day the nurse's bit is put as the two sets say.
 use borrow.Author.Needs.{needs}
 use Prim.Native.Nat.{_≤_, _-_}
 use native.Mathlib.Omega.{arith}

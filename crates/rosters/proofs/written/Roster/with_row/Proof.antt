@@ -1,4 +1,4 @@
--- `Roster::with_row` meets its contract. The loop's invariant: the first d letters of the row are in.
+-- `rosters::written::Roster::with_row` meets its contract. The loop's invariant: the first d letters of the row are in.
 
 use borrow.Author.Needs.{needs}
 use Rattle.rosters.specs.Letters.{letter, rowLettersOf}
@@ -9,7 +9,6 @@ use lib.ListN.{length}
 use lib.Seq.{paste, paste-zero}
 use Rattle.rows.specs.Rows.{rowState}
 use Rattle.rows.proofs.RowLaws.{row-zero}
-use Rattle.rosters.specs.Letters.{rowLettersOf}
 use Rattle.rosters.proofs.RowLaws.{state-step, duty-step}
 use Rattle.rosters.proofs.WriteLaws.{letter-put, row-put}
 use Rattle.rosters.proofs.written.Roster.with_row.Statement.{statement}

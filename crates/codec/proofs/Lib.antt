@@ -1,0 +1,3 @@
+pub mod CodecLaws
+pub mod EncodeLaws
+pub mod PutLaws

@@ -1,0 +1,96 @@
+-- The walk lists the numbers below 2^n that the rule over the month lets through, in their order.
+use mathlib.Core.Path.{_≡_, refl, sym, ap, ap₂, _∙_, subst}
+use mathlib.Core.Bool.{Bool, true, false, cond}
+use mathlib.Core.List.{List, [], _++_}
+use Prim.Native.Nat.{ℕ, zero, suc, _+_, _-_, _*_, _/_, _^_, _≤_, _<_}
+use native.Mathlib.Nat.{add-comm, pow-suc, mul-comm, mul-assoc, add-mul, one-mul, zero-mul}
+use native.Mathlib.Numerals.{add-one}
+use native.Mathlib.Omega.{arith}
+use lib.Pow.{high, shl-shr, pow-pos}
+use Rattle.numbers.specs.Range.{upFrom, keep}
+use Rattle.numbers.proofs.RangeLaws.{range-add, keep-append}
+use Rattle.numbers.proofs.AgreeLaws.{keep-none}
+use Rattle.days.specs.Month.{dutyAt, ruleOf, restOn}
+use Rattle.daylists.specs.Walk.{goesOn, listed}
+use Rattle.days.specs.declared.month.Month.{Month}
+use Rattle.days.proofs.RuleLaws.{restsFrom, rest-day, rests-done}
+use Rattle.daylists.proofs.LocalLaws.{rests-high}
+use Rattle.daylists.proofs.ReachLaws.{Bounded, never-cut}
+
+-- ---- the numbers whose first digits are A, in two halves
+
+double : (A d : ℕ) → A * 2 ^ suc d ≡ (A * 2) * 2 ^ d
+double A d = ap (λ (z : ℕ). A * z) (pow-suc 2 d ∙ mul-comm (2 ^ d) 2) ∙ sym (mul-assoc A 2 (2 ^ d))
+
+double-one : (A d : ℕ) → A * 2 ^ suc d + 2 ^ d ≡ (A * 2 + 1) * 2 ^ d
+double-one A d = ap (λ (z : ℕ). z + 2 ^ d) (double A d) ∙ sym (add-mul (A * 2) 1 (2 ^ d) ∙ ap (λ (z : ℕ). A * 2 * 2 ^ d + z) (one-mul (2 ^ d)))
+
+same-high : (A d x : ℕ) → A * 2 ^ d ≤ x → x < A * 2 ^ d + 2 ^ d → A * 2 ^ d / 2 ^ d ≡ x / 2 ^ d
+same-high A d x l h =
+    let z : x - A * 2 ^ d < 2 ^ d = omega arith in
+    let e : A * 2 ^ d + (x - A * 2 ^ d) ≡ x = omega arith in
+    shl-shr A d ∙ sym (high A d z) ∙ ap (λ (y : ℕ). y / 2 ^ d) e
+
+halves : (t : ℕ → Bool) (a d : ℕ) → keep t (upFrom a (2 ^ suc d)) ≡ keep t (upFrom a (2 ^ d)) ++ keep t (upFrom (a + 2 ^ d) (2 ^ d))
+halves t a d =
+    let twice : 2 ^ suc d ≡ 2 ^ d + 2 ^ d = pow-suc 2 d ∙ omega arith in
+    ap (λ (k : ℕ). keep t (upFrom a k)) twice
+    ∙ ap (keep t) (range-add a (2 ^ d) (2 ^ d))
+    ∙ keep-append t (upFrom a (2 ^ d)) (upFrom (a + 2 ^ d) (2 ^ d))
+
+module _ (m : Month) (row : List ℕ) (b : Bounded m) where
+  abbrev below : ℕ → ℕ → List ℕ
+  below d a = keep (ruleOf m row) (upFrom a (2 ^ d))
+
+  -- nothing is left where the walk does not go on
+  cut-empty : (d A r : ℕ) → d ≤ m .days → r ≡ restsFrom (dutyAt row (A * 2 ^ d)) (m .days) d → goesOn m row d (A * 2 ^ d) r ≡ false → below d (A * 2 ^ d) ≡ []
+  cut-empty d A r l e f = keep-none (ruleOf m row) (A * 2 ^ d) (2 ^ d) (λ x i h. go x i h (ruleOf m row x) refl)
+    where
+      go : (x : ℕ) → A * 2 ^ d ≤ x → x < A * 2 ^ d + 2 ^ d → (t : Bool) → ruleOf m row x ≡ t → ruleOf m row x ≡ false
+      go x i h true y =
+          let g = never-cut m row b x y d (A * 2 ^ d) r l (same-high A d x i h) e in
+          let z : _≡_ {A = ℕ} 0 1 = cc in absurd (omega arith)
+      go x i h false y = y
+
+  rests-on : (d a r : ℕ) → d < m .days → r ≡ restsFrom (dutyAt row a) (m .days) (suc d) → r + restOn row a d ≡ restsFrom (dutyAt row a) (m .days) d
+  rests-on d a r l e =
+      e' ∙ sym (rest-day row a (m .days) d l)
+    where
+      e' : r + restOn row a d ≡ restOn row a d + restsFrom (dutyAt row a) (m .days) (d + 1)
+      e' = ap (λ (k : ℕ). k + restOn row a d) (e ∙ ap (restsFrom (dutyAt row a) (m .days)) (sym (add-one d))) ∙ add-comm (restsFrom (dutyAt row a) (m .days) (d + 1)) (restOn row a d)
+
+  -- the other half has the same rests after day d
+  rests-half : (d A : ℕ) → restsFrom (dutyAt row (A * 2 ^ suc d)) (m .days) (suc d) ≡ restsFrom (dutyAt row (A * 2 ^ suc d + 2 ^ d)) (m .days) (suc d)
+  rests-half d A =
+      let twice : 2 ^ suc d ≡ 2 ^ d + 2 ^ d = pow-suc 2 d ∙ omega arith in
+      rests-high row (m .days) (suc d) (A * 2 ^ suc d) (A * 2 ^ suc d + 2 ^ d) (same-high A (suc d) (A * 2 ^ suc d + 2 ^ d) (omega arith) (omega (arith, pow-pos d)))
+
+  go-on : (d A r : ℕ) (t : Bool) → goesOn m row (suc d) (A * 2 ^ suc d) r ≡ t
+      → (t ≡ false → below (suc d) (A * 2 ^ suc d) ≡ [])
+      → (L H : List ℕ) → L ≡ below d (A * 2 ^ suc d) → H ≡ below d (A * 2 ^ suc d + 2 ^ d)
+      → cond (goesOn m row (suc d) (A * 2 ^ suc d) r) (L ++ H) [] ≡ below (suc d) (A * 2 ^ suc d)
+  go-on d A r true e f L H p q = rw e (ap₂ _++_ p q ∙ sym (halves (ruleOf m row) (A * 2 ^ suc d) d))
+  go-on d A r false e f L H p q = rw e (sym (f refl))
+
+  listed-is : (d A r : ℕ) → d ≤ m .days → r ≡ restsFrom (dutyAt row (A * 2 ^ d)) (m .days) d → listed m row d (A * 2 ^ d) r ≡ below d (A * 2 ^ d)
+  unfolding listed keep upFrom
+  listed-is zero A r l e = refl
+  listed-is (suc d) A r l e =
+      go-on d A r (goesOn m row (suc d) (A * 2 ^ suc d) r) refl (cut-empty (suc d) A r l e)
+      (listed m row d (A * 2 ^ suc d) (r + restOn row (A * 2 ^ suc d) d))
+      (listed m row d (A * 2 ^ suc d + 2 ^ d) (r + restOn row (A * 2 ^ suc d + 2 ^ d) d))
+      (at (A * 2 ^ suc d) (A * 2) (double A d) (rests-on d (A * 2 ^ suc d) r (omega arith) e) (listed-is d (A * 2)))
+      (at (A * 2 ^ suc d + 2 ^ d) (A * 2 + 1) (double-one A d) (rests-on d (A * 2 ^ suc d + 2 ^ d) r (omega arith) (e ∙ rests-half d A)) (listed-is d (A * 2 + 1)))
+    where
+      at : (a B : ℕ) → a ≡ B * 2 ^ d → r + restOn row a d ≡ restsFrom (dutyAt row a) (m .days) d
+          → ((r : ℕ) → d ≤ m .days → r ≡ restsFrom (dutyAt row (B * 2 ^ d)) (m .days) d → listed m row d (B * 2 ^ d) r ≡ below d (B * 2 ^ d))
+          → listed m row d a (r + restOn row a d) ≡ below d a
+      at a B g h ih =
+          subst (λ (x : ℕ). listed m row d x (r + restOn row a d) ≡ below d x) (sym g)
+          (ih (r + restOn row a d) (omega arith) (h ∙ ap (λ (x : ℕ). restsFrom (dutyAt row x) (m .days) d) g))
+
+  pub walk-lists : listed m row (m .days) 0 0 ≡ keep (ruleOf m row) (upFrom 0 (2 ^ m .days))
+  walk-lists =
+      let z = zero-mul (2 ^ m .days) in
+      subst (λ (x : ℕ). listed m row (m .days) x 0 ≡ keep (ruleOf m row) (upFrom x (2 ^ m .days))) z
+      (listed-is (m .days) 0 0 (omega arith) (sym (rests-done (dutyAt row (0 * 2 ^ m .days)) (m .days) (m .days) (omega arith))))

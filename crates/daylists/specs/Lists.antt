@@ -1,0 +1,30 @@
+-- All nurses' day lists one after the other, each in the part that begins where the last one ends.
+use mathlib.Core.Path.{_≡_}
+use mathlib.Core.Bool.{cond}
+use mathlib.Core.List.{List, [], _++_}
+use Prim.Native.Nat.{ℕ, zero, suc, _+_, _≤_, _<_}
+use lib.Dec.{leb}
+use lib.ListN.{length, getD}
+use Rattle.days.specs.Days.{dayList}
+
+-- the lists of the first k, one after the other
+unfoldable pub upTo : (ℕ → List ℕ) → ℕ → List ℕ
+upTo f zero = []
+upTo f (suc k) = upTo f k ++ f k
+
+-- the first of k from i on whose list does not end within the places; i + k where all do
+unfoldable pub firstOver : (ℕ → List ℕ) → ℕ → ℕ → ℕ → ℕ
+firstOver f places i zero = i
+firstOver f places i (suc k) = cond (leb (length (upTo f (suc i))) places) (firstOver f places (suc i) k) i
+
+-- nurse i's day list over her night pattern
+abbrev pub dayLists : List ℕ → List ℕ → ℕ → List ℕ
+dayLists w nights i = dayList w i (getD nights i 0)
+
+-- m lists against so many places: the first that does not end within them, m where all do, and where each one before it begins and ends
+pub record Counted (f : ℕ → List ℕ) (m places over : ℕ) (ends : List ℕ) : Type 0 where
+  pub over-is : over ≡ firstOver f places 0 m
+  pub over-most : over ≤ m
+  pub ends-are : (k : ℕ) → k ≤ over → getD ends k 0 ≡ length (upTo f k)
+  pub too-long : over < m → places < length (upTo f m)
+  pub all-fit : m ≤ over → length (upTo f m) ≤ places

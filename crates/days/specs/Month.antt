@@ -1,0 +1,56 @@
+-- A nurse's month as the code keeps it, and the day rule over it: `m` is her month, `row` the duties where she works no day, as place t of
+-- a row is day t - 6; days have indexes from 0 here, so day d has place d + 7.
+use mathlib.Core.Path.{_≡_}
+use mathlib.Core.Bool.{Bool, cond, not, _&&_}
+use mathlib.Core.List.{List}
+use Prim.Native.Nat.{ℕ, suc, _+_, _-_, _^_, _≤_, _<_}
+use lib.Dec.{leb, ltb}
+use lib.ListN.{getD}
+use Rattle.numbers.specs.Range.{upFrom, all}
+use Rattle.numbers.specs.Sum.{oneIf}
+use Rattle.numbers.specs.Digits.{has, numberOf}
+use Rattle.fields.specs.Fields.{leastRestsOf, mostRestsOf}
+use Rattle.rows.specs.Rows.{started, availableOn, fixedDay}
+use Rattle.days.specs.Days.{rowDuty, isRest, windowsHold, rests}
+use Rattle.days.specs.declared.month.Month.{Month}
+
+-- a count of rests within bounds
+abbrev pub inBounds : ℕ → ℕ → ℕ → Bool
+inBounds least most k = leb least k && leb k most
+
+-- the month and the row of a nurse with block b, in a month of n days with D `longest`, under the night pattern p
+pub record IsSheet (b : List ℕ) (n longest p : ℕ) (m : Month) (row : List ℕ) : Type 0 where
+  pub days-is : m .days ≡ n
+  pub longest-is : m .longest ≡ longest
+  pub least-is : m .least ≡ leastRestsOf b
+  pub most-is : m .most ≡ mostRestsOf b
+  pub free-is : m .free ≡ numberOf (λ d. availableOn b p (suc d)) n
+  pub fixed-is : m .fixed ≡ numberOf (fixedDay b) n
+  pub within-is : m .within ≡ numberOf (inBounds (leastRestsOf b) (mostRestsOf b)) 32
+  pub row-is : (t : ℕ) → t < 7 + n → getD row t 0 ≡ rowDuty b p 0 t
+
+-- what the code leans on
+pub record Small (m : Month) : Type 0 where
+  pub few-days : m .days ≤ 31
+  pub short : m .longest ≤ 6
+
+-- ---- the day rule over a month
+
+-- her duty at place t where she works the days of q
+unfoldable pub dutyAt : List ℕ → ℕ → ℕ → ℕ
+dutyAt row q t = cond (ltb t 7) (getD row t 0) (cond (has q (t - 7)) 1 (getD row t 0))
+
+unfoldable pub choiceOf : Month → ℕ → Bool
+choiceOf m q =
+    ltb q (2 ^ m .days)
+    && all (λ d. cond (started q d) (started (m .free) d) (not (started (m .fixed) d))) (upFrom 1 (m .days))
+
+unfoldable pub ruleOf : Month → List ℕ → ℕ → Bool
+ruleOf m row q =
+    choiceOf m q
+    && (all (windowsHold (dutyAt row q) (m .longest)) (upFrom 7 (m .days))
+    && inBounds (m .least) (m .most) (rests (dutyAt row q) (m .days)))
+
+-- 1 if day d is a rest
+unfoldable pub restOn : List ℕ → ℕ → ℕ → ℕ
+restOn row q d = oneIf (isRest (dutyAt row q (d + 7)))

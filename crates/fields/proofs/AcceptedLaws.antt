@@ -1,0 +1,28 @@
+-- What an accepted ward says of its rules of night duty and of a nurse's numbers.
+use mathlib.Core.Path.{_≡_, sym, subst}
+use mathlib.Core.Bool.{Bool, true, false, cond}
+use mathlib.Core.List.{List}
+use Prim.Native.Nat.{ℕ, _≤_, _<_}
+use lib.Dec.{leb, eqb}
+use Rattle.fields.specs.Fields.{Accepted, Block, nurses, days, block}
+use Rattle.fields.specs.declared.rules.Rules.{Rules}
+use Rattle.fields.specs.Rules.{rulesOf, gap, Small}
+
+-- its rules are small enough to count with
+pub small-rules : (w : List ℕ) → Accepted w → Small (rulesOf w)
+small-rules w ok = record { longest = ok .run-some; g1 = ok .gap1-most; g2 = ok .gap2-most; g3 = ok .gap3-most }
+
+-- the same of what was read as them
+pub rules-small : (w : List ℕ) (r : Rules) → Accepted w → r ≡ rulesOf w → Small r
+rules-small w r ok e = subst Small (sym e) (small-rules w ok)
+
+pub block-is : (w : List ℕ) (i : ℕ) (b : List ℕ) → Accepted w → i < nurses w → b ≡ block w i → Block b (days w)
+block-is w i b ok h e = subst (λ (x : List ℕ). Block x (days w)) (sym e) (ok .blocks i h)
+
+-- a choice of two keeps what both have
+cond-le : (b : Bool) (x y m : ℕ) → x ≤ m → y ≤ m → cond b x y ≤ m
+cond-le true x y m p q = p
+cond-le false x y m p q = q
+
+pub gap-small : (r : Rules) (run : ℕ) → Small r → gap r run ≤ 5
+gap-small r run s = cond-le (leb run 1) _ _ _ (s .g1) (cond-le (eqb run 2) _ _ _ (s .g2) (s .g3))

@@ -1,0 +1,82 @@
+// The fields of an accepted ward, over its numbers in file order. Nurses and days count from 0.
+pub mod rules;
+
+ghost use mathlib.Core.Path.{_≡_};
+ghost use Prim.Native.Nat.{_<_, _≤_};
+ghost use Rattle.fields.specs.Fields as of;
+ghost use Rattle.fields.specs.Fields.{Accepted};
+
+// m
+pub fn nurses(w: &[u64]) -> usize
+    requires { ⌜ Accepted (now w) ⌝ }
+    ensures { λ r. ⌜ (r ≡ of.nurses (now (w .entry))) × (r ≤ 48) ⌝ }
+{
+    w[0] as usize
+}
+
+// n
+pub fn days(w: &[u64]) -> usize
+    requires { ⌜ Accepted (now w) ⌝ }
+    ensures { λ r. ⌜ (r ≡ of.days (now (w .entry))) × (r ≤ 31) ⌝ }
+{
+    w[1] as usize
+}
+
+// r
+pub fn groups(w: &[u64]) -> usize
+    requires { ⌜ Accepted (now w) ⌝ }
+    ensures { λ r. ⌜ (r ≡ of.groups (now (w .entry))) × (r ≤ 16) ⌝ }
+{
+    w[2] as usize
+}
+
+// TL
+pub fn tabu(w: &[u64]) -> usize
+    requires { ⌜ Accepted (now w) ⌝ }
+    ensures { λ r. ⌜ (r ≡ of.tabu (now (w .entry))) × (r ≤ 64) ⌝ }
+{
+    w[8] as usize
+}
+
+// Nurse i's numbers: seven duties, least and most nights, least and most rests, the marks.
+pub fn block(w: &[u64], i: usize) -> &[u64]
+    requires { ⌜ Accepted (now w) × (i < of.nurses (now w)) ⌝ }
+    ensures { λ r. ⌜ now r ≡ of.block (now (w .entry)) i ⌝ }
+{
+    let size = 11 + days(w);
+    let a = 16 + i * size;
+    let e = a + size;
+    &w[a..e]
+}
+
+// Where the groups begin.
+fn groups_at(w: &[u64]) -> usize
+    requires { ⌜ Accepted (now w) ⌝ }
+    ensures { λ r. ⌜ r ≡ of.groupsAt (now (w .entry)) ⌝ }
+{
+    let m = nurses(w);
+    let size = 11 + days(w);
+    16 + m * size
+}
+
+// The groups' members.
+pub fn masks(w: &[u64]) -> &[u64]
+    requires { ⌜ Accepted (now w) ⌝ }
+    ensures { λ r. ⌜ now r ≡ of.masks (now (w .entry)) ⌝ }
+{
+    let a = groups_at(w);
+    let e = a + groups(w);
+    &w[a..e]
+}
+
+// A day's numbers: night need, day need, then for each group night low, night high, day low, day high.
+pub fn needs(w: &[u64], d: usize) -> &[u64]
+    requires { ⌜ Accepted (now w) × (d < of.days (now w)) ⌝ }
+    ensures { λ r. ⌜ now r ≡ of.needs (now (w .entry)) d ⌝ }
+{
+    let r = groups(w);
+    let size = 4 * r + 2;
+    let a = groups_at(w) + r + d * size;
+    let e = a + size;
+    &w[a..e]
+}

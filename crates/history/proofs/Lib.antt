@@ -1,0 +1,9 @@
+pub mod TestLaws
+pub mod ChooseLaws
+pub mod AllowedLaws
+pub mod RunLaws
+pub mod FollowLaws
+pub mod PlacedLaws
+pub mod DemandLaws
+pub mod Unique
+pub mod Worked

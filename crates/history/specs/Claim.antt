@@ -1,0 +1,82 @@
+-- Demand 3: one claim about a whole list of advances.
+use Prim.Native.Nat.{ℕ, _+_, _*_, _≤_, _<_}
+use mathlib.Core.Path.{_≡_}
+use mathlib.Core.Logic.{_≢_, _↔_}
+use mathlib.Core.List.{List, [], _∷_, _++_, List·Memᴰ}
+use mathlib.Core.Option.{none, some}
+use lib.ListN.{length}
+use Rattle.numbers.specs.Sum.{countTo}
+use Rattle.history.specs.Slot.{Slot, isNone, unplacedCost}
+use Rattle.history.specs.Phase.{Step, Phase, Call, No, Answer, refused, ended, End, End·zero, End·asked, End·none, refusal, inTurn}
+use Rattle.history.specs.History.{History, inUse, penalty, answers, history}
+use Rattle.history.specs.Record.{Record, recordOf}
+
+-- how many nurses are unplaced
+abbrev pub unplaced : Phase → (ℕ → Slot) → ℕ
+unplaced P slots = countTo (P .nurses) (λ i. isNone (slots i))
+
+-- what demand 3 takes of a phase: every nurse has a pattern, and an unplaced nurse adds 10,000,000, flat, to a rest that is below that
+pub record Lawful (P : Phase) : Type 0 where
+  pub some-pattern : (i : ℕ) → i < P .nurses → P .patterns i ≢ []
+  pub rest : (ℕ → Slot) → ℕ
+  pub rest-below : (slots : ℕ → Slot) → rest slots < unplacedCost
+  pub flat : (slots : ℕ → Slot) → P .cost slots ≡ unplacedCost * unplaced P slots + rest slots
+
+-- after h: an exchange gives one nurse, placed or not, a pattern of hers that is neither in use by her nor given up by her in the last TL steps
+pub record Allowed (P : Phase) (h : History) (s : Step) : Type 0 where
+  pub nurse : s .nurse < P .nurses
+  pub hers : List·Memᴰ (s .pattern) (P .patterns (s .nurse))
+  pub not-in-use : inUse h (s .nurse) ≢ some (s .pattern)
+  pub not-given-up : (later earlier : History) (t : Step) → h ≡ later ++ (t ∷ earlier) → length later < P .tabu
+      → t .nurse ≡ s .nurse → inUse earlier (s .nurse) ≢ some (s .pattern)
+
+-- s, which leaves penalty c, goes before t, which leaves d, or is t
+pub record NotAfter (c d : ℕ) (s t : Step) : Type 0 where
+  pub penalty : c ≤ d
+  pub nurse : c ≡ d → s .nurse ≤ t .nurse
+  pub number : c ≡ d → s .nurse ≡ t .nurse → s .pattern ≤ t .pattern
+
+-- after h: of all the exchanges allowed s is the one to take: the least resulting penalty; then the lowest nurse; then the lowest number
+pub record Least (P : Phase) (h : History) (s : Step) : Type 0 where
+  pub allowed : Allowed P h s
+  pub least : (t : Step) → Allowed P h t → NotAfter (penalty P (s ∷ h)) (penalty P (t ∷ h)) s t
+
+-- each step of a history, at its place, was due and the one to take
+abbrev pub Steps : (P : Phase) → History → Type 0
+Steps P h = (later : History) (s : Step) (earlier : History) → h ≡ later ++ (s ∷ earlier) → (penalty P earlier ≢ 0) × Least P earlier s
+
+-- an advance of k steps, not refused, that took the history from h to h′ and answered end e, n steps, penalty c and letters l
+pub record Made (P : Phase) (k : ℕ) (h h′ : History) (e : End) (n c : ℕ) (l : List ℕ) : Type 0 where
+  pub new : History
+  pub added : h′ ≡ new ++ h
+  pub steps : n ≡ length new
+  pub after : c ≡ penalty P h′
+  pub at-most : n ≤ k
+  pub asked : e ≡ End·asked → n ≡ k
+  pub zero-when : (e ≡ End·zero) ↔ (c ≡ 0)
+  pub none-when : (e ≡ End·none) ↔ (((t : Step) → Allowed P h′ t → ⊥) × (n < k) × (c ≢ 0))
+  pub letters : (c ≡ 0 → l ≡ P .letters (inUse h′)) × (c ≢ 0 → l ≡ [])
+
+-- one advance: the history before it, its answer, and the history after it
+pub data Went (P : Phase) (call : Call) (h : History) : Answer → History → Type 0 where
+  refuses : {n : No} → refusal P call (length h) ≡ some n → Went P call h (refused n) h
+  goes : {h′ : History} {e : End} {n c : ℕ} {l : List ℕ} → refusal P call (length h) ≡ none
+      → Made P (call .steps) h h′ e n c l → Went P call h (ended e n c l) h′
+
+-- each advance of a list in turn
+pub data Turns (P : Phase) : List Call → List Answer → History → History → Type 0 where
+  done : {h : History} → Turns P [] [] h h
+  turn : {c : Call} {cs : List Call} {a : Answer} {l : List Answer} {h h′ h″ : History}
+      → Went P c h a h′ → Turns P cs l h′ h″ → Turns P (c ∷ cs) (a ∷ l) h h″
+
+-- Demand 3 of a search whose records are of type R: `start` is its fresh record, `advance` what a call answers and hands back for the record that it is handed,
+-- and `kept` says how it keeps the record of a history
+pub record Demand3 (P : Phase) {R : Type 0} (start : R) (advance : Call → R → Answer × R) (kept : Record → R) (cs : List Call) : Type 0 where
+  -- every answer, and the record, equal those of the history
+  pub follows : inTurn advance cs start ≡ (answers P cs, kept (recordOf P (history P cs)))
+  -- each advance in turn, from fresh
+  pub each : Turns P cs (answers P cs) [] (history P cs)
+  -- each step
+  pub steps : Steps P (history P cs)
+  -- once as many steps were made as there are nurses, nobody is unplaced
+  pub placed : P .nurses ≤ length (history P cs) → (i : ℕ) → i < P .nurses → inUse (history P cs) i ≢ none

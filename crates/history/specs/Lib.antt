@@ -1,0 +1,5 @@
+pub mod Slot
+pub mod Phase
+pub mod History
+pub mod Record
+pub mod Claim

@@ -1,0 +1,45 @@
+-- What an accepted list of numbers is, for any grammar.
+use Prim.Native.Nat.{ℕ, zero, suc, _+_, _-_, _^_, _≤_, _<_}
+use mathlib.Core.Path.{_≡_, refl, ap, _∙_}
+use mathlib.Core.List.{List, [], _∷_}
+use native.Mathlib.Omega.{arith}
+use lib.ListN.{length, getD}
+use Rattle.layout.specs.Grammar.{Grammar, done, number, asked, Read, good, bad, prepend, unless, check, Within}
+use Rattle.layout.proofs.GrammarLaws.{in-range}
+
+-- every number fits seven groups
+abbrev pub AllSmall : List ℕ → Type 0
+AllSmall [] = Unit
+AllSmall (w ∷ ws) = (w < 2 ^ 49) × AllSmall ws
+
+pub small-at : (ws : List ℕ) (i : ℕ) → AllSmall ws → i < length ws → getD ws i 0 < 2 ^ 49
+small-at [] i h l = absurd (omega arith)
+small-at (w ∷ ws) zero h l = h .0
+small-at (w ∷ ws) (suc i) h l = small-at ws i (h .1) (omega arith)
+
+-- what a number's questions let through
+pub let-through : (q at v : ℕ) (r : Read) (vs : List ℕ) → unless q at (prepend (v ∷ []) r) ≡ good vs → (q ≡ 0) × ((us : List ℕ) × (r ≡ good us) × (vs ≡ v ∷ us))
+let-through zero at v (good us) vs e = (refl, (us, refl, (cc)))
+let-through zero at v (bad q p) vs e = let z : _≡_ {A = ℕ} 0 1 = cc in absurd (omega arith)
+let-through (suc q) at v r vs e = let z : _≡_ {A = ℕ} 0 1 = cc in absurd (omega arith)
+
+pub record Accepted (n : ℕ) (ws vs : List ℕ) : Type 0 where
+  pub same : vs ≡ ws
+  pub few : length ws ≤ n
+  pub small : AllSmall ws
+
+pub accepted : (g : Grammar) (n i : ℕ) (ws vs : List ℕ) → Within n g → check g i ws ≡ good vs → Accepted n ws vs
+unfolding check
+accepted done n i [] vs h e = record { same = cc; few = omega arith; small = tt }
+accepted done n i (w ∷ ws) vs h e = let z : _≡_ {A = ℕ} 0 1 = cc in absurd (omega arith)
+accepted (number f k) n i [] vs h e = let z : _≡_ {A = ℕ} 0 1 = cc in absurd (omega arith)
+accepted (number f k) zero i (w ∷ ws) vs h e = absurd h
+accepted (number f k) (suc n) i (w ∷ ws) vs h e =
+    let t = let-through (asked f w) i w (check (k w) (i + 1) ws) vs e in
+    let r = in-range f w (t .0) in
+    let a = accepted (k w) n (i + 1) ws (t .1 .0) (h .1 w (r .0) (r .1)) (t .1 .1) in
+    record {
+      same = t .1 .2 ∙ ap (λ (l : List ℕ). w ∷ l) (a .same);
+      few = omega (arith, a .few);
+      small = (omega (arith, h .0), a .small);
+    }

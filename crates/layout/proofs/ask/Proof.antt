@@ -1,0 +1,53 @@
+-- `layout::ask` meets its contract.
+use borrow.Author.Tests.{lt-ltb, le-ltb}
+use Rattle.layout.specs.Grammar.{asked}
+use Rattle.layout.proofs.AskLaws.{second-day, no-second-day, no-first-day, other-day}
+use borrow.Author.Needs.{needs}
+use Rattle.layout.proofs.ask.Statement.{statement}
+use Rattle.layout.proofs.ask.Tie as tie
+use Rattle.layout.proofs.ask.Reads as reads
+use Rattle.layout.proofs.ask.Lts as lts
+
+returns : tie.Need-returns
+unfolding asked
+returns c = simp (lt-ltb _ _ (c .if1 .taken))
+
+returns-2 : tie.Need-returns-2
+unfolding asked
+returns-2 c = simp (le-ltb _ _ (c .before .before .if1 .left), lt-ltb _ _ (c .if2 .taken))
+
+enum-told : tie.Need-enum-told
+enum-told c = search needs
+
+enum-known-rule : tie.Need-enum-known-rule
+enum-known-rule c = search needs
+
+returns-3 : tie.Need-returns-3
+unfolding asked
+returns-3 c = simp (le-ltb _ _ (c .before .before .before .before .if1 .left), le-ltb _ _ (c .before .before .if2 .left), c .enum-told .given .1)
+
+returns-4 : tie.Need-returns-4
+returns-4 c = second-day (c .before .before .before .before .before .before .before .before .before .args .f) _ _ (c .before .before .before .before .before .before .before .if1 .left) (c .before .before .before .before .before .if2 .left) (c .before .before .before .rule .given .1) (c .before .if3 .taken) (c .if4 .taken)
+
+returns-5 : tie.Need-returns-5
+returns-5 c = no-second-day (c .before .before .before .before .before .before .before .before .before .args .f) _ _ (c .before .before .before .before .before .before .before .if1 .left) (c .before .before .before .before .before .if2 .left) (c .before .before .before .rule .given .1) (c .before .if3 .taken) (c .if4 .left)
+
+returns-6 : tie.Need-returns-6
+returns-6 c = no-first-day (c .before .before .before .before .before .before .before .before .before .args .f) _ _ (c .before .before .before .before .before .before .before .if1 .left) (c .before .before .before .before .before .if2 .left) (c .before .before .before .rule .given .1) (c .before .if3 .left) (c .if5 .taken)
+
+returns-7 : tie.Need-returns-7
+returns-7 c = other-day (c .before .before .before .before .before .before .before .before .before .args .f) _ _ (c .before .before .before .before .before .before .before .if1 .left) (c .before .before .before .before .before .if2 .left) (c .before .before .before .rule .given .1) (c .before .if3 .left) (c .if5 .left)
+
+pub ask-spec : {M : Type 1} → statement M
+ask-spec =
+    tie.close
+    (tie.spec
+    returns
+    returns-2
+    enum-told
+    enum-known-rule
+    returns-3
+    returns-4
+    returns-5
+    returns-6
+    returns-7)

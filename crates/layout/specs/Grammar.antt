@@ -1,0 +1,84 @@
+-- A layout is a grammar: the fields in order, where what follows a number may depend on the number. Reading and writing are two
+-- folds over it. Each asks every question of one number before the next.
+use Prim.Native.Nat.{ℕ, zero, suc, _+_, _^_, _≤_, _<_}
+use mathlib.Core.Bool.{Bool, true, not, cond}
+use mathlib.Core.List.{List, [], _∷_, _++_}
+use lib.ListN.{drop}
+use lib.Dec.{ltb, eqb}
+use Rattle.codec.specs.declared.Number.{Number}
+use Rattle.codec.specs.declared.Number.the-variants.{Value, Ended, Long}
+use Rattle.layout.specs.declared.Rule.{Rule}
+use Rattle.layout.specs.declared.Rule.the-variants.{Any, After}
+use Rattle.layout.specs.declared.Field.{Field}
+use Rattle.layout.specs.declared.Want.{Want}
+use Rattle.layout.specs.declared.Want.the-variants.{Next, Nothing}
+use Rattle.codec.specs.Codec.{decode, encode}
+
+pub data Grammar : Type 0 where
+  done : Grammar
+  number : Field → (ℕ → Grammar) → Grammar
+
+-- the field that the next number has, and what is left after the number v
+abbrev pub wanted : Grammar → Want
+wanted done = Nothing
+wanted (number f k) = Next f
+
+abbrev pub after : Grammar → ℕ → Grammar
+after done v = done
+after (number f k) v = k v
+
+-- a duty is 3 exactly after a 2
+abbrev pub fits : Rule → ℕ → Bool
+fits Any v = true
+fits (After d) v = cond (eqb d 2) (eqb v 3) (not (eqb v 3))
+
+-- 0, or the first question of 3 and 4 that v fails in its field
+unfoldable pub asked : Field → ℕ → ℕ
+asked f v = cond (ltb v (f .least)) 3 (cond (ltb (f .most) v) 3 (cond (fits (f .rule) v) 0 4))
+
+-- what reading comes to: the numbers, or a question and a place
+pub data Read : Type 0 where
+  good : List ℕ → Read
+  bad : ℕ → ℕ → Read
+
+abbrev pub prepend : List ℕ → Read → Read
+prepend ws (good vs) = good (ws ++ vs)
+prepend ws (bad q p) = bad q p
+
+-- goes on where the question is 0
+abbrev pub unless : ℕ → ℕ → Read → Read
+unless zero at r = r
+unless (suc q) at r = bad (suc q) at
+
+abbrev pub heard : Field → ℕ → Number → (ℕ → ℕ → Read) → Read
+heard f at (Value v used) go = unless (asked f v) at (go v used)
+heard f at Ended go = bad 1 at
+heard f at Long go = bad 2 at
+
+-- the numbers at the front of the bytes, of which the first is at the offset `at`; nothing may follow the last
+unfoldable pub read : Grammar → ℕ → List ℕ → Read
+read done at [] = good []
+read done at (b ∷ bs) = bad 5 at
+read (number f k) at bs = heard f at (decode bs) (λ v used. prepend (v ∷ []) (read (k v) (at + used) (drop used bs)))
+
+-- the questions of a list of numbers of which the first has the index i
+unfoldable pub check : Grammar → ℕ → List ℕ → Read
+check done i [] = good []
+check done i (w ∷ ws) = bad 5 i
+check (number f k) i [] = bad 1 i
+check (number f k) i (w ∷ ws) = unless (asked f w) i (prepend (w ∷ []) (check (k w) (i + 1) ws))
+
+unfoldable pub bytesOf : List ℕ → List ℕ
+bytesOf [] = []
+bytesOf (w ∷ ws) = encode w ++ bytesOf ws
+
+-- at most n numbers, each below 2 ^ 49, which seven groups hold
+abbrev pub Within : ℕ → Grammar → Type 0
+Within n done = Unit
+Within zero (number f k) = ⊥
+Within (suc n) (number f k) = (f .most < 2 ^ 49) × ((v : ℕ) → f .least ≤ v → v ≤ f .most → Within n (k v))
+
+-- a field's numbers fit seven groups
+abbrev pub Small : Want → Type 0
+Small (Next f) = f .most < 2 ^ 49
+Small Nothing = Unit

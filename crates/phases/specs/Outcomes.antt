@@ -1,0 +1,49 @@
+-- What an advance hands back, by its answer: its outcome, its record, and what stands in the buffer.
+use Prim.Native.Nat.{ℕ, _-_}
+use mathlib.Core.List.{List, [], _++_}
+use mathlib.Core.Option.{Option, none, some}
+use lib.ListN.{length, drop, replicate}
+use Rattle.history.specs.Phase.{Call, No, Answer, refused, ended, End, End·zero, End·asked, End·none}
+use Rattle.search.specs.declared.Record.{Record as Stored}
+use Rattle.rosters.specs.declared.written.Roster.{Roster}
+use Rattle.phases.specs.declared.outcomes.Outcome.{Outcome}
+use Rattle.phases.specs.declared.outcomes.Outcome.the-variants.{Refused, Zero, Asked, Stuck}
+use Rattle.phases.specs.declared.outcomes.Advance.{Advance}
+use Rattle.phases.specs.declared.outcomes.DayAdvance.{DayAdvance}
+use Rattle.phases.specs.declared.questions.Question.{Question}
+use Rattle.phases.specs.declared.questions.Question.the-variants as variants
+
+-- the end of an advance as the outcome says it
+abbrev pub outcomeOf : End → Outcome
+outcomeOf End·zero = Zero
+outcomeOf End·asked = Asked
+outcomeOf End·none = Stuck
+
+-- The answer and the record as the call gives them. A no gives the question's number and its place; the record comes back as it was, and all else is 0.
+unfoldable pub advanceOf : Answer → Stored → Advance
+advanceOf (refused n) r = record { kept = r; penalty = 0; steps = 0; outcome = Refused (n .question) (n .place) }
+advanceOf (ended e made pen roster) r = record { kept = r; penalty = pen; steps = made; outcome = outcomeOf e }
+
+-- a roster's letters from the start, 0 after them, and their count
+unfoldable pub rosterOf : List ℕ → Roster
+rosterOf l = record { letters = l ++ replicate (1488 - length l) 0; count = length l }
+
+-- the same by day, with the roster
+unfoldable pub dayAdvanceOf : Answer → Stored → DayAdvance
+dayAdvanceOf (refused n) r = record { kept = r; penalty = 0; steps = 0; outcome = Refused (n .question) (n .place); roster = rosterOf [] }
+dayAdvanceOf (ended e made pen roster) r = record { kept = r; penalty = pen; steps = made; outcome = outcomeOf e; roster = rosterOf roster }
+
+-- a list written from the buffer's start, the rest untouched; a refused call writes nothing
+unfoldable pub leftBy : Answer → List ℕ → List ℕ → List ℕ
+leftBy (refused n) list buffer = buffer
+leftBy (ended e made pen roster) list buffer = list ++ drop (length list) buffer
+
+abbrev pub callOf : ℕ → ℕ → Call
+callOf k places = record { steps = k; places = places }
+
+-- ---- the questions of an advance
+
+-- a question's no, with its number and place
+abbrev pub noOf : Question → Option No
+noOf variants.Pass = none
+noOf (variants.No q p) = some (record { question = q; place = p })

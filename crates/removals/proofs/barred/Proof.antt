@@ -1,0 +1,68 @@
+-- `removals::barred` meets its contract: none of the first k bars the pattern.
+use Prim.Native.Nat.{_≤_, _-_}
+use mathlib.Core.Path.{_≡_, refl, sym}
+use mathlib.Core.Bool.{false}
+use mathlib.Core.List.{map}
+use native.Mathlib.Omega.{arith}
+use lib.ListN.{length, take}
+use Rattle.history.specs.Record.{barred}
+use Rattle.removals.specs.Removals.{removalOf}
+use Rattle.removals.proofs.RemovalLaws.{barred-turn, barred-found}
+use borrow.Author.Needs.{needs}
+use Rattle.removals.proofs.barred.Statement.{statement}
+use Rattle.removals.proofs.barred.Tie as tie
+
+abbrev Inv-loop : tie.InvT-loop
+Inv-loop held nurse pattern list k₀ k = (k ≤ held) × (barred (map removalOf (take k list)) nurse pattern ≡ false)
+
+abbrev μ-loop : tie.MeasureT-loop
+μ-loop held nurse pattern list k₀ k = held - k
+
+loop-holds : tie.Need-loop-holds Inv-loop μ-loop
+loop-holds c = (search needs, refl)
+
+mul-x : tie.Need-mul-x Inv-loop μ-loop
+mul-x c = search needs
+
+array-copy-out-x : tie.Need-array-copy-out-x Inv-loop μ-loop
+array-copy-out-x c = search needs
+
+bars-requires : tie.Need-bars-requires Inv-loop μ-loop
+bars-requires c κs = search needs
+
+returns : tie.Need-returns Inv-loop μ-loop
+returns c =
+    let long : length (c .before .before .before .before .before .args .t1) ≡ 64 = search needs in
+    barred-found (c .before .before .before .before .before .args .nurse) (c .before .before .before .before .before .args .pattern) (c .before .before .before .before .before .args .t1) (c .before .before .before .before .loop .k) (c .before .before .before .before .before .args .held) _ (c .before .before .before .loop-test .taken) (omega arith) (c .before .bars .ensures) (c .if1 .taken)
+
+add-k : tie.Need-add-k Inv-loop μ-loop
+add-k c = search needs
+
+loop-less : tie.Need-loop-less Inv-loop μ-loop
+loop-less c = search needs
+
+loop-again : tie.Need-loop-again Inv-loop μ-loop
+loop-again c =
+    let long : length (c .before .before .before .before .before .args .t1) ≡ 64 = search needs in
+    (omega arith, barred-turn (c .before .before .before .before .before .args .nurse) (c .before .before .before .before .before .args .pattern) (c .before .before .before .before .before .args .t1) (c .before .before .before .before .loop .k) _ (omega arith) (c .before .before .before .before .loop .inv .1) (c .before .bars .ensures) (c .if1 .left))
+
+returns-2 : tie.Need-returns-2 Inv-loop μ-loop
+returns-2 c =
+    let e : c .before .loop .k ≡ c .before .before .args .held = omega arith in
+    rw (← e) (sym (c .before .loop .inv .1))
+
+pub barred-spec : {M : Type 1} → statement M
+barred-spec =
+    tie.close
+    (tie.spec
+    Inv-loop
+    μ-loop
+    loop-holds
+    mul-x
+    array-copy-out-x
+    bars-requires
+    returns
+    add-k
+    loop-less
+    loop-again
+    returns-2)

@@ -1,0 +1,220 @@
+-- A nurse's table: how it is filled, and that a trial by it is the penalty counted afresh after the exchange.
+use mathlib.Core.Path.{_≡_, refl, sym, ap, ap₂, _∙_}
+use mathlib.Core.Bool.{Bool, true, false, cond}
+use mathlib.Core.List.{List}
+use mathlib.Core.Logic.{⊎-elim}
+use Prim.Native.Nat.{ℕ, suc, _+_, _-_, _≤_, _<_}
+use native.Mathlib.Nat.{not-suc-le-zero, eq-or-lt-of-le, le-of-suc-le-suc}
+use native.Mathlib.Numerals.{add-one}
+use native.Mathlib.Omega.{arith}
+use lib.ListN.{getD, set, length-set, replicate}
+use native.Mathlib.Decide.{decLt}
+use lib.Seq.{getD-set-same, getD-set-other}
+use Rattle.numbers.specs.Sum.{Is}
+use Rattle.numbers.specs.Digits.{has, put}
+use Rattle.numbers.proofs.SumLaws.{sum-ext, sum-add}
+use Rattle.numbers.proofs.DigitLaws.{bit-of-zero}
+use Rattle.fields.specs.Fields.{Accepted, nurses, days, masks, needs, block}
+use Rattle.rows.specs.Rows.{availableOn}
+use Rattle.rows.proofs.RowLaws.{started-busy}
+use Rattle.penalty.specs.declared.columns.Columns.{Columns}
+use Rattle.penalty.specs.declared.duty.Weights.{Weights}
+use Rattle.trials.specs.declared.pairs.Pair.{Pair}
+use Rattle.trials.specs.declared.costs.Costs.{Costs}
+use Rattle.trials.specs.declared.costs.Three.{Three}
+use Rattle.history.specs.Slot.{Slot}
+use Rattle.penalty.specs.Penalty.{shortOn, overOn, exchanged, atNight, free, atDay, nightParts, dayParts}
+use Rattle.penalty.specs.Columns.{ShowsNight, ShowsDay}
+use Rattle.trials.specs.Costs.{trialAt, trialOf, Small, TrialsNight, TrialsDay}
+use Rattle.penalty.specs.Walk.{weightsOf, noHigh, dutyCost}
+use Rattle.trials.specs.Walk.{Tells, nightWith, dayWith, NightDay, DayDay, Filled}
+use Rattle.penalty.proofs.ColumnLaws.{zeros, night-after, free-after, day-after}
+use Rattle.penalty.proofs.CountLaws.{short-same, over-same, cost-both, cost-low}
+
+-- ---- one day, from what the calls gave
+
+pub pair-of : (w : List ℕ) (k d column i : ℕ) (wt′ : Weights) {wt : Weights} {ms row : List ℕ} {r : Pair} {b : ℕ} → wt ≡ wt′ → ms ≡ masks w → row ≡ needs w d
+    → Tells r (λ x. dutyCost wt ms row k (put (has column) i x)) b → Tells r (λ x. dutyCost wt′ (masks w) (needs w d) k (put (has column) i x)) b
+pair-of w k d column i wt′ e m q h = record {
+  off-is = record { is = h .off-is .is ∙ (λ j. dutyCost (e j) (m j) (q j) k (put (has column) i false)); most = h .off-is .most };
+  on-is = record { is = h .on-is .is ∙ (λ j. dutyCost (e j) (m j) (q j) k (put (has column) i true)); most = h .on-is .most };
+}
+
+both : {a b x y : ℕ} → Is a x 185600 → Is b y 185600 → Is (a + b) (x + y) 371200
+both h k = record { is = ap₂ (λ (m n : ℕ). m + n) (h .is) (k .is); most = omega (arith, h .most, k .most) }
+
+wider : {a x : ℕ} → Is a x 185600 → Is a x 371200
+wider h = record { is = h .is; most = omega (arith, h .most) }
+
+pub night-three : (w : List ℕ) (d i night day : ℕ) {a b : Pair}
+    → Tells a (λ x. dutyCost (weightsOf w 0) (masks w) (needs w d) 0 (put (has night) i x)) 185600
+    → Tells b (λ x. dutyCost (noHigh (weightsOf w 1)) (masks w) (needs w d) 1 (put (has day) i x)) 185600
+    → NightDay w d i night day (record { night = a .on + b .off; free = a .off + b .on; none = a .off + b .off })
+unfolding nightWith
+night-three w d i night day x y = record {
+  at-night = both (x .on-is) (y .off-is);
+  at-free = both (x .off-is) (y .on-is);
+  at-none = both (x .off-is) (y .off-is);
+}
+
+pub day-three : (w : List ℕ) (d i day : ℕ) {b : Pair}
+    → Tells b (λ x. dutyCost (weightsOf w 1) (masks w) (needs w d) 1 (put (has day) i x)) 185600
+    → DayDay w d i day (record { night = b .off; free = b .on; none = b .off })
+unfolding dayWith
+day-three w d i day y = record { at-night = wider (y .off-is); at-free = wider (y .on-is); at-none = wider (y .off-is) }
+
+-- ---- filling the table
+
+fill-start : (f : ℕ → ℕ) (b : ℕ) → Filled (replicate 33 0) f b 0
+fill-start f b = record { long = refl; done = λ e q. absurd (not-suc-le-zero q); left = λ e q. zeros 33 e }
+
+fill-turn : (l : List ℕ) (f : ℕ → ℕ) (b d : ℕ) {x : ℕ} → Filled l f b d → d < 31 → Is x (f d) b → Filled (set l d x) f b (d + 1)
+fill-turn l f b d {x} p h k = record {
+  long = length-set l d x ∙ p .long;
+  done = λ e q. ⊎-elim (λ s. here e s) (λ s. there e s) (eq-or-lt-of-le (le-of-suc-le-suc (rw add-one at q)));
+  left = λ e q. getD-set-other l d e x 0 (λ s. omega arith) ∙ p .left e (omega arith);
+}
+  where
+    here : (e : ℕ) → e ≡ d → Is (getD (set l d x) e 0) (f e) b
+    here e s = rw (s, getD-set-same l d x 0 (omega (arith, p .long))) k
+
+    there : (e : ℕ) → e < d → Is (getD (set l d x) e 0) (f e) b
+    there e s = rw (getD-set-other l d e x 0 (λ t. omega arith)) (p .done e s)
+
+-- every place is small
+fill-small : (l : List ℕ) (f : ℕ → ℕ) (b d : ℕ) → Filled l f b d → (e : ℕ) → getD l e 0 ≤ b
+fill-small l f b d p e = go (decLt e d)
+  where
+    go : Dec (e < d) → getD l e 0 ≤ b
+    go (yes q) = p .done e q .most
+    go (no q) = omega (arith, p .left e (omega arith))
+
+-- a day's cost by night with nurse i in a state, and by day with her worked or not
+unfoldable pub nightAt : List ℕ → Columns → ℕ → Bool → Bool → ℕ → ℕ
+nightAt w c i a b d = nightWith w d i a b (getD (c .night) d 0) (getD (c .day) d 0)
+
+unfoldable pub dayAt : List ℕ → Columns → ℕ → Bool → ℕ → ℕ
+dayAt w c i b d = dayWith w d i b (getD (c .day) d 0)
+
+-- three lists filled up to d
+pub record Table (f g h : ℕ → ℕ) (n d : ℕ) (t : Costs) : Type 0 where
+  pub inside : d ≤ n
+  pub nights : Filled (t .night) f 371200 d
+  pub frees : Filled (t .free) g 371200 d
+  pub nones : Filled (t .none) h 371200 d
+
+abbrev pub NightTable : List ℕ → Columns → ℕ → ℕ → ℕ → Costs → Type 0
+NightTable w c i n d t = Table (nightAt w c i true false) (nightAt w c i false true) (nightAt w c i false false) n d t
+
+abbrev pub DayTable : List ℕ → Columns → ℕ → ℕ → ℕ → Costs → Type 0
+DayTable w c i n d t = Table (dayAt w c i false) (dayAt w c i true) (dayAt w c i false) n d t
+
+pub table-start : (f g h : ℕ → ℕ) (n : ℕ) → Table f g h n 0 (record { night = replicate 33 0; free = replicate 33 0; none = replicate 33 0 })
+table-start f g h n = record { inside = omega arith; nights = fill-start _ _; frees = fill-start _ _; nones = fill-start _ _ }
+
+pub table-turn : (f g h : ℕ → ℕ) (n d : ℕ) (t : Costs) {x y z : ℕ} → Table f g h n d t → d < n → n ≤ 31 → Is x (f d) 371200 → Is y (g d) 371200 → Is z (h d) 371200
+    → Table f g h n (d + 1) (record { night = set (t .night) d x; free = set (t .free) d y; none = set (t .none) d z })
+table-turn f g h n d t k l m x y z =
+    let low : d < 31 = omega arith in
+    record {
+      inside = omega arith;
+      nights = fill-turn _ _ _ _ (k .nights) low x;
+      frees = fill-turn _ _ _ _ (k .frees) low y;
+      nones = fill-turn _ _ _ _ (k .nones) low z;
+    }
+
+pub night-row : (w : List ℕ) (c : Columns) (i n d : ℕ) (t : Costs) {r : Three} → NightTable w c i n d t → d < n → n ≤ 31
+    → NightDay w d i (getD (c .night) d 0) (getD (c .day) d 0) r
+    → NightTable w c i n (d + 1) (record { night = set (t .night) d (r .night); free = set (t .free) d (r .free); none = set (t .none) d (r .none) })
+unfolding nightAt
+night-row w c i n d t k l m r = table-turn _ _ _ n d t k l m (r .at-night) (r .at-free) (r .at-none)
+
+pub day-row : (w : List ℕ) (c : Columns) (i n d : ℕ) (t : Costs) {r : Three} → DayTable w c i n d t → d < n → n ≤ 31 → DayDay w d i (getD (c .day) d 0) r
+    → DayTable w c i n (d + 1) (record { night = set (t .night) d (r .night); free = set (t .free) d (r .free); none = set (t .none) d (r .none) })
+unfolding dayAt
+day-row w c i n d t k l m r = table-turn _ _ _ n d t k l m (r .at-night) (r .at-free) (r .at-none)
+
+all-zero : (a b : Bool) {x y z : ℕ} → x ≡ 0 → y ≡ 0 → z ≡ 0 → cond a x (cond b y z) ≡ 0
+all-zero true b h k l = h
+all-zero false true h k l = k
+all-zero false false h k l = l
+
+pub table-small : (f g h : ℕ → ℕ) (t : Costs) {n d m : ℕ} → Table f g h n d t → n ≤ d → n ≡ m → m ≤ 31 → Small t m
+unfolding trialAt
+table-small f g h t {n} {d} {m} k l e q = record {
+  at-most = q;
+  night-small = fill-small _ _ _ _ (k .nights);
+  free-small = fill-small _ _ _ _ (k .frees);
+  none-small = fill-small _ _ _ _ (k .nones);
+  past = λ p s x r.
+      let i : d ≤ x = omega (arith, k .inside) in
+      all-zero (has p x) (has s x) (k .nights .left x i) (k .frees .left x i) (k .nones .left x i);
+}
+
+-- ---- a trial
+
+-- the table's entry for a state: at night she is not available
+state-is : (f : Bool → Bool → ℕ) (a b : Bool) {x y z : ℕ} → (a ≡ true → b ≡ false) → x ≡ f true false → y ≡ f false true → z ≡ f false false → cond a x (cond b y z) ≡ f a b
+state-is f true b h ex ey ez = ex ∙ ap (f true) (sym (h refl))
+state-is f false true h ex ey ez = ey
+state-is f false false h ex ey ez = ez
+
+module _ (w : List ℕ) (c : Columns) (i : ℕ) (slots : ℕ → Slot) (a : Accepted w) (l : i < nurses w) where
+  -- by night
+  night-cost : ShowsNight w slots c → (p d : ℕ) → d < days w
+      → nightAt w c i (has p d) (availableOn (block w i) p (suc d)) d
+      ≡ (shortOn w 0 (atNight w (exchanged slots i p) d) d + shortOn w 1 (free w (exchanged slots i p) d) d) + overOn w 0 (atNight w (exchanged slots i p) d) d
+  unfolding nightAt nightWith
+  night-cost s p d h =
+      let f = put (has (getD (c .night) d 0)) i (has p d) in
+      let g = put (has (getD (c .day) d 0)) i (availableOn (block w i) p (suc d)) in
+      let x = night-after w slots i p l d _ (s .night-shown d h) in
+      let y = free-after w slots i p l d _ (s .free-shown d h) in
+      omega (
+        arith,
+        cost-both (weightsOf w 0) (masks w) (needs w d) 0 f,
+        cost-low (weightsOf w 1) (masks w) (needs w d) 1 g,
+        short-same w a 0 d f _ x,
+        over-same w a 0 d f _ x,
+        short-same w a 1 d g _ y,
+      )
+
+  pub night-trials : (t : Costs) {n e : ℕ} → NightTable w c i n e t → n ≤ e → n ≡ days w → ShowsNight w slots c → TrialsNight w slots i t
+  unfolding trialOf trialAt nightParts
+  night-trials t {n} {e} k q m s = record {
+    afresh = λ p set g.
+        sum-ext (days w) _ _ (λ d h.
+        let b : d < e = omega arith in
+        ap (λ (x : Bool). cond (has p d) (getD (t .night) d 0) (cond x (getD (t .free) d 0) (getD (t .none) d 0))) (g d h)
+        ∙ state-is (λ x y. nightAt w c i x y d) (has p d) (availableOn (block w i) p (suc d)) (started-busy (block w i) p d)
+        (k .nights .done d b .is) (k .frees .done d b .is) (k .nones .done d b .is)
+        ∙ night-cost s p d h)
+        ∙ sum-add (days w) _ _;
+  }
+
+  -- by day
+  day-cost : ShowsDay w slots c → (q d : ℕ) → d < days w
+      → dayAt w c i (has q d) d ≡ shortOn w 1 (atDay w (exchanged slots i q) d) d + overOn w 1 (atDay w (exchanged slots i q) d) d
+  unfolding dayAt dayWith
+  day-cost s q d h =
+      let f = put (has (getD (c .day) d 0)) i (has q d) in
+      let x = day-after w slots i q l d _ (s .day-shown d h) in
+      omega (arith, cost-both (weightsOf w 1) (masks w) (needs w d) 1 f, short-same w a 1 d f _ x, over-same w a 1 d f _ x)
+
+  worked-is : (f : Bool → ℕ) (x y : Bool) (u : ℕ) {v z : ℕ} → x ≡ false → v ≡ f true → z ≡ f false → cond x u (cond y v z) ≡ f y
+  worked-is f x true u e ev ez = rw e ev
+  worked-is f x false u e ev ez = rw e ez
+
+  nothing : (d : ℕ) → has 0 d ≡ false
+  nothing d = rw (bit-of-zero d)
+
+  pub day-trials : (t : Costs) {n e : ℕ} → DayTable w c i n e t → n ≤ e → n ≡ days w → ShowsDay w slots c → TrialsDay w slots i t
+  unfolding trialOf trialAt dayParts
+  day-trials t {n} {e} k r m s = record {
+    afresh = λ q.
+        sum-ext (days w) _ _ (λ d h.
+        let b : d < e = omega arith in
+        worked-is (λ x. dayAt w c i x d) (has 0 d) (has q d) (getD (t .night) d 0) (nothing d) (k .frees .done d b .is) (k .nones .done d b .is)
+        ∙ day-cost s q d h)
+        ∙ sum-add (days w) _ _;
+  }

@@ -1,0 +1,4 @@
+pub mod PairLaws
+pub mod CostLaws
+pub mod ChunkLaws
+pub mod TableLaws

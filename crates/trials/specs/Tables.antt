@@ -1,0 +1,28 @@
+-- What a nurse's trials come to, by the sums of her table.
+use mathlib.Core.Path.{_≡_}
+use mathlib.Core.Bool.{Bool, true, false}
+use mathlib.Core.List.{List}
+use Prim.Native.Nat.{ℕ}
+use Rattle.history.specs.Slot.{Slot}
+use Rattle.fields.specs.Fields.{nurses}
+use Rattle.penalty.specs.declared.columns.Columns.{Columns}
+use Rattle.penalty.specs.Penalty.{rest, exchanged, nightParts, dayParts}
+use Rattle.penalty.specs.Columns.{ShownNight, ShownDay, Frees}
+use Rattle.trials.specs.declared.costs.Costs.{Costs}
+use Rattle.trials.specs.Costs.{Small, Chunks, trialOf}
+
+-- a trial by the sums of a nurse's table comes to x
+abbrev pub tableTrial : List ℕ → ℕ → ℕ → ℕ → Type 0
+tableTrial t nights free x = (c : Costs) × (n : ℕ) × Small c n × Chunks c t × (trialOf c n nights free ≡ x)
+
+-- what a trial by nurse i's table costs, by the pattern that she takes
+pub record DayTrials (t : List ℕ) (cost : ℕ → ℕ) : Type 0 where
+  pub worked : (q : ℕ) → tableTrial t 0 q (cost q)
+
+pub record NightTrials (w : List ℕ) (i : ℕ) (t : List ℕ) (cost : ℕ → ℕ) : Type 0 where
+  pub started : (p free : ℕ) → Frees w i p free → tableTrial t p free (cost p)
+
+-- her table, all others as the columns show them: a trial is what is short and over, counted afresh after the exchange
+abbrev pub Tables : Bool → List ℕ → Columns → ℕ → List ℕ → Type 0
+Tables true w cols i t = (slots : ℕ → Slot) → ShownDay w slots (nurses w) cols → DayTrials t (λ q. rest (dayParts w (exchanged slots i q)))
+Tables false w cols i t = (slots : ℕ → Slot) → ShownNight w slots (nurses w) cols → NightTrials w i t (λ p. rest (nightParts w (exchanged slots i p)))

@@ -1,0 +1,98 @@
+// A nurse's table: what each day costs in each of her three states, from which a trial is a sum.
+use crate::pairs;
+use penalty::columns::Columns;
+use penalty::weights;
+ghost use Prim.Native.Nat.{ℕ, _<_};
+ghost use Rattle.fields.specs.Fields.{Accepted, nurses, days};
+ghost use Rattle.history.specs.Slot.{Slot};
+ghost use Rattle.penalty.specs.Columns.{ShowsNight, ShowsDay};
+ghost use Rattle.trials.specs.Costs.{Small, TrialsNight, TrialsDay};
+ghost use Rattle.trials.specs.Walk.{NightDay, DayDay};
+
+// Each day's cost, short and over together: with her at night, available, or neither. By day: free is worked.
+// Eleven groups of three days; 0 past the month.
+pub struct Costs {
+    pub night: [u64; 33],
+    pub free: [u64; 33],
+    pub none: [u64; 33],
+}
+
+// One day of them.
+pub struct Three {
+    pub night: u64,
+    pub free: u64,
+    pub none: u64,
+}
+
+// A day by night.
+fn night_day(w: &[u64], d: usize, i: usize, night: u64, day: u64) -> Three
+    requires { ⌜ Accepted (now w) × (d < days (now w)) × (i < 64) ⌝ }
+    ensures { λ r. ⌜ NightDay (now (w .entry)) d i night day r ⌝ }
+{
+    let masks = fields::masks(w);
+    let row = fields::needs(w, d);
+    let a = pairs::pair_on(weights::weights(w, 0), masks, row, 0, night, i);
+    let b = pairs::pair_on(weights::low_weights(w, 1), masks, row, 1, day, i);
+    Three {
+        night: a.on + b.off,
+        free: a.off + b.on,
+        none: a.off + b.off,
+    }
+}
+
+// A day by day.
+fn day_day(w: &[u64], d: usize, i: usize, day: u64) -> Three
+    requires { ⌜ Accepted (now w) × (d < days (now w)) × (i < 64) ⌝ }
+    ensures { λ r. ⌜ DayDay (now (w .entry)) d i day r ⌝ }
+{
+    let masks = fields::masks(w);
+    let row = fields::needs(w, d);
+    let b = pairs::pair_on(weights::weights(w, 1), masks, row, 1, day, i);
+    Three {
+        night: b.off,
+        free: b.on,
+        none: b.off,
+    }
+}
+
+// The table of nurse i in the night search.
+pub(crate) fn nurse_costs_night(w: &[u64], cols: Columns, i: usize) -> Costs
+    requires { ⌜ Accepted (now w) × (i < nurses (now w)) ⌝ }
+    ensures small { λ r. ⌜ Small r (days (now (w .entry))) ⌝ }
+    ensures trials { λ r. ⌜ ((slots : ℕ → Slot) → ShowsNight (now (w .entry)) slots cols → TrialsNight (now (w .entry)) slots i r) ⌝ }
+{
+    let mut c = Costs {
+        night: [0; 33],
+        free: [0; 33],
+        none: [0; 33],
+    };
+    let n = fields::days(w);
+    for d in 0..n {
+        let t = night_day(w, d, i, cols.night[d], cols.day[d]);
+        c.night[d] = t.night;
+        c.free[d] = t.free;
+        c.none[d] = t.none;
+    }
+    c
+}
+
+// The table of nurse i in the day search.
+pub(crate) fn nurse_costs_day(w: &[u64], cols: Columns, i: usize) -> Costs
+    requires { ⌜ Accepted (now w) × (i < nurses (now w)) ⌝ }
+    ensures small { λ r. ⌜ Small r (days (now (w .entry))) ⌝ }
+    ensures trials { λ r. ⌜ ((slots : ℕ → Slot) → ShowsDay (now (w .entry)) slots cols → TrialsDay (now (w .entry)) slots i r) ⌝ }
+{
+    let mut c = Costs {
+        night: [0; 33],
+        free: [0; 33],
+        none: [0; 33],
+    };
+    let n = fields::days(w);
+    for d in 0..n {
+        let t = day_day(w, d, i, cols.day[d]);
+        c.night[d] = t.night;
+        c.free[d] = t.free;
+        c.none[d] = t.none;
+    }
+    c
+}

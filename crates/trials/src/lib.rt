@@ -1,0 +1,25 @@
+// A nurse's trials: what the ward costs after each exchange of hers, by a table of her days, all others as they are.
+pub mod chunks;
+pub mod costs;
+mod pairs;
+
+use penalty::columns::Columns;
+ghost use Prim.Native.Nat.{_<_};
+ghost use Rattle.fields.specs.Fields.{Accepted, nurses};
+ghost use Rattle.trials.specs.Costs.{ChunksSmall};
+ghost use Rattle.trials.specs.Tables.{Tables};
+
+// Nurse i's table, and its sums over three days each.
+pub fn table(w: &[u64], cols: Columns, i: usize, daily: bool) -> [u64; 704]
+    requires { ⌜ Accepted (now w) × (i < nurses (now w)) ⌝ }
+    ensures small { λ r. ⌜ ChunksSmall r ⌝ }
+    ensures trials { λ r. ⌜ Tables daily (now (w .entry)) cols i r ⌝ }
+{
+    let n = fields::days(w);
+    if daily {
+        let costs = costs::nurse_costs_day(w, cols, i);
+        return chunks::chunks(costs, n);
+    }
+    let costs = costs::nurse_costs_night(w, cols, i);
+    chunks::chunks(costs, n)
+}
