@@ -25,10 +25,10 @@ use Rattle.search.specs.declared.Advanced.{Advanced}
 use Rattle.search.specs.declared.Ending.{Ending}
 use Rattle.search.specs.declared.Ending.the-variants.{Zero, Asked, Stuck}
 use Rattle.search.proofs.StoredLaws.{getD-below}
-use Rattle.rosters.specs.Letters.{letters, rowLetters}
-use Rattle.rosters.specs.Written.{Written}
-use Rattle.rosters.specs.declared.written.Roster.{Roster}
-use Rattle.rosters.proofs.GivenLaws.{letters-length}
+use Rattle.letters.specs.Letters.{letters, rowLetters}
+use Rattle.letters.specs.Written.{Written}
+use Rattle.letters.specs.declared.written.Roster.{Roster}
+use Rattle.letters.proofs.RowLaws.{letters-length}
 use Rattle.phases.specs.declared.outcomes.Outcome.the-variants as outcome
 use Rattle.phases.specs.Phases.{nightsOpen, listsFit, dayListOver, dayPhase, nightOf}
 use Rattle.phases.specs.Asked.{phaseOf, lackedAt, beforeLists, afterLists, EndsOf, UnplacedZero}

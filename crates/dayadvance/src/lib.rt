@@ -1,11 +1,11 @@
 // The day advance on a ward that was read.
 use daylists::lists::Ends;
+use letters::written::Roster;
 use phases::opening;
 use phases::outcomes::DayAdvance;
 use phases::outcomes::Outcome;
 use phases::questions;
 use phases::questions::Question;
-use rosters::written::Roster;
 use search::Advanced;
 use search::Ending;
 use search::Record;
@@ -72,7 +72,7 @@ fn finished(w: &[u64], nights: &[u32; 48], x: Advanced) -> DayAdvance
     match ending {
         Ending::Zero => {
             let worked = after.patterns;
-            let roster = rosters::written::roster_of(w, *nights, worked);
+            let roster = letters::written::roster_of(w, *nights, worked);
             DayAdvance {
                 kept: after,
                 penalty: x.penalty,

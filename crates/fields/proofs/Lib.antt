@@ -1,2 +1,2 @@
 pub mod FieldLaws
-pub mod AcceptedLaws
+pub mod RuleLaws

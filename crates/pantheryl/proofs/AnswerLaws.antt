@@ -22,7 +22,7 @@ use Rattle.phases.specs.Phases.{nightPhase}
 use Rattle.planner.specs.Advances.{advanceOver, advanceNights, advanceDays}
 use Rattle.phases.specs.Outcomes.{outcomeOf, advanceOf, rosterOf, dayAdvanceOf, callOf}
 use Rattle.planner.specs.Left.{nightLeft, dayLeft}
-use Rattle.rosters.specs.declared.written.Roster.{Roster}
+use Rattle.letters.specs.declared.written.Roster.{Roster}
 use Rattle.phases.specs.declared.outcomes.Advance.{Advance}
 use Rattle.phases.specs.declared.outcomes.DayAdvance.{DayAdvance}
 use Rattle.pantheryl.specs.Words.{recordOfWords, wordsOfRecord}

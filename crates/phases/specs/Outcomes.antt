@@ -5,7 +5,7 @@ use mathlib.Core.Option.{Option, none, some}
 use lib.ListN.{length, drop, replicate}
 use Rattle.history.specs.Phase.{Call, No, Answer, refused, ended, End, End·zero, End·asked, End·none}
 use Rattle.search.specs.declared.Record.{Record as Stored}
-use Rattle.rosters.specs.declared.written.Roster.{Roster}
+use Rattle.letters.specs.declared.written.Roster.{Roster}
 use Rattle.phases.specs.declared.outcomes.Outcome.{Outcome}
 use Rattle.phases.specs.declared.outcomes.Outcome.the-variants.{Refused, Zero, Asked, Stuck}
 use Rattle.phases.specs.declared.outcomes.Advance.{Advance}

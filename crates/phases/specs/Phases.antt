@@ -14,7 +14,7 @@ use Rattle.daylists.specs.Lists.{firstOver}
 use Rattle.penalty.specs.Penalty.{nightPenalty, dayPenalty}
 use Rattle.history.specs.Phase.{Phase, No, first, unless}
 use Rattle.removals.specs.Removals.{patternOf}
-use Rattle.rosters.specs.Letters.{letters}
+use Rattle.letters.specs.Letters.{letters}
 
 -- ---- nights
 

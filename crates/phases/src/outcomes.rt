@@ -21,5 +21,5 @@ pub struct DayAdvance {
     pub penalty: u64,
     pub steps: u32,
     pub outcome: Outcome,
-    pub roster: rosters::written::Roster,
+    pub roster: letters::written::Roster,
 }

@@ -12,11 +12,12 @@ use Rattle.ward.specs.Answers.{refusedOf, readingOf, readWard}
 use Rattle.ward.specs.declared.Answer.{Answer}
 use Rattle.ward.specs.declared.Answer.the-variants.{Yes, No}
 use Rattle.ward.specs.declared.Reading.{Reading}
-use Rattle.rosters.specs.Check.{misplaced, holds}
-use Rattle.rosters.specs.Walk.{foundOf}
-use Rattle.rosters.specs.declared.letters.Place.{Place}
-use Rattle.rosters.specs.declared.letters.Place.the-variants.{At, Nowhere}
-use Rattle.rosters.proofs.LetterLaws.{placed-long}
+use Rattle.letters.specs.Letters.{misplaced}
+use Rattle.rosters.specs.Check.{holds}
+use Rattle.letters.specs.Walk.{foundOf}
+use Rattle.letters.specs.declared.Place.{Place}
+use Rattle.letters.specs.declared.Place.the-variants.{At, Nowhere}
+use Rattle.letters.proofs.LetterLaws.{placed-long}
 use Rattle.planner.specs.Answers.{Said, refused, said, checkLetters, checkOver, checkSays}
 
 -- ---- question 12 and the rules

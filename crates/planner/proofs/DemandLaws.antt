@@ -31,7 +31,8 @@ use Rattle.search.specs.declared.Record.{Record as Stored}
 use Rattle.history.proofs.TestLaws.{and-true}
 use Rattle.history.proofs.DemandLaws.{zero≢asked}
 use Rattle.search.proofs.AdvanceLaws.{demand3-stored}
-use Rattle.rosters.specs.Check.{misplaced, holds}
+use Rattle.letters.specs.Letters.{misplaced}
+use Rattle.rosters.specs.Check.{holds}
 use Rattle.rosters.proofs.GivenLaws.{duty-alike, members-alike, Patterns, placedAll, given-at-zero}
 use Rattle.phases.specs.Phases.{nightPhase, nightsOpen, listsFit, dayListOver, dayPhase, nightOf}
 use Rattle.planner.specs.Advances.{advanceOver, advanceDays}

@@ -7,7 +7,8 @@ use Rattle.fields.specs.Fields.{nurses, days}
 use Rattle.layout.specs.Grammar.{Read, good, bad}
 use Rattle.ward.specs.Answers.{readWard}
 use Rattle.history.specs.Phase.{No}
-use Rattle.rosters.specs.Check.{misplaced, holds}
+use Rattle.letters.specs.Letters.{misplaced}
+use Rattle.rosters.specs.Check.{holds}
 use Rattle.planner.specs.declared.Checked.{Checked}
 use Rattle.planner.specs.declared.Checked.the-variants.{Refused, Passed, Broken}
 

@@ -15,7 +15,7 @@ use Rattle.nights.specs.Hers.{nightList, hers, shifted, through, lastRun}
 use Rattle.days.specs.Days.{dayList, dayRule, choice, rowDuty, same, anyOf, freeOf, windowsHold, rests}
 use Rattle.daylists.specs.Lists.{upTo, firstOver}
 use Rattle.penalty.specs.Penalty.{onDuty, members, shortOn, overOn, unplacedIn, nightParts, nightPenalty, dayParts, dayPenalty}
-use Rattle.rosters.specs.Letters.{letters, rowLettersOf, letter}
+use Rattle.letters.specs.Letters.{letters, rowLettersOf, letter}
 use Rattle.history.specs.Phase.{Step, Call, refused, ended, End·zero, End·asked, run, refusal, given}
 use Rattle.history.specs.History.{penalty, allowed, next, extend, reply, advance, answers, history}
 use Rattle.phases.specs.Phases.{nightPhase, dayPhase, nightsOpen, commonFits, listsFit}

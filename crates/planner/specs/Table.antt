@@ -17,7 +17,7 @@ use Rattle.nights.specs.Hers.{shifted, through, lastRun, hers, nightList}
 use Rattle.days.specs.Days.{dayList, dayRule, choice, rowDuty, same, anyOf, freeOf, windowsHold, rests}
 use Rattle.history.specs.Slot.{Slot}
 use Rattle.penalty.specs.Penalty.{exchanged, onDuty, members, shortOn, overOn, unplacedIn, nightParts, nightPenalty, dayParts, dayPenalty}
-use Rattle.rosters.specs.Letters.{letters, rowLettersOf, letter}
+use Rattle.letters.specs.Letters.{letters, rowLettersOf, letter}
 
 -- days 7, V 2, L 1, g1 3
 abbrev seven : Rules

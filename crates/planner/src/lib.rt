@@ -1,8 +1,8 @@
 // The published calls.
+use letters::Place;
 pub use phases::outcomes::Advance;
 pub use phases::outcomes::DayAdvance;
 pub use phases::outcomes::Outcome;
-use rosters::letters::Place;
 use ward::Answer;
 ghost use mathlib.Core.Path.{_≡_};
 ghost use lib.ListN.{length};
@@ -42,7 +42,7 @@ fn check_letters(w: &[u64], roster: &[u8]) -> Checked
 {
     let m = fields::nurses(w);
     let n = fields::days(w);
-    match rosters::letters::misplaced_at(roster, m * n) {
+    match letters::misplaced_at(roster, m * n) {
         Place::At(place) => Checked::Refused {
             question: 12,
             place,

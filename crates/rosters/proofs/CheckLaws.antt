@@ -1,5 +1,5 @@
 -- The test says yes exactly when the roster's rules hold: every row follows from patterns, and every day's needs, lows and highs hold.
-use mathlib.Core.Path.{_≡_, sym, ap, ap₂, _∙_, subst}
+use mathlib.Core.Path.{_≡_, sym, ap, ap₂, _∙_}
 use mathlib.Core.Bool.{Bool, true, false, _&&_}
 use mathlib.Core.List.{List}
 use mathlib.Core.Logic.{_↔_}
@@ -10,13 +10,14 @@ use lib.Dec.{leb}
 use lib.ListN.{length}
 use Rattle.numbers.specs.Range.{upFrom, all}
 use Rattle.numbers.proofs.RangeLaws.{and-parts, range-all, range-each}
-use Rattle.fields.specs.Fields.{Accepted, Block, nurses, days, groups, block, needs, need, low, high}
+use Rattle.fields.specs.Fields.{nurses, days, groups, block, needs, need, low, high}
 use Rattle.nights.specs.Hers.{hersOf}
 use Rattle.days.specs.Days.{dayRuleOf}
 use Rattle.penalty.specs.Penalty.{onDuty, members}
-use Rattle.rosters.specs.Letters.{letter}
+use Rattle.letters.specs.Letters.{letter}
 use Rattle.rosters.specs.Check.{Follows, Holds, atDuty, lettersIn, lettersAt, sameRow, rowHolds, rowsHold, groupHolds, dutyHolds, dayHolds, daysHold, holds}
-use Rattle.rosters.proofs.RowLaws.{row-fits, hers-below, worked-below, worked-available, each-of-row, row-of-each, same-each, each-same, starts-read, worked-read}
+use Rattle.letters.proofs.RowLaws.{row-fits}
+use Rattle.rosters.proofs.RowLaws.{hers-below, worked-below, worked-available, each-of-row, row-of-each, same-each, each-same, starts-read, worked-read}
 
 both : (a b : Bool) → a ≡ true → b ≡ true → (a && b) ≡ true
 both a b e f = rw (e, f)
@@ -47,9 +48,6 @@ module _ (w roster : List ℕ) (i n : ℕ) {p q : ℕ} (en : n ≡ days w) (ep :
 -- what its parts ask: the row ends within the roster, and the block is hers
 pub row-ends : (w roster : List ℕ) (i : ℕ) {n : ℕ} → length roster ≡ nurses w * days w → i < nurses w → n ≡ days w → i * n + n ≤ length roster
 row-ends w roster i {n} l h e = rw e (omega (arith, row-fits (nurses w) (days w) i h))
-
-pub block-as : (w : List ℕ) (i : ℕ) {b : List ℕ} {n : ℕ} → Accepted w → i < nurses w → b ≡ block w i → n ≡ days w → Block b n
-block-as w i {b} {n} a h e en = subst (λ (x : List ℕ). Block x n) (sym e) (subst (λ (k : ℕ). Block (block w i) k) (sym en) (a .blocks i h))
 
 -- rows and days together
 pub rows-and-days : (w roster : List ℕ) {r : Bool} → rowsHold w roster ≡ true → r ≡ daysHold w roster → r ≡ holds w roster

@@ -1,15 +1,15 @@
 -- The roster that a day advance at penalty zero gives out: its length, its letters, and that the check says yes to it.
-use mathlib.Core.Path.{_≡_, refl, sym, ap, ap₂, _∙_}
+use mathlib.Core.Path.{_≡_, refl, sym, ap, _∙_}
 use mathlib.Core.Bool.{Bool, true, false, cond, _&&_}
 use mathlib.Core.List.{List, [], _∷_, _++_, map}
 use mathlib.Core.Option.{Option, none, some}
 use mathlib.Core.Logic.{⊎-elim}
 use Prim.Native.Nat.{ℕ, zero, suc, _+_, _*_, _≤_, _<_}
-use native.Mathlib.Nat.{suc-mul, zero-mul, not-suc-le-zero, le-of-suc-le-suc, eq-or-lt-of-le}
+use native.Mathlib.Nat.{not-suc-le-zero, le-of-suc-le-suc, eq-or-lt-of-le}
 use native.Mathlib.Omega.{arith}
 use borrow.Author.Tests.{eq-eqb}
 use lib.Dec.{eqb}
-use lib.ListN.{length, getD, length-append, List·getD-append}
+use lib.ListN.{length, getD, List·getD-append}
 use lib.Seq.{getD-append-add}
 use Rattle.numbers.specs.Range.{upFrom, all}
 use Rattle.numbers.specs.Sum.{oneIf}
@@ -23,32 +23,25 @@ use Rattle.history.specs.Slot.{Slot}
 use Rattle.penalty.specs.Penalty.{onDuty, members, atNight, atDay, nightPenalty, dayPenalty}
 use Rattle.penalty.specs.Held.{LowsHeld, HighsHeld, NightHeld, DayHeld}
 use Rattle.penalty.proofs.HeldLaws.{night-zero, day-zero}
-use Rattle.rosters.specs.Letters.{letter, rowLettersOf, rowLetters, letters, isLetter}
-use Rattle.rosters.specs.Check.{firstBad, orCount, misplaced, Follows, lettered, atDuty, Holds, holds}
-use Rattle.rosters.proofs.RowLaws.{row-fits, in-row, row-length, row-at, duty-five, starts-letter, worked-letter, worked-available, row-of-each}
+use Rattle.letters.specs.Letters.{letter, rowLettersOf, rowLetters, letters, isLetter, firstBad, orCount, misplaced}
+use Rattle.rosters.specs.Check.{Follows, lettered, atDuty, Holds, holds}
+use Rattle.letters.proofs.RowLaws.{row-fits, in-row, row-at, letters-length}
+use Rattle.rosters.proofs.RowLaws.{duty-five, starts-letter, worked-letter, worked-available, row-of-each}
 use Rattle.rosters.proofs.CheckLaws.{holds-complete}
 
 -- ---- the letters of the first k nurses
 
 module _ (w : List ℕ) (ps qs : ℕ → ℕ) where
-  pub letters-length : (k : ℕ) → length (letters w ps qs k) ≡ k * days w
-  unfolding letters
-  letters-length zero = sym (zero-mul (days w))
-  letters-length (suc k) =
-      length-append (letters w ps qs k) (rowLetters w k (ps k) (qs k))
-      ∙ ap₂ (λ (x y : ℕ). x + y) (letters-length k) (row-length (block w k) (days w) (ps k) (qs k))
-      ∙ sym (suc-mul k (days w))
-
   last-row : (k d : ℕ) → d < days w → getD (letters w ps qs (suc k)) (k * days w + d) 0 ≡ letter (dutyOn (block w k) (ps k) (qs k) (suc d))
   unfolding letters
   last-row k d h =
-      ap (λ (x : ℕ). getD (letters w ps qs k ++ rowLetters w k (ps k) (qs k)) (x + d) 0) (sym (letters-length k))
+      ap (λ (x : ℕ). getD (letters w ps qs k ++ rowLetters w k (ps k) (qs k)) (x + d) 0) (sym (letters-length w ps qs k))
       ∙ getD-append-add (letters w ps qs k) (rowLetters w k (ps k) (qs k)) d 0
       ∙ row-at (block w k) (days w) (ps k) (qs k) d h
 
   rows-before : (k j : ℕ) → j < k * days w → getD (letters w ps qs (suc k)) j 0 ≡ getD (letters w ps qs k) j 0
   unfolding letters
-  rows-before k j h = List·getD-append (letters w ps qs k) (rowLetters w k (ps k) (qs k)) 0 j (rw (letters-length k) h)
+  rows-before k j h = List·getD-append (letters w ps qs k) (rowLetters w k (ps k) (qs k)) 0 j (rw (letters-length w ps qs k) h)
 
   pub letters-at : (k i d : ℕ) → i < k → d < days w → getD (letters w ps qs k) (i * days w + d) 0 ≡ letter (dutyOn (block w i) (ps i) (qs i) (suc d))
   letters-at zero i d h l = absurd (not-suc-le-zero h)

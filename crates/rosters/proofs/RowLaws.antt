@@ -1,55 +1,28 @@
 -- A row of letters: its length, each of its letters, and the patterns that are read off it.
-use mathlib.Core.Path.{_≡_, refl, sym, ap, ap₂, _∙_}
+use mathlib.Core.Path.{_≡_, sym, ap, ap₂, _∙_}
 use mathlib.Core.Bool.{Bool, true, false, cond, not}
-use mathlib.Core.List.{List, [], _∷_, map}
-use Prim.Native.Nat.{ℕ, zero, suc, _+_, _-_, _*_, _^_, _≤_, _<_}
-use native.Mathlib.Nat.{mul-le-mul-right, suc-mul, sub-zero}
-use native.Mathlib.Numerals.{add-one, one-add}
+use mathlib.Core.List.{List}
+use Prim.Native.Nat.{ℕ, suc, _+_, _-_, _^_, _≤_, _<_}
+use native.Mathlib.Nat.{sub-zero}
 use native.Mathlib.Omega.{arith}
 use borrow.Author.Tests.{ltb-true, eqb-true, eq-eqb, ne-eqb}
 use lib.Dec.{eqb, ltb}
 use lib.Pow.{pow-lt}
-use lib.ListN.{length, getD, take, drop, length-map, length-drop, List·getD-map}
+use lib.ListN.{length, getD, take, drop, length-drop}
 use lib.Seq.{length-take-le, getD-take, getD-drop, ext-getD}
 use Rattle.numbers.specs.Range.{upFrom, all}
 use Rattle.numbers.specs.Digits.{has}
-use Rattle.numbers.proofs.RangeLaws.{and-parts, length-range, range-at, range-all, range-each, all-more, all-stop, all-end}
+use Rattle.numbers.proofs.RangeLaws.{and-parts, range-all, range-each, all-more, all-stop, all-end}
 use Rattle.numbers.proofs.DigitLaws.{number-lt, number-zero, number-suc}
 use Rattle.numbers.proofs.SetLaws.{number-is}
 use Rattle.fields.specs.Fields.{days, block, markOn}
-use Rattle.rows.specs.Rows.{started, rowState, stateAfter, availableOn, dutyOf, dutyOn}
+use Rattle.rows.specs.Rows.{started, rowState, availableOn, dutyOn}
 use Rattle.nights.specs.Hers.{hers, hersOf}
 use Rattle.days.specs.Days.{choice, dayRule, dayRuleOf}
-use Rattle.rosters.specs.Letters.{letter, rowLettersOf, isLetter}
+use Rattle.letters.specs.Letters.{letter, rowLettersOf, isLetter}
+use Rattle.letters.proofs.RowLaws.{row-length, row-at}
 use Rattle.rosters.specs.Check.{lettersIn, sameRow}
-use Rattle.rosters.proofs.LetterLaws.{five, night-letter, day-letter}
-
--- row i of m rows of n letters ends within them
-pub row-fits : (m n i : ℕ) → i < m → i * n + n ≤ m * n
-row-fits m n i h = let most : suc i * n ≤ m * n = mul-le-mul-right n h in omega (arith, rw suc-mul at most)
-
-pub in-row : (m n i d : ℕ) → i < m → d < n → i * n + d < m * n
-in-row m n i d h l = omega (arith, row-fits m n i h)
-
--- ---- the letters that patterns make
-
-module _ (b : List ℕ) (n p q : ℕ) where
-  pub row-length : length (rowLettersOf b n p q) ≡ n
-  unfolding rowLettersOf
-  row-length = length-map (upFrom 1 n) (λ d. letter (dutyOn b p q d)) ∙ length-range 1 n
-
-  pub row-at : (d : ℕ) → d < n → getD (rowLettersOf b n p q) d 0 ≡ letter (dutyOn b p q (suc d))
-  unfolding rowLettersOf
-  row-at d h =
-      let f : ℕ → ℕ = λ e. letter (dutyOn b p q e) in
-      getD-any (map f (upFrom 1 n)) d 0 (f 0) (rw (length-map (upFrom 1 n) f, length-range 1 n) h)
-      ∙ List·getD-map f (upFrom 1 n) d 0
-      ∙ ap f (range-at 1 n d h ∙ one-add d)
-    where
-      getD-any : (l : List ℕ) (j x y : ℕ) → j < length l → getD l j x ≡ getD l j y
-      getD-any [] j x y l = absurd (omega arith)
-      getD-any (z ∷ l) zero x y h = refl
-      getD-any (z ∷ l) (suc j) x y h = getD-any l j x y (omega arith)
+use Rattle.letters.proofs.LetterLaws.{five, night-letter, day-letter}
 
 pub duty-five : (b : List ℕ) (p q d : ℕ) → isLetter (letter (dutyOn b p q d)) ≡ true
 unfolding dutyOn
@@ -137,15 +110,6 @@ module _ (roster : List ℕ) (at n : ℕ) (fits : at + n ≤ length roster) wher
         (λ d h. sym (ap (λ (c : ℕ). eqb c (letter 1)) (e d h) ∙ worked-letter b p q d (a d h)))
 
 -- ---- the loop that compares a row's letters with those of its patterns
-
--- a turn of it: the state and the duty of the next day
-pub state-step : (b : List ℕ) (p d : ℕ) {before state : ℕ} {s : Bool} → before ≡ rowState b p d → s ≡ has p d → state ≡ stateAfter before s → state ≡ rowState b p (d + 1)
-unfolding rowState
-state-step b p d e s q = q ∙ ap₂ stateAfter e s ∙ rw (add-one d)
-
-pub duty-step : (b : List ℕ) (p q d : ℕ) {state duty : ℕ} {worked : Bool} → state ≡ rowState b p (d + 1) → worked ≡ has q d → duty ≡ dutyOf (getD b (11 + d) 0) state worked → duty ≡ dutyOn b p q (suc d)
-unfolding dutyOn
-duty-step b p q d e s x = x ∙ ap₂ (λ (y : ℕ) (z : Bool). dutyOf (getD b (11 + d) 0) y z) e s ∙ rw (add-one d)
 
 module _ (b : List ℕ) (n : ℕ) (roster : List ℕ) (at p q : ℕ) where
   -- the days from d on

@@ -1,11 +1,10 @@
--- The roster check: question 12, and what its yes stands for.
-use mathlib.Core.Bool.{Bool, true, cond, _&&_}
+-- The roster check: what its yes stands for.
+use mathlib.Core.Bool.{Bool, true, _&&_}
 use mathlib.Core.Path.{_≡_}
-use mathlib.Core.List.{List, [], _∷_}
-use mathlib.Core.Option.{Option, none, some}
+use mathlib.Core.List.{List}
 use Prim.Native.Nat.{ℕ, zero, suc, _+_, _*_, _≤_, _<_}
 use lib.Dec.{eqb, leb}
-use lib.ListN.{length, getD, take, drop}
+use lib.ListN.{getD, take, drop}
 use Rattle.numbers.specs.Range.{upFrom, all}
 use Rattle.numbers.specs.Digits.{numberOf}
 use Rattle.fields.specs.Fields.{nurses, days, groups, block, needs, need, low, high}
@@ -13,20 +12,7 @@ use Rattle.rows.specs.Rows.{dutyOn}
 use Rattle.nights.specs.Hers.{hersOf}
 use Rattle.days.specs.Days.{dayRuleOf}
 use Rattle.penalty.specs.Penalty.{onDuty, members}
-use Rattle.rosters.specs.Letters.{letter, rowLetters, isLetter}
-
--- ---- question 12: m times n letters of the five; the place is the first bad index, else the count given
-
-unfoldable pub firstBad : ℕ → List ℕ → Option ℕ
-firstBad at [] = none
-firstBad at (c ∷ cs) = cond (isLetter c) (firstBad (suc at) cs) (some at)
-
-abbrev pub orCount : Option ℕ → ℕ → ℕ → Option ℕ
-orCount (some at) count size = some at
-orCount none count size = cond (eqb count size) none (some count)
-
-unfoldable pub misplaced : ℕ → List ℕ → Option ℕ
-misplaced size roster = orCount (firstBad 0 roster) (length roster) size
+use Rattle.letters.specs.Letters.{letter, rowLetters}
 
 -- ---- the rules
 

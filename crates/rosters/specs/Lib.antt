@@ -1,5 +1,3 @@
-pub mod Letters
 pub mod Check
 pub mod Walk
-pub mod Written
 pub mod Shown

@@ -1,8 +1,6 @@
-// The letters of a roster, and the roster check over an accepted ward.
-pub mod letters;
+// The roster check over an accepted ward.
 mod needs;
 mod rows_of;
-pub mod written;
 
 ghost use mathlib.Core.Path.{_≡_};
 ghost use Prim.Native.Nat.{_*_};

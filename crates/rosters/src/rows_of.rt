@@ -42,7 +42,7 @@ fn same_row(b: &[u64], n: u64, roster: &[u8], at: usize, p: u32, q: u32) -> bool
         let k = d as usize;
         state = rows::state_after(state, numbers::has_bit(p, d));
         let duty = rows::duty_of(b[11 + k], state, numbers::has_bit(q, d));
-        let letter = crate::letters::letter_of(duty as usize);
+        let letter = letters::letter_of(duty as usize);
         if roster[at + k] == letter {
             d += 1;
         } else {

@@ -19,7 +19,7 @@ use Rattle.fields.specs.Rules.{rulesOf}
 use Rattle.nights.specs.Nights.{commonOf, inCommon}
 use Rattle.nights.specs.Hers.{hersOf}
 use Rattle.own.specs.Masks.{masksOf, AvailableDays}
-use Rattle.fields.proofs.AcceptedLaws.{block-is}
+use Rattle.fields.proofs.RuleLaws.{block-as}
 use Rattle.nights.proofs.ListLaws.{common-below, common-keeps}
 use Rattle.penalty.specs.declared.Penalty.{Penalty}
 use Rattle.penalty.specs.declared.columns.Columns.{Columns}
@@ -67,7 +67,7 @@ agree-at w r slots i a l = a i l
 -- ---- a slot's pattern
 
 pub block-of : (w : List ℕ) (i : ℕ) {b : List ℕ} {n : ℕ} → Accepted w → i < nurses w → b ≡ block w i → (n ≡ days w) × (n ≤ 31) → Block b n × (n ≤ 31)
-block-of w i {b} a l e q = (subst (λ (k : ℕ). Block b k) (sym (q .0)) (block-is w i b a l e), q .1)
+block-of w i {b} a l e q = (block-as w i a l e (q .0), q .1)
 
 module _ (w : List ℕ) (r : Stored) (i : ℕ) where
   pub pattern-placed : (daily : Bool) → getD (r .placed) i false ≡ true → getD (r .patterns) i 0 ≡ patternFor daily w i (slotAt r i)

@@ -1,6 +1,6 @@
 -- `dayadvance::refuse` meets its contract.
 use mathlib.Core.Path.{ap}
-use Rattle.rosters.specs.declared.written.Roster.{Roster}
+use Rattle.letters.specs.declared.written.Roster.{Roster}
 use Rattle.phases.specs.declared.outcomes.Outcome.the-variants.{Refused}
 use Rattle.phases.specs.Outcomes.{dayAdvanceOf}
 use borrow.Author.Needs.{needs}

@@ -1,6 +1,6 @@
 -- `dayadvance::without_roster` meets its contract.
 use mathlib.Core.Path.{ap}
-use Rattle.rosters.specs.declared.written.Roster.{Roster}
+use Rattle.letters.specs.declared.written.Roster.{Roster}
 use borrow.Author.Needs.{needs}
 use Rattle.dayadvance.proofs.without_roster.Statement.{statement}
 use Rattle.dayadvance.proofs.without_roster.Tie as tie

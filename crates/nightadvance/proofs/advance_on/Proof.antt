@@ -3,7 +3,7 @@ use lib.Seq.{length-take-le}
 use Rattle.nightadvance.proofs.NightLaws.{list-room, filled-fits, clear, filled-front, refusal-told, advance-told, night-lists, night-seeks}
 use native.Mathlib.Omega.{arith}
 use mathlib.Core.Path.{sym, _∙_, ap}
-use Rattle.fields.proofs.AcceptedLaws.{rules-small}
+use Rattle.fields.proofs.RuleLaws.{rules-small}
 use Rattle.phases.specs.Phases.{nightPhase}
 use Rattle.phases.specs.Outcomes.{noOf}
 use borrow.Author.Needs.{needs}

@@ -1,6 +1,6 @@
 -- `nightadvance::first_no` meets its contract: the questions in order.
 use borrow.Author.Tests.{not-true, not-false}
-use Rattle.fields.proofs.AcceptedLaws.{rules-small}
+use Rattle.fields.proofs.RuleLaws.{rules-small}
 use Rattle.nightadvance.proofs.NightLaws.{night-seven, night-nine, night-ten, night-eleven, night-none, lacked-some, lacked-none, night-sound}
 use borrow.Author.Needs.{needs}
 use Rattle.nightadvance.proofs.first_no.Statement.{statement}

@@ -2,7 +2,7 @@
 use borrow.Author.Needs.{needs}
 use borrow.Author.Tests.{eq-eqb, ne-eqb}
 use native.Mathlib.Omega.{arith}
-use Rattle.fields.proofs.AcceptedLaws.{gap-small}
+use Rattle.fields.proofs.RuleLaws.{gap-small}
 use Rattle.nightlists.proofs.is_closed.Statement.{statement}
 use Rattle.nightlists.proofs.is_closed.Tie as tie
 

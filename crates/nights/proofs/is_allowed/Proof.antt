@@ -1,7 +1,7 @@
 -- `nights::is_allowed` meets its contract.
 use borrow.Author.Tests.{eq-eqb, ne-eqb}
 use native.Mathlib.Omega.{arith}
-use Rattle.fields.proofs.AcceptedLaws.{gap-small}
+use Rattle.fields.proofs.RuleLaws.{gap-small}
 use borrow.Author.Needs.{needs}
 use Rattle.nights.proofs.is_allowed.Statement.{statement}
 use Rattle.nights.proofs.is_allowed.Tie as tie

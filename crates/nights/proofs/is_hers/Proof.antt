@@ -1,11 +1,11 @@
 -- `nights::is_hers` meets its contract.
 use Prim.Native.Nat.{ℕ}
-use mathlib.Core.Path.{ap₂, _∙_}
+use mathlib.Core.Path.{refl, ap₂, _∙_}
 use mathlib.Core.List.{List}
 use Rattle.fields.specs.Fields.{days}
 use Rattle.fields.specs.declared.rules.Rules.{Rules}
 use Rattle.nights.specs.Hers.{hers}
-use Rattle.fields.proofs.AcceptedLaws.{rules-small, block-is}
+use Rattle.fields.proofs.RuleLaws.{rules-small, block-as}
 use borrow.Author.Needs.{needs}
 use Rattle.nights.proofs.is_hers.Statement.{statement}
 use Rattle.nights.proofs.is_hers.Tie as tie
@@ -22,7 +22,7 @@ block-requires c κs = search needs
 is-hers-by-requires : tie.Need-is-hers-by-requires
 is-hers-by-requires c κs = let w = c .before .before .before .before .args .w .now in
     let ok = c .before .before .before .before .pre .0 in
-    (rules-small w _ ok (c .before .before .rules-of .ensures), (ok .days-most, block-is w (c .before .before .before .before .args .i) _ ok (c .before .before .before .before .pre .1) (c .block .ensures)))
+    (rules-small w _ ok (c .before .before .rules-of .ensures), (ok .days-most, block-as w (c .before .before .before .before .args .i) ok (c .before .before .before .before .pre .1) (c .block .ensures) refl))
 
 returns : tie.Need-returns
 returns c = let w = c .before .before .before .before .before .args .w .now in

@@ -1,5 +1,5 @@
 -- `nights_run::show_ward` is safe and ends.
-use Rattle.fields.proofs.AcceptedLaws.{rules-small}
+use Rattle.fields.proofs.RuleLaws.{rules-small}
 use native.Mathlib.Omega.{arith}
 use lib.Seq.{length-take-le}
 use mathlib.Core.Path.{sym}

@@ -6,7 +6,7 @@ use Rattle.fields.specs.Fields.{days}
 use Rattle.fields.specs.declared.rules.Rules.{Rules}
 use Rattle.fields.specs.Rules.{rulesOf}
 use Rattle.nightlists.specs.Walk.{listed}
-use Rattle.fields.proofs.AcceptedLaws.{rules-small}
+use Rattle.fields.proofs.RuleLaws.{rules-small}
 use Rattle.nightlists.proofs.CommonLaws.{walk-from}
 use Rattle.nights.proofs.ListLaws.{some-of-list}
 use borrow.Author.Needs.{needs}

@@ -1,11 +1,11 @@
 -- `own::masks::masks_of` meets its contract.
 use Prim.Native.Nat.{ℕ}
-use mathlib.Core.Path.{ap₂, _∙_}
+use mathlib.Core.Path.{refl, ap₂, _∙_}
 use mathlib.Core.List.{List}
 use Rattle.fields.specs.Fields.{days}
 use Rattle.fields.specs.declared.rules.Rules.{Rules}
 use Rattle.own.specs.Masks.{masksOf}
-use Rattle.fields.proofs.AcceptedLaws.{rules-small, block-is}
+use Rattle.fields.proofs.RuleLaws.{rules-small, block-as}
 use borrow.Author.Needs.{needs}
 use Rattle.own.proofs.masks.masks_of.Statement.{statement}
 use Rattle.own.proofs.masks.masks_of.Tie as tie
@@ -22,7 +22,7 @@ block-requires c κs = search needs
 masks-by-requires : tie.Need-masks-by-requires
 masks-by-requires c κs = let w = c .before .before .before .before .args .w .now in
     let ok = c .before .before .before .before .pre .0 in
-    (rules-small w _ ok (c .before .before .rules-of .ensures), (ok .days-most, block-is w (c .before .before .before .before .args .i) _ ok (c .before .before .before .before .pre .1) (c .block .ensures)))
+    (rules-small w _ ok (c .before .before .rules-of .ensures), (ok .days-most, block-as w (c .before .before .before .before .args .i) ok (c .before .before .before .before .pre .1) (c .block .ensures) refl))
 
 returns : tie.Need-returns
 returns c = let w = c .before .before .before .before .before .args .w .now in (

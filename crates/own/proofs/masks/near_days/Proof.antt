@@ -2,7 +2,7 @@
 use Rattle.own.proofs.NearLaws.{near-none, near-some}
 use native.Mathlib.Omega.{arith}
 use Prim.Native.Nat.{_-_}
-use Rattle.fields.proofs.AcceptedLaws.{gap-small}
+use Rattle.fields.proofs.RuleLaws.{gap-small}
 use borrow.Author.Needs.{needs}
 use Rattle.own.proofs.masks.near_days.Statement.{statement}
 use Rattle.own.proofs.masks.near_days.Tie as tie

@@ -7,7 +7,7 @@ use Rattle.fields.specs.declared.rules.Rules.{Rules}
 use Rattle.fields.specs.Rules.{rulesOf}
 use Rattle.nights.specs.Nights.{follow, starts}
 use Rattle.nights.specs.Hers.{shifted}
-use Rattle.fields.proofs.AcceptedLaws.{rules-small}
+use Rattle.fields.proofs.RuleLaws.{rules-small}
 use Rattle.own.proofs.NearLaws.{out-marks, out-few, out-many, by-run, by-distance}
 use borrow.Author.Needs.{needs}
 use Rattle.own.proofs.masks.passes.Statement.{statement}

@@ -9,7 +9,7 @@ use Rattle.numbers.specs.Digits.{has}
 use Rattle.penalty.specs.Columns.{Same}
 use Rattle.penalty.proofs.ColumnLaws.{same-none, same-more}
 use Rattle.rosters.specs.Check.{lettered}
-use Rattle.rosters.proofs.RowLaws.{in-row}
+use Rattle.letters.proofs.RowLaws.{in-row}
 use borrow.Author.Needs.{needs}
 use Rattle.rosters.proofs.needs.column.Statement.{statement}
 use Rattle.rosters.proofs.needs.column.Tie as tie

@@ -2,7 +2,7 @@
 use mathlib.Core.Path.{_≡_, sym, ap}
 use native.Mathlib.Omega.{arith}
 use Rattle.rosters.specs.Check.{dutyLetter}
-use Rattle.rosters.specs.Letters.{letter}
+use Rattle.letters.specs.Letters.{letter}
 use Rattle.rosters.proofs.needs.duty_letter.Statement.{statement}
 use Rattle.rosters.proofs.needs.duty_letter.Tie as tie
 

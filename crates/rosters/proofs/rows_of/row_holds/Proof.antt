@@ -4,7 +4,8 @@ use mathlib.Core.Path.{sym, _∙_}
 use Prim.Native.Nat.{_≤_}
 use native.Mathlib.Nat.{mul-le-mul}
 use native.Mathlib.Omega.{arith}
-use Rattle.rosters.proofs.CheckLaws.{row-not-hers, row-no-days, row-compared, row-ends, block-as}
+use Rattle.rosters.proofs.CheckLaws.{row-not-hers, row-no-days, row-compared, row-ends}
+use Rattle.fields.proofs.RuleLaws.{block-as}
 use borrow.Author.Needs.{needs}
 use Rattle.rosters.proofs.rows_of.row_holds.Statement.{statement}
 use Rattle.rosters.proofs.rows_of.row_holds.Tie as tie

@@ -5,7 +5,8 @@ use native.Mathlib.Omega.{arith}
 use Rattle.rows.specs.Rows.{rowState}
 use Rattle.rows.proofs.RowLaws.{row-zero}
 use Rattle.rosters.specs.Check.{sameRow}
-use Rattle.rosters.proofs.RowLaws.{rowFrom, row-start, row-more, row-stop, row-end, state-step, duty-step}
+use Rattle.rosters.proofs.RowLaws.{rowFrom, row-start, row-more, row-stop, row-end}
+use Rattle.letters.proofs.RowLaws.{state-step, duty-step}
 use borrow.Author.Needs.{needs}
 use Rattle.rosters.proofs.rows_of.same_row.Statement.{statement}
 use Rattle.rosters.proofs.rows_of.same_row.Tie as tie

@@ -4,8 +4,8 @@ ghost use Prim.Native.Nat.{_+_, _≤_};
 ghost use lib.ListN.{getD};
 ghost use lib.Seq.{paste};
 ghost use Rattle.fields.specs.Fields.{Accepted, Block};
-ghost use Rattle.rosters.specs.Letters.{rowLettersOf};
-ghost use Rattle.rosters.specs.Written.{Written};
+ghost use Rattle.letters.specs.Letters.{rowLettersOf};
+ghost use Rattle.letters.specs.Written.{Written};
 
 // Its letters from the start, 0 after them, and how many there are.
 pub struct Roster {
@@ -26,7 +26,7 @@ impl Roster {
         while d < n {
             state = rows::state_after(state, numbers::has_bit(p, d as u64));
             let duty = rows::duty_of(b[11 + d], state, numbers::has_bit(q, d as u64));
-            let letter = crate::letters::letter_of(duty as usize);
+            let letter = crate::letter_of(duty as usize);
             next.letters[at + d] = letter;
             d += 1;
         }

@@ -1,8 +1,8 @@
--- `rosters::letters::misplaced_at` meets its contract: a bad letter before the end, the right count, or the count.
-use Rattle.rosters.proofs.LetterLaws.{place-bad, place-none, place-count}
+-- `letters::misplaced_at` meets its contract: a bad letter before the end, the right count, or the count.
+use Rattle.letters.proofs.LetterLaws.{place-bad, place-none, place-count}
 use borrow.Author.Needs.{needs}
-use Rattle.rosters.proofs.letters.misplaced_at.Statement.{statement}
-use Rattle.rosters.proofs.letters.misplaced_at.Tie as tie
+use Rattle.letters.proofs.misplaced_at.Statement.{statement}
+use Rattle.letters.proofs.misplaced_at.Tie as tie
 
 first-bad-requires : tie.Need-first-bad-requires
 first-bad-requires c κs = search needs

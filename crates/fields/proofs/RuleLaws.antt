@@ -16,8 +16,8 @@ small-rules w ok = record { longest = ok .run-some; g1 = ok .gap1-most; g2 = ok 
 pub rules-small : (w : List ℕ) (r : Rules) → Accepted w → r ≡ rulesOf w → Small r
 rules-small w r ok e = subst Small (sym e) (small-rules w ok)
 
-pub block-is : (w : List ℕ) (i : ℕ) (b : List ℕ) → Accepted w → i < nurses w → b ≡ block w i → Block b (days w)
-block-is w i b ok h e = subst (λ (x : List ℕ). Block x (days w)) (sym e) (ok .blocks i h)
+pub block-as : (w : List ℕ) (i : ℕ) {b : List ℕ} {n : ℕ} → Accepted w → i < nurses w → b ≡ block w i → n ≡ days w → Block b n
+block-as w i {b} {n} a h e en = subst (λ (x : List ℕ). Block x n) (sym e) (subst (λ (k : ℕ). Block (block w i) k) (sym en) (a .blocks i h))
 
 -- a choice of two keeps what both have
 cond-le : (b : Bool) (x y m : ℕ) → x ≤ m → y ≤ m → cond b x y ≤ m

@@ -1,7 +1,7 @@
--- `rosters::written::Roster::with_row` meets its contract. The loop's invariant: the first d letters of the row are in.
+-- `letters::written::Roster::with_row` meets its contract. The loop's invariant: the first d letters of the row are in.
 
 use borrow.Author.Needs.{needs}
-use Rattle.rosters.specs.Letters.{letter, rowLettersOf}
+use Rattle.letters.specs.Letters.{letter, rowLettersOf}
 use Prim.Native.Nat.{_≤_, _-_}
 use mathlib.Core.Path.{_≡_, refl, sym, ap, _∙_}
 use native.Mathlib.Omega.{arith}
@@ -9,10 +9,10 @@ use lib.ListN.{length}
 use lib.Seq.{paste, paste-zero}
 use Rattle.rows.specs.Rows.{rowState}
 use Rattle.rows.proofs.RowLaws.{row-zero}
-use Rattle.rosters.proofs.RowLaws.{state-step, duty-step}
-use Rattle.rosters.proofs.WriteLaws.{letter-put, row-put}
-use Rattle.rosters.proofs.written.Roster.with_row.Statement.{statement}
-use Rattle.rosters.proofs.written.Roster.with_row.Tie as tie
+use Rattle.letters.proofs.RowLaws.{state-step, duty-step}
+use Rattle.letters.proofs.WriteLaws.{letter-put, row-put}
+use Rattle.letters.proofs.written.Roster.with_row.Statement.{statement}
+use Rattle.letters.proofs.written.Roster.with_row.Tie as tie
 
 abbrev Inv-loop : tie.InvT-loop
 Inv-loop b n p q next₀ at state₀ d₀ next state d = (d ≤ n) × (state ≡ rowState b p d) × (next .letters ≡ paste (next₀ .letters) at (rowLettersOf b n p q) d)

@@ -1,9 +1,10 @@
-// Letters: their duties, and question 12.
+// The letters of a roster: which duty each is, question 12, and the roster that patterns make.
+pub mod written;
+
 ghost use mathlib.Core.Path.{_≡_};
 ghost use Prim.Native.Nat.{_<_};
-ghost use Rattle.rosters.specs.Letters.{letter, isLetter};
-ghost use Rattle.rosters.specs.Check.{misplaced};
-ghost use Rattle.rosters.specs.Walk.{badFrom, foundOf};
+ghost use Rattle.letters.specs.Letters.{letter, isLetter, misplaced};
+ghost use Rattle.letters.specs.Walk.{badFrom, foundOf};
 
 const LETTERS: [u8; 5] = [b'/', b'-', b'N', b'n', b'+'];
 

@@ -11,9 +11,8 @@ use lib.Dec.{eqb}
 use lib.ListN.{length, getD, drop, drop-of-length-le}
 use lib.Seq.{drop-cons}
 use Rattle.rows.specs.Rows.{stateAfter, available, dutyOf}
-use Rattle.rosters.specs.Letters.{letter, isLetter}
-use Rattle.rosters.specs.Check.{firstBad, orCount, misplaced}
-use Rattle.rosters.specs.Walk.{badFrom}
+use Rattle.letters.specs.Letters.{letter, isLetter, firstBad, orCount, misplaced}
+use Rattle.letters.specs.Walk.{badFrom}
 
 -- ---- the loop: W is the answer, i the index it has come to
 

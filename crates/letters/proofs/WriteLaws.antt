@@ -9,11 +9,10 @@ use lib.ListN.{length, take, drop, set as setAt, replicate, length-replicate, re
 use lib.Seq.{paste, paste-suc, take-at, drop-at, take-all, drop-append-add}
 use Rattle.fields.specs.Fields.{Accepted, nurses, days, block}
 use Rattle.rows.specs.Rows.{dutyOn}
-use Rattle.rosters.specs.Letters.{letter, rowLettersOf, rowLetters, letters}
-use Rattle.rosters.proofs.RowLaws.{row-length, row-at, row-fits}
-use Rattle.rosters.specs.Written.{Written}
-use Rattle.rosters.specs.declared.written.Roster.{Roster}
-use Rattle.rosters.proofs.GivenLaws.{letters-length}
+use Rattle.letters.specs.Letters.{letter, rowLettersOf, rowLetters, letters}
+use Rattle.letters.proofs.RowLaws.{row-length, row-at, row-fits, letters-length}
+use Rattle.letters.specs.Written.{Written}
+use Rattle.letters.specs.declared.written.Roster.{Roster}
 
 -- ---- a row, put in over what stood at its places
 

@@ -1,9 +1,9 @@
--- `rosters::letters::letter_of` meets its contract: the table is the definition's list.
+-- `letters::letter_of` meets its contract: the table is the definition's list.
 use mathlib.Core.Path.{refl}
-use Rattle.rosters.specs.Letters.{letter}
+use Rattle.letters.specs.Letters.{letter}
 use borrow.Author.Needs.{needs}
-use Rattle.rosters.proofs.letters.letter_of.Statement.{statement}
-use Rattle.rosters.proofs.letters.letter_of.Tie as tie
+use Rattle.letters.proofs.letter_of.Statement.{statement}
+use Rattle.letters.proofs.letter_of.Tie as tie
 
 array-read-result : tie.Need-array-read-result
 array-read-result c = search needs

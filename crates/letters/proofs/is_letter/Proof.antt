@@ -1,9 +1,9 @@
--- `rosters::letters::is_letter` meets its contract: the five letters in turn.
+-- `letters::is_letter` meets its contract: the five letters in turn.
 
 use borrow.Author.Tests.{eq-eqb, ne-eqb}
-use Rattle.rosters.specs.Letters.{isLetter}
-use Rattle.rosters.proofs.letters.is_letter.Statement.{statement}
-use Rattle.rosters.proofs.letters.is_letter.Tie as tie
+use Rattle.letters.specs.Letters.{isLetter}
+use Rattle.letters.proofs.is_letter.Statement.{statement}
+use Rattle.letters.proofs.is_letter.Tie as tie
 
 returns : tie.Need-returns
 unfolding isLetter

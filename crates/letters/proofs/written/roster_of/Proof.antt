@@ -1,13 +1,13 @@
--- `rosters::written::roster_of` meets its contract. The loop's invariant: the first i nurses' rows are in.
+-- `letters::written::roster_of` meets its contract. The loop's invariant: the first i nurses' rows are in.
 use borrow.Author.Needs.{needs}
 use Prim.Native.Nat.{_≤_, _-_}
 use mathlib.Core.Path.{refl}
 use native.Mathlib.Omega.{arith}
 use lib.ListN.{getD}
-use Rattle.rosters.proofs.CheckLaws.{block-as}
-use Rattle.rosters.proofs.WriteLaws.{WrittenTo, written-start, row-room, written-turn, written-end}
-use Rattle.rosters.proofs.written.roster_of.Statement.{statement}
-use Rattle.rosters.proofs.written.roster_of.Tie as tie
+use Rattle.fields.proofs.RuleLaws.{block-as}
+use Rattle.letters.proofs.WriteLaws.{WrittenTo, written-start, row-room, written-turn, written-end}
+use Rattle.letters.proofs.written.roster_of.Statement.{statement}
+use Rattle.letters.proofs.written.roster_of.Tie as tie
 
 abbrev Inv-loop : tie.InvT-loop
 Inv-loop w nights worked m n roster₀ i₀ roster i = (i ≤ m) × WrittenTo w (λ j. getD nights j 0) (λ j. getD worked j 0) i roster

@@ -1,13 +1,13 @@
--- `rosters::letters::first_bad` meets its contract. The loop's invariant: the answer is that of the letters from i on.
+-- `letters::first_bad` meets its contract. The loop's invariant: the answer is that of the letters from i on.
 use Prim.Native.Nat.{_≤_, _-_}
 use mathlib.Core.Path.{_≡_, refl, sym, _∙_}
 use native.Mathlib.Omega.{arith}
 use lib.ListN.{length, drop}
-use Rattle.rosters.specs.Walk.{badFrom}
-use Rattle.rosters.proofs.LetterLaws.{bad-more, bad-stop, bad-end}
+use Rattle.letters.specs.Walk.{badFrom}
+use Rattle.letters.proofs.LetterLaws.{bad-more, bad-stop, bad-end}
 use borrow.Author.Needs.{needs}
-use Rattle.rosters.proofs.letters.first_bad.Statement.{statement}
-use Rattle.rosters.proofs.letters.first_bad.Tie as tie
+use Rattle.letters.proofs.first_bad.Statement.{statement}
+use Rattle.letters.proofs.first_bad.Tie as tie
 
 abbrev Inv-loop : tie.InvT-loop
 Inv-loop roster i₀ i = (i ≤ length roster) × (badFrom 0 roster ≡ badFrom i (drop i roster))
