@@ -1,6 +1,6 @@
 -- The masks' meaning: which days bar a row, which are available under it, and when last month's run does not matter.
 use mathlib.Core.Path.{_≡_, refl, sym, ap, ap₂, _∙_, subst}
-use mathlib.Core.Bool.{Bool, true, false, cond, not, _&&_, _||_, and-false, and-comm, true≢false}
+use mathlib.Core.Bool.{Bool, true, false, cond, not, _&&_, _||_, and-false, and-comm}
 use mathlib.Core.List.{List}
 use Prim.Native.Nat.{ℕ, zero, suc, _+_, _-_, _*_, _/_, _^_, _≤_, _<_, suc-le-suc}
 use native.Mathlib.Nat.{add-zero, lt-of-le-of-lt}
@@ -25,8 +25,10 @@ use Rattle.nights.specs.declared.Run.{Run}
 use Rattle.own.specs.declared.masks.Bars.{Bars}
 use Rattle.own.specs.declared.masks.Masks.{Masks}
 use Rattle.own.specs.declared.masks.Row.{Row}
-use Rattle.own.specs.Masks.{barred, workable, near, barsOf, masksOf, Masked, RowOf, AvailableDays}
+use Rattle.own.specs.Masks.{barred, workable, never, near, barsOf, masksOf, Masked, RowOf, AvailableDays}
+use Rattle.nights.specs.Nights.{inCommon}
 use Rattle.nights.specs.Hers.{lastRun}
+use Rattle.nights.proofs.FollowLaws.{common-apart}
 
 -- ---- the loops that make a set of days
 
@@ -243,21 +245,13 @@ available-where : (b : List ℕ) (p d : ℕ) → (workable b (suc d) && eqb (row
 unfolding availableOn
 available-where b p d = and-comm (workable b (suc d)) (eqb (rowState b p (suc d)) 0)
 
-middle-of : (s t u v : Bool) → (((s || t) || u) || v) ≡ false → (t || u) ≡ false
-middle-of false t false v e = middle t v e
-  where
-    middle : (t v : Bool) → ((t || false) || v) ≡ false → (t || false) ≡ false
-    middle true v e = e
-    middle false v e = refl
-middle-of false true true v e = e
-middle-of false false true v e = e
-middle-of true t u v e = absurd (true≢false e)
-
-or-middle : (s t u v d : ℕ) → has (bitOr (bitOr (bitOr s t) u) v) d ≡ false → has (bitOr t u) d ≡ false
-or-middle s t u v d e =
-    let q : has (bitOr (bitOr (bitOr s t) u) v) d ≡ (((has s d || has t d) || has u d) || has v d)
-    = has-or (bitOr (bitOr s t) u) v d ∙ ap (λ (x : Bool). x || has v d) (has-or (bitOr s t) u d ∙ ap (λ (x : Bool). x || has u d) (has-or s t d)) in
-    has-or t u d ∙ middle-of (has s d) (has t d) (has u d) (has v d) (sym q ∙ e)
+-- a day's mark allows the row's state there
+allowed-at : (b : List ℕ) (n p : ℕ) → marksAllow b n p ≡ true → (i : ℕ) → i < n → allows (getD b (11 + i) 0) (rowState b p (suc i)) ≡ true
+unfolding marksAllow
+allowed-at b n p e i q =
+    let at = all-at (λ d. allows (markOn b d) (rowState b p d)) (upFrom 1 n) e i (rw (length-range 1 n) q) in
+    let here : getD (upFrom 1 n) i 0 ≡ suc i = range-at 1 n i q ∙ one-add i in
+    subst (λ (d : ℕ). allows (markOn b d) (rowState b p d) ≡ true) here at
 
 -- the days that bar the row, as the code has them
 abbrev barring : ℕ → List ℕ → Row → ℕ
@@ -307,14 +301,8 @@ module _ (b : List ℕ) (n p : ℕ) (x : Row) (ok : RowOf b p x) where
   barred-not small e zero l = barring-has 0 l ∙ set-has (barred b (rowState b p 0)) n 0 (omega arith)
   barred-not small e (suc i) l = barring-has (suc i) l ∙ go (decLt i n)
     where
-      there : i < n → allows (getD b (11 + i) 0) (rowState b p (suc i)) ≡ true
-      there q =
-          let at = all-at (λ d. allows (markOn b d) (rowState b p d)) (upFrom 1 n) e i (rw (length-range 1 n) q) in
-          let here : getD (upFrom 1 n) i 0 ≡ suc i = range-at 1 n i q ∙ one-add i in
-          subst (λ (d : ℕ). allows (markOn b d) (rowState b p d) ≡ true) here at
-
       go : Dec (i < n) → has (numberOf (barred b (rowState b p (suc i))) (suc n)) (suc i) ≡ false
-      go (yes q) = set-has (barred b (rowState b p (suc i))) n (suc i) (suc-le-suc q) ∙ ap not (there q)
+      go (yes q) = set-has (barred b (rowState b p (suc i))) n (suc i) (suc-le-suc q) ∙ ap not (allowed-at b n p e i q)
       go (no q) = set-above (barred b (rowState b p (suc i))) n (suc i) (omega arith)
 
   barring-small : n ≤ 31 → barring n b x < 2 ^ 64
@@ -333,30 +321,6 @@ module _ (b : List ℕ) (n p : ℕ) (x : Row) (ok : RowOf b p x) where
       go true t e f = e ∙ sym (none-bars small (eqb-true (barring n b x) 0 e))
       go false false e f = e ∙ sym f
       go false true e f = absurd (eqb-false (barring n b x) 0 e (none-zero 64 (barring n b x) (barring-small small) (barred-not small f)))
-
-  -- one of her N or n days is barred: her marks don't allow the row
-  pub nights-by-sets : n ≤ 31 → (bitOr (bitAnd (x .night) (numberOf (barred b 1) (suc n))) (bitAnd (x .second) (numberOf (barred b 2) (suc n))) ≡ 0 → ⊥) → false ≡ marksAllow b n p
-  nights-by-sets small f = go (marksAllow b n p) refl
-    where
-      starts : ℕ
-      starts = bitAnd (x .night) (numberOf (barred b 1) (suc n))
-
-      seconds : ℕ
-      seconds = bitAnd (x .second) (numberOf (barred b 2) (suc n))
-
-      unbarred : marksAllow b n p ≡ true → (d : ℕ) → d < 64 → has (bitOr starts seconds) d ≡ false
-      unbarred e d l =
-          or-middle (bitAnd ((2 ^ 64 - 1) - bitOr (bitOr (x .night) (x .second)) (x .rest)) (numberOf (barred b 0) (suc n))) starts seconds
-          (bitAnd (x .rest) (numberOf (barred b 3) (suc n))) d (barred-not small e d l)
-
-      fits : bitOr starts seconds < 2 ^ 64
-      fits =
-          or-lt 64 starts seconds (omega (arith, and-le-r (x .night) (numberOf (barred b 1) (suc n)), set-small (barred b 1) n small))
-          (omega (arith, and-le-r (x .second) (numberOf (barred b 2) (suc n)), set-small (barred b 2) n small))
-
-      go : (t : Bool) → marksAllow b n p ≡ t → false ≡ marksAllow b n p
-      go true e = absurd (f (none-zero 64 (bitOr starts seconds) fits (unbarred e)))
-      go false e = sym e
 
   -- ---- the days on which she is available
 
@@ -378,6 +342,67 @@ module _ (b : List ℕ) (n p : ℕ) (x : Row) (ok : RowOf b p x) where
           ∙ ap₂ _&&_ (set-has (workable b) n (suc d) (suc-le-suc l)) (open-day (suc d) (omega arith))
           ∙ available-where b p d
 
+-- ---- days on which no pattern of hers starts
+
+-- the days without a start fit a pattern
+pub never-fits : (n : ℕ) (b : List ℕ) {bs : Bars} → bs ≡ barsOf n b → n ≤ 31 → bitOr (bs .night / 2) (bs .second / 4) < 2 ^ 32
+never-fits n b e small =
+    rw e
+    (or-lt 32 (numberOf (barred b 1) (suc n) / 2) (numberOf (barred b 2) (suc n) / 4)
+    (omega (arith, set-small (barred b 1) n small)) (omega (arith, set-small (barred b 2) n small)))
+
+module _ (r : Rules) (n p : ℕ) (b : List ℕ) (small : n ≤ 31) (known : inCommon r n p ≡ true) where
+  night-state : (d : ℕ) → has p d ≡ true → rowState b p (suc d) ≡ 1
+  unfolding rowState
+  night-state d q = rw q
+
+  second-state : (d : ℕ) → has p d ≡ true → has p (suc d) ≡ false → rowState b p (suc (suc d)) ≡ 2
+  unfolding rowState
+  second-state d q s = rw (s, q)
+
+  own-day : marksAllow b n p ≡ true → (d : ℕ) → has p d ≡ true → has (numberOf (barred b 1) (suc n)) (suc d) ≡ false
+  own-day e d q = go (decLt d n)
+    where
+      go : Dec (d < n) → has (numberOf (barred b 1) (suc n)) (suc d) ≡ false
+      go (yes l) =
+          set-has (barred b 1) n (suc d) (suc-le-suc l)
+          ∙ ap not (subst (λ (t : ℕ). allows (getD b (11 + d) 0) t ≡ true) (night-state d q) (allowed-at b n p e d l))
+      go (no l) = set-above (barred b 1) n (suc d) (omega arith)
+
+  next-day : marksAllow b n p ≡ true → (d : ℕ) → has p d ≡ true → has (numberOf (barred b 2) (suc n)) (suc (suc d)) ≡ false
+  next-day e d q = go (decLt (suc d) n)
+    where
+      go : Dec (suc d < n) → has (numberOf (barred b 2) (suc n)) (suc (suc d)) ≡ false
+      go (yes l) =
+          set-has (barred b 2) n (suc (suc d)) (suc-le-suc l)
+          ∙ ap not (subst (λ (t : ℕ). allows (getD b (11 + suc d) 0) t ≡ true) (second-state d q (common-apart r n p d known q l)) (allowed-at b n p e (suc d) l))
+      go (no l) = set-above (barred b 2) n (suc (suc d)) (omega arith)
+
+  never-has : (d : ℕ) → has (never n b) d ≡ (has (numberOf (barred b 1) (suc n)) (suc d) || has (numberOf (barred b 2) (suc n)) (suc (suc d)))
+  never-has d =
+      let Y = numberOf (barred b 2) (suc n) in
+      let quarter : Y / 4 ≡ Y / 2 / 2 = omega arith in
+      has-or (numberOf (barred b 1) (suc n) / 2) (Y / 4) d
+      ∙ ap₂ _||_ (has-back (numberOf (barred b 1) (suc n)) d) (ap (λ (y : ℕ). has y d) quarter ∙ has-back (Y / 2) d ∙ has-back Y (suc d))
+
+  unbarred : marksAllow b n p ≡ true → (d : ℕ) → (has p d && has (never n b) d) ≡ false
+  unbarred e d = go (has p d) refl
+    where
+      go : (t : Bool) → has p d ≡ t → (has p d && has (never n b) d) ≡ false
+      go true q = rw (q, never-has d, own-day e d q, next-day e d q)
+      go false q = rw q
+
+  never-small : bitAnd p (never n b) < 2 ^ 32
+  never-small =
+      lt-of-le-of-lt (and-le-r p (never n b)) (never-fits n b refl small)
+
+  pub marks-never : (bitAnd p (never n b) ≡ 0 → ⊥) → marksAllow b n p ≡ false
+  marks-never f = go (marksAllow b n p) refl
+    where
+      go : (t : Bool) → marksAllow b n p ≡ t → marksAllow b n p ≡ false
+      go true e = absurd (f (none-zero 32 (bitAnd p (never n b)) never-small (λ d l. has-and p (never n b) d ∙ unbarred e d)))
+      go false e = e
+
 -- ---- the same of a nurse's masks
 
 module _ (r : Rules) (n p : ℕ) (b : List ℕ) (m : Masks) (is : m ≡ masksOf r n b) where
@@ -394,12 +419,6 @@ module _ (r : Rules) (n p : ℕ) (b : List ℕ) (m : Masks) (is : m ≡ masksOf 
   unfolding masksOf
   masks-allow small x ok = rw (ap (λ (k : Masks). k .bars) is) (marks-by-sets b n p x ok small)
 
-  pub masks-bar : n ≤ 31 → (x : Row) → RowOf b p x → (bitOr (bitAnd (x .night) (m .bars .night)) (bitAnd (x .second) (m .bars .second)) ≡ 0 → ⊥) → false ≡ marksAllow b n p
-  unfolding masksOf
-  masks-bar small x ok f =
-      nights-by-sets b n p x ok small
-      (λ q. f (ap (λ (k : Bars). bitOr (bitAnd (x .night) (k .night)) (bitAnd (x .second) (k .second))) (ap (λ (k : Masks). k .bars) is) ∙ q))
-
   pub masks-available : n ≤ 31 → (x : Row) → RowOf b p x
       → AvailableDays b n p (bitAnd (m .workable) ((2 ^ 64 - 1) - bitOr (bitOr (x .night) (x .second)) (x .rest)) / 2)
   unfolding masksOf
@@ -410,7 +429,7 @@ module _ (r : Rules) (n p : ℕ) (b : List ℕ) (m : Masks) (is : m ≡ masksOf 
 module _ (r : Rules) (n : ℕ) (b : List ℕ) (bs : Bars) (wk ni se ne : ℕ) (la : Run)
     (e1 : bs ≡ barsOf n b) (e2 : wk ≡ numberOf (workable b) (suc n)) (e3 : ni ≡ oneIf (eqb (duty b 6) 2)) (e4 : se ≡ oneIf (eqb (duty b 6) 3)) where
   pub masks-made : ne ≡ 2 ^ near r (la .prev) (la .run) - 1 → (la .prev ≡ lastRun b .0) × (la .run ≡ lastRun b .1)
-      → record { bars = bs; workable = wk; night = ni; second = se; near = ne; last = la; least = getD b 7 0; most = getD b 8 0 } ≡ masksOf r n b
+      → record { bars = bs; never = bitOr (bs .night / 2) (bs .second / 4); workable = wk; night = ni; second = se; near = ne; last = la; least = getD b 7 0; most = getD b 8 0 } ≡ masksOf r n b
   unfolding masksOf
   masks-made e5 (e6, e7) =
       let run : la ≡ record { prev = lastRun b .0; run = lastRun b .1 } = ap₂ (λ (x y : ℕ). record { prev = x; run = y }) e6 e7 in
@@ -418,7 +437,7 @@ module _ (r : Rules) (n : ℕ) (b : List ℕ) (bs : Bars) (wk ni se ne : ℕ) (l
       rw (e1, e2, e3, e4, days, run)
 
   pub masks-small : n ≤ 31 → (la .prev ≤ 7) × (la .run ≤ 7)
-      → Masked (record { bars = bs; workable = wk; night = ni; second = se; near = ne; last = la; least = getD b 7 0; most = getD b 8 0 })
+      → Masked (record { bars = bs; never = bitOr (bs .night / 2) (bs .second / 4); workable = wk; night = ni; second = se; near = ne; last = la; least = getD b 7 0; most = getD b 8 0 })
   masks-small small (h, k) = record {
     night = rw e3 (omega (arith, one-below (eqb (duty b 6) 2)));
     second = rw e4 (omega (arith, one-below (eqb (duty b 6) 3)));

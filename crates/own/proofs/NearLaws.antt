@@ -24,6 +24,7 @@ use Rattle.nights.specs.Hers.{shifted, lastRun, hers}
 use Rattle.own.specs.declared.masks.Masks.{Masks}
 use Rattle.own.specs.Masks.{near, masksOf}
 use Rattle.nights.proofs.FollowLaws.{leb-same, follow-first}
+use Rattle.own.proofs.MaskLaws.{marks-never}
 use Rattle.nights.proofs.StartLaws.{count-starts}
 
 -- ---- the rule does not depend on where the days are counted from
@@ -151,6 +152,10 @@ near-some r prev run g f e = rw (ne-eqb run 0 f, e)
 module _ (r : Rules) (n p : ℕ) (b : List ℕ) (m : Masks) (is : m ≡ masksOf r n b) (small : p < 2 ^ n) (known : inCommon r n p ≡ true) where
   pub out-marks : marksAllow b n p ≡ false → false ≡ hers r n b p
   out-marks e = sym (hers-known r n p b small known ∙ simp (e, and-false))
+
+  pub out-never : n ≤ 31 → (bitAnd p (m .never) ≡ 0 → ⊥) → false ≡ hers r n b p
+  unfolding masksOf
+  out-never days f = out-marks (marks-never r n p b days known (λ q. f (ap (λ (x : Masks). bitAnd p (x .never)) is ∙ q)))
 
   pub out-few : (k : ℕ) → k ≡ countTo n (has p) → k < m .least → false ≡ hers r n b p
   unfolding masksOf

@@ -2,7 +2,7 @@
 use mathlib.Core.Path.{_≡_}
 use mathlib.Core.Bool.{Bool, false, cond, not}
 use mathlib.Core.List.{List}
-use Prim.Native.Nat.{ℕ, zero, suc, _+_, _-_, _^_, _≤_, _<_}
+use Prim.Native.Nat.{ℕ, zero, suc, _+_, _-_, _/_, _^_, _≤_, _<_}
 use lib.Bits.{bitOr}
 use lib.Dec.{eqb}
 use lib.ListN.{getD}
@@ -27,6 +27,10 @@ abbrev pub workable : List ℕ → ℕ → Bool
 workable b zero = false
 workable b (suc d) = available (getD b (11 + d) 0) 0
 
+-- the days, from 0, on which a pattern of the common list may not start: its own mark bars N, or the next day's bars n
+abbrev pub never : ℕ → List ℕ → ℕ
+never n b = bitOr (numberOf (barred b 1) (suc n) / 2) (numberOf (barred b 2) (suc n) / 4)
+
 -- how many of the month's first days are near to last month's run: a start after them is a new run, and far enough from it
 abbrev pub near : Rules → ℕ → ℕ → ℕ
 near r prev run = cond (eqb run 0) 0 (prev + gap r run - 5)
@@ -42,6 +46,7 @@ barsOf n b = record {
 unfoldable pub masksOf : Rules → ℕ → List ℕ → Masks
 masksOf r n b = record {
   bars = barsOf n b;
+  never = never n b;
   workable = numberOf (workable b) (suc n);
   night = oneIf (eqb (duty b 6) 2);
   second = oneIf (eqb (duty b 6) 3);

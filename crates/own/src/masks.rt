@@ -27,6 +27,8 @@ pub struct Bars {
 
 pub struct Masks {
     pub bars: Bars,
+    // The pattern of the days on which no pattern of hers has a start: its own mark bars N, or the next day's mark bars n.
+    pub never: u32,
     // The days whose marks let her work them where they are open.
     pub workable: u64,
     // 1 where day 0 is N, and where it is n.
@@ -144,8 +146,10 @@ fn masks_by(r: Rules, n: u64, b: &[u64]) -> Masks
     let bars = bars_of(b, n);
     let last = nights::last_run(b);
     let near = numbers::bit(near_days(r, last.prev, last.run)) - 1;
+    let never = ((bars.night / 2) | (bars.second / 4)) as u32;
     Masks {
         bars,
+        never,
         workable: workable_days(b, n),
         night: one_if(b[6] == 2),
         second: one_if(b[6] == 3),
@@ -194,10 +198,6 @@ fn marks_pass(m: Masks, p: u32) -> bool
     ensures { λ h. ⌜ ((r : Rules) (n : ℕ) (b : List ℕ) → n ≤ 31 → m ≡ masksOf r n b → h ≡ marksAllow b n p) ⌝ }
 {
     let row = row_of(m, p);
-    // Nearly all patterns that are not hers fail here.
-    if (row.night & m.bars.night) | (row.second & m.bars.second) != 0 {
-        return false;
-    }
     let free = !(row.night | row.second | row.rest);
     (free & m.bars.free)
         | (row.night & m.bars.night)
@@ -222,6 +222,10 @@ pub fn passes(w: &[u64], m: Masks, p: u32) -> bool
     requires { ⌜ Masked m ⌝ }
     ensures { λ h. ⌜ ((i : ℕ) → m ≡ masksOf (rulesOf (now (w .entry))) (days (now (w .entry))) (block (now (w .entry)) i) → p < 2 ^ days (now (w .entry)) → inCommon (rulesOf (now (w .entry))) (days (now (w .entry))) p ≡ true → h ≡ hersOf (now (w .entry)) i p) ⌝ }
 {
+    // Nearly all patterns that are not hers fail here.
+    if p & m.never != 0 {
+        return false;
+    }
     if !marks_pass(m, p) {
         return false;
     }
