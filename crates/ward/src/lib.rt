@@ -82,6 +82,15 @@ pub struct Writing {
     pub bytes: usize,
 }
 
+fn no(question: u32, place: usize) -> Checked
+    ensures { λ r. ⌜ r ≡ record { answer = Answer.No question place; bytes = 0 } ⌝ }
+{
+    Checked {
+        answer: Answer::No { question, place },
+        bytes: 0,
+    }
+}
+
 // The questions 1, 3, 4 and 5 of a ward's counted numbers.
 fn questions(ward: Ward) -> Checked
     ensures { λ r. ⌜ r ≡ checkedOf (checkWard (counted ward)) ⌝ }
@@ -94,13 +103,7 @@ fn questions(ward: Ward) -> Checked
         match layout::wanted_at(c) {
             Want::Nothing => {
                 if i < count {
-                    return Checked {
-                        answer: Answer::No {
-                            question: 5,
-                            place: i,
-                        },
-                        bytes: 0,
-                    };
+                    return no(5, i);
                 }
                 return Checked {
                     answer: Answer::Yes,
@@ -109,21 +112,12 @@ fn questions(ward: Ward) -> Checked
             }
             Want::Next(f) => {
                 if i >= count {
-                    return Checked {
-                        answer: Answer::No {
-                            question: 1,
-                            place: i,
-                        },
-                        bytes: 0,
-                    };
+                    return no(1, i);
                 }
                 let v = ward.numbers[i];
                 let question = layout::ask(f, v);
                 if question != 0 {
-                    return Checked {
-                        answer: Answer::No { question, place: i },
-                        bytes: 0,
-                    };
+                    return no(question, i);
                 }
                 bytes += codec::size(v);
                 i += 1;

@@ -18,6 +18,7 @@ use Rattle.codec.proofs.size.Reads as size-reads
 use Rattle.layout.proofs.start.Reads as start-reads
 use Rattle.layout.proofs.step.Reads as step-reads
 use Rattle.layout.proofs.wanted_at.Reads as wanted-at-reads
+use Rattle.ward.proofs.no.Reads as no-reads
 
 abbrev Inv-loop : tie.InvT-loop
 Inv-loop ward count i₀ bytes₀ c₀ i bytes c = Walked ward i bytes (tree c)
@@ -39,8 +40,11 @@ wanted-at-requires c κs = small (4094 - c .loop .i) (tree (c .loop .c)) (c .loo
 enum-told : tie.Need-enum-told Inv-loop μ-loop
 enum-told c = search needs
 
+no-requires : tie.Need-no-requires Inv-loop μ-loop
+no-requires c κs = search needs
+
 returns : tie.Need-returns Inv-loop μ-loop
-returns c = extra _ _ _ _ (c .before .before .before .before .loop .inv) (sym (c .before .before .before .wanted-at .ensures) ∙ c .before .enum-told .given .1) (c .if1 .taken)
+returns c = c .no .ensures ∙ extra _ _ _ _ (c .before .before .before .before .before .loop .inv) (sym (c .before .before .before .before .wanted-at .ensures) ∙ c .before .before .enum-told .given .1) (c .before .if1 .taken)
 
 returns-2 : tie.Need-returns-2 Inv-loop μ-loop
 returns-2 c = whole _ _ _ _ (c .before .before .before .before .loop .inv) (sym (c .before .before .before .wanted-at .ensures) ∙ c .before .enum-told .given .1) (c .if1 .left)
@@ -48,8 +52,11 @@ returns-2 c = whole _ _ _ _ (c .before .before .before .before .loop .inv) (sym 
 enum-known-f : tie.Need-enum-known-f Inv-loop μ-loop
 enum-known-f c = search needs
 
+no-requires-2 : tie.Need-no-requires-2 Inv-loop μ-loop
+no-requires-2 c κs = search needs
+
 returns-3 : tie.Need-returns-3 Inv-loop μ-loop
-returns-3 c = missing _ _ _ _ (c .before .before .before .before .before .loop .inv) _ (sym (c .before .before .before .before .wanted-at .ensures) ∙ c .before .before .f .given .1) (c .if2 .taken)
+returns-3 c = c .no2 .ensures ∙ missing _ _ _ _ (c .before .before .before .before .before .before .loop .inv) _ (sym (c .before .before .before .before .before .wanted-at .ensures) ∙ c .before .before .before .f .given .1) (c .before .if2 .taken)
 
 mul-v : tie.Need-mul-v Inv-loop μ-loop
 mul-v c = let s = room-here _ _ _ _ (c .before .before .before .before .before .loop .inv) _ (sym (c .before .before .before .before .wanted-at .ensures) ∙ c .before .before .f .given .1) in omega arith
@@ -60,10 +67,13 @@ element-copy-out-v c = room-here _ _ _ _ (c .before .before .before .before .bef
 ask-requires : tie.Need-ask-requires Inv-loop μ-loop
 ask-requires c κs = search needs
 
+no-requires-3 : tie.Need-no-requires-3 Inv-loop μ-loop
+no-requires-3 c κs = search needs
+
 returns-4 : tie.Need-returns-4 Inv-loop μ-loop
 returns-4 c =
-    ap (λ q. record { answer = No q (c .before .before .before .before .before .before .before .before .loop .i); bytes = 0 }) (c .before .ask .ensures)
-    ∙ failed _ _ _ _ (c .before .before .before .before .before .before .before .before .loop .inv) _ (sym (c .before .before .before .before .before .before .before .wanted-at .ensures) ∙ c .before .before .before .before .before .f .given .1) (c .before .before .before .if2 .left) (λ z. c .if3 .taken (c .before .ask .ensures ∙ z))
+    c .no3 .ensures ∙ ap (λ q. record { answer = No q (c .before .before .before .before .before .before .before .before .before .loop .i); bytes = 0 }) (c .before .before .ask .ensures)
+    ∙ failed _ _ _ _ (c .before .before .before .before .before .before .before .before .before .loop .inv) _ (sym (c .before .before .before .before .before .before .before .before .wanted-at .ensures) ∙ c .before .before .before .before .before .before .f .given .1) (c .before .before .before .before .if2 .left) (λ z. c .before .if3 .taken (c .before .before .ask .ensures ∙ z))
 
 size-requires : tie.Need-size-requires Inv-loop μ-loop
 size-requires c κs = below _ _ _ _ (c .before .before .before .before .before .before .before .before .loop .inv) _ (sym (c .before .before .before .before .before .before .before .wanted-at .ensures) ∙ c .before .before .before .before .before .f .given .1) (c .before .before .before .if2 .left) (sym (c .before .ask .ensures) ∙ c .if3 .left)
@@ -95,13 +105,16 @@ questions-spec =
     loop-holds
     wanted-at-requires
     enum-told
+    no-requires
     returns
     returns-2
     enum-known-f
+    no-requires-2
     returns-3
     mul-v
     element-copy-out-v
     ask-requires
+    no-requires-3
     returns-4
     size-requires
     add-bytes
