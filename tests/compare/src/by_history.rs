@@ -39,43 +39,27 @@ impl Calls for ByHistory {
         Reference.write(numbers, count, buffer, answer)
     }
 
-    fn advance_nights(
-        &self,
-        file: &[u8],
-        record: &mut Words,
-        k: u32,
-        buffer: &mut [u32],
-        answer: &mut Answer,
-    ) {
+    fn advance_nights(&self, file: &[u8], k: u32, mut handed: Handed) {
         let mut history = self.0.lock().expect("no other advance failed");
-        let call = Call { k: k.into(), places: buffer.len() };
+        let call = Call { k: k.into(), places: handed.buffer.len() };
         let advanced = parse(file).and_then(|ward| {
             let answered = history::advance_night(&ward, &mut history, call);
             let list = || NightPhase::open(&ward, call.places).map_or(vec![], |p| p.buffer());
             advanced(&ward, &history, answered, &list)
         });
-        hand_back(advanced, record, buffer, None, answer);
+        hand_back(advanced, &mut handed);
     }
 
-    fn advance_days(
-        &self,
-        file: &[u8],
-        nights: &Nights,
-        record: &mut Words,
-        k: u32,
-        buffer: &mut [u32],
-        roster: &mut Letters,
-        answer: &mut Answer,
-    ) {
+    fn advance_days(&self, file: &[u8], nights: &Nights, k: u32, mut handed: Handed) {
         let mut history = self.0.lock().expect("no other advance failed");
-        let call = Call { k: k.into(), places: buffer.len() };
+        let call = Call { k: k.into(), places: handed.buffer.len() };
         let advanced = parse(file).and_then(|ward| {
             let answered = history::advance_day(&ward, nights, &mut history, call);
             let lists =
                 || DayPhase::open(&ward, nights, call.places).map_or(vec![], |p| p.buffer());
             advanced(&ward, &history, answered, &lists)
         });
-        hand_back(advanced, record, buffer, Some(roster), answer);
+        hand_back(advanced, &mut handed);
     }
 
     fn check(&self, file: &[u8], roster: &[u8], answer: &mut Answer) {

@@ -30,31 +30,23 @@ pub const NONE: u64 = 3;
 pub const YES: u64 = 1;
 pub const NO: u64 = 2;
 
+/// The memory lent to an advance.
+pub struct Handed<'a> {
+    pub record: &'a mut Words,
+    pub buffer: &'a mut [u32],
+    /// by day
+    pub roster: Option<&'a mut Letters>,
+    pub answer: &'a mut Answer,
+}
+
 pub trait Calls: Sync {
     fn read(&self, file: &[u8], numbers: &mut Numbers, answer: &mut Answer);
 
     fn write(&self, numbers: &Numbers, count: u64, buffer: &mut [u8], answer: &mut Answer);
 
-    fn advance_nights(
-        &self,
-        file: &[u8],
-        record: &mut Words,
-        k: u32,
-        buffer: &mut [u32],
-        answer: &mut Answer,
-    );
+    fn advance_nights(&self, file: &[u8], k: u32, handed: Handed);
 
-    #[allow(clippy::too_many_arguments)] // as many as the C function has
-    fn advance_days(
-        &self,
-        file: &[u8],
-        nights: &Nights,
-        record: &mut Words,
-        k: u32,
-        buffer: &mut [u32],
-        roster: &mut Letters,
-        answer: &mut Answer,
-    );
+    fn advance_days(&self, file: &[u8], nights: &Nights, k: u32, handed: Handed);
 
     fn check(&self, file: &[u8], roster: &[u8], answer: &mut Answer);
 }

@@ -167,13 +167,13 @@ fn call(calls: &dyn Calls, case: &Case, left: &mut Left) {
             calls.write(array(numbers.part()), *count, bytes.part_mut(), answer)
         }
         Case::Nights { k, .. } => {
-            let record = array_mut(record.part_mut());
-            calls.advance_nights(file.part(), record, *k, buffer.part_mut(), answer)
+            let (record, buffer) = (array_mut(record.part_mut()), buffer.part_mut());
+            calls.advance_nights(file.part(), *k, Handed { record, buffer, roster: None, answer })
         }
         Case::Days { k, .. } => {
-            let record = array_mut(record.part_mut());
-            let (nights, roster) = (array(nights.part()), array_mut(letters.part_mut()));
-            calls.advance_days(file.part(), nights, record, *k, buffer.part_mut(), roster, answer)
+            let (record, buffer) = (array_mut(record.part_mut()), buffer.part_mut());
+            let (nights, roster) = (array(nights.part()), Some(array_mut(letters.part_mut())));
+            calls.advance_days(file.part(), nights, *k, Handed { record, buffer, roster, answer })
         }
         Case::Check { .. } => calls.check(file.part(), letters.part(), answer),
     }

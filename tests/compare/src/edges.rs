@@ -76,6 +76,21 @@ impl AtEdge<'_> {
     fn lend<T: Copy>(&self, content: &[T]) -> Fenced<T> {
         Fenced::holding(content, self.edge)
     }
+
+    /// An advance on copies of what it is lent, by day a roster too.
+    fn advanced(&self, handed: Handed, advance: impl FnOnce(Handed)) {
+        let Handed { record, buffer, roster, answer } = handed;
+        let (mut r, mut b, mut a) = (self.lend(record), self.lend(buffer), self.lend(answer));
+        let mut l = roster.as_deref().map(|letters| self.lend(letters));
+        let copied = l.as_mut().map(|letters| letters.array());
+        advance(Handed { record: r.array(), buffer: b.part(), roster: copied, answer: a.array() });
+        record.copy_from_slice(r.part());
+        buffer.copy_from_slice(b.part());
+        if let (Some(roster), Some(l)) = (roster, &mut l) {
+            roster.copy_from_slice(l.part());
+        }
+        answer.copy_from_slice(a.part());
+    }
 }
 
 impl Calls for AtEdge<'_> {
@@ -93,40 +108,14 @@ impl Calls for AtEdge<'_> {
         answer.copy_from_slice(a.part());
     }
 
-    fn advance_nights(
-        &self,
-        file: &[u8],
-        record: &mut Words,
-        k: u32,
-        buffer: &mut [u32],
-        answer: &mut Answer,
-    ) {
-        let (mut f, mut r) = (self.lend(file), self.lend(record));
-        let (mut b, mut a) = (self.lend(buffer), self.lend(answer));
-        self.planner.advance_nights(f.part(), r.array(), k, b.part(), a.array());
-        record.copy_from_slice(r.part());
-        buffer.copy_from_slice(b.part());
-        answer.copy_from_slice(a.part());
+    fn advance_nights(&self, file: &[u8], k: u32, handed: Handed) {
+        let mut f = self.lend(file);
+        self.advanced(handed, |lent| self.planner.advance_nights(f.part(), k, lent));
     }
 
-    fn advance_days(
-        &self,
-        file: &[u8],
-        nights: &Nights,
-        record: &mut Words,
-        k: u32,
-        buffer: &mut [u32],
-        roster: &mut Letters,
-        answer: &mut Answer,
-    ) {
-        let (mut f, mut n, mut r) = (self.lend(file), self.lend(nights), self.lend(record));
-        let (mut b, mut l, mut a) = (self.lend(buffer), self.lend(roster), self.lend(answer));
-        let (n, l) = (n.array(), l.array());
-        self.planner.advance_days(f.part(), n, r.array(), k, b.part(), l, a.array());
-        record.copy_from_slice(r.part());
-        buffer.copy_from_slice(b.part());
-        roster.copy_from_slice(l);
-        answer.copy_from_slice(a.part());
+    fn advance_days(&self, file: &[u8], nights: &Nights, k: u32, handed: Handed) {
+        let (mut f, mut n) = (self.lend(file), self.lend(nights));
+        self.advanced(handed, |lent| self.planner.advance_days(f.part(), n.array(), k, lent));
     }
 
     fn check(&self, file: &[u8], roster: &[u8], answer: &mut Answer) {

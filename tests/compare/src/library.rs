@@ -63,14 +63,8 @@ impl Calls for Library {
         }
     }
 
-    fn advance_nights(
-        &self,
-        file: &[u8],
-        record: &mut Words,
-        k: u32,
-        buffer: &mut [u32],
-        answer: &mut Answer,
-    ) {
+    fn advance_nights(&self, file: &[u8], k: u32, handed: Handed) {
+        let Handed { record, buffer, answer, .. } = handed;
         unsafe {
             pantheryl_advance_nights(
                 file.as_ptr(),
@@ -84,16 +78,9 @@ impl Calls for Library {
         }
     }
 
-    fn advance_days(
-        &self,
-        file: &[u8],
-        nights: &Nights,
-        record: &mut Words,
-        k: u32,
-        buffer: &mut [u32],
-        roster: &mut Letters,
-        answer: &mut Answer,
-    ) {
+    fn advance_days(&self, file: &[u8], nights: &Nights, k: u32, handed: Handed) {
+        let Handed { record, buffer, roster, answer } = handed;
+        let roster = roster.expect("a day advance is lent a roster");
         unsafe {
             pantheryl_advance_days(
                 file.as_ptr(),

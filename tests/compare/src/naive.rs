@@ -17,24 +17,18 @@ pub fn refused(no: Refusal) -> Answer {
 }
 
 /// What a search hands back; a refusal writes the answer only.
-pub fn hand_back(
-    advanced: Advanced,
-    record: &mut Words,
-    buffer: &mut [u32],
-    roster: Option<&mut Letters>,
-    answer: &mut Answer,
-) {
+pub fn hand_back(advanced: Advanced, handed: &mut Handed) {
     let done = match advanced {
         Err(no) => {
-            *answer = refused(no);
+            *handed.answer = refused(no);
             return;
         }
         Ok(done) => done,
     };
-    *record = words_of_record(&done.record);
-    buffer[..done.buffer.len()].copy_from_slice(&done.buffer);
+    *handed.record = words_of_record(&done.record);
+    handed.buffer[..done.buffer.len()].copy_from_slice(&done.buffer);
     let letters = done.roster.unwrap_or_default();
-    if let Some(roster) = roster {
+    if let Some(roster) = &mut handed.roster {
         roster[..letters.len()].copy_from_slice(&letters);
     }
     let outcome = match done.end {
@@ -42,7 +36,7 @@ pub fn hand_back(
         End::Asked => ASKED,
         End::None => NONE,
     };
-    *answer = [0, 0, outcome, done.made, done.penalty, letters.len() as u64];
+    *handed.answer = [0, 0, outcome, done.made, done.penalty, letters.len() as u64];
 }
 
 /// The reading of a file, as the C interface gives it.
@@ -90,30 +84,16 @@ impl Calls for Reference {
         }
     }
 
-    fn advance_nights(
-        &self,
-        file: &[u8],
-        record: &mut Words,
-        k: u32,
-        buffer: &mut [u32],
-        answer: &mut Answer,
-    ) {
+    fn advance_nights(&self, file: &[u8], k: u32, mut handed: Handed) {
+        let Handed { record, buffer, .. } = &handed;
         let advanced = parse(file).and_then(|ward| nights(&ward, record, k, buffer.len()));
-        hand_back(advanced, record, buffer, None, answer);
+        hand_back(advanced, &mut handed);
     }
 
-    fn advance_days(
-        &self,
-        file: &[u8],
-        nights: &Nights,
-        record: &mut Words,
-        k: u32,
-        buffer: &mut [u32],
-        roster: &mut Letters,
-        answer: &mut Answer,
-    ) {
+    fn advance_days(&self, file: &[u8], nights: &Nights, k: u32, mut handed: Handed) {
+        let Handed { record, buffer, .. } = &handed;
         let advanced = parse(file).and_then(|ward| days(&ward, nights, record, k, buffer.len()));
-        hand_back(advanced, record, buffer, Some(roster), answer);
+        hand_back(advanced, &mut handed);
     }
 
     fn check(&self, file: &[u8], roster: &[u8], answer: &mut Answer) {

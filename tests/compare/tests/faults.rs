@@ -15,15 +15,6 @@ use reference::tally::Exchange;
 use reference::ward::{parse, Ward};
 use std::io::Write;
 
-/// The memory lent to an advance.
-struct Handed<'a> {
-    record: &'a mut Words,
-    buffer: &'a mut [u32],
-    /// by day
-    roster: Option<&'a mut Letters>,
-    answer: &'a mut Answer,
-}
-
 /// What is wrong.
 enum Fault {
     /// Advances and check go by another ward.
@@ -88,36 +79,20 @@ impl Calls for Faulty {
         }
     }
 
-    fn advance_nights(
-        &self,
-        file: &[u8],
-        record: &mut Words,
-        k: u32,
-        buffer: &mut [u32],
-        answer: &mut Answer,
-    ) {
-        let before = *record;
+    fn advance_nights(&self, file: &[u8], k: u32, mut handed: Handed) {
+        let (before, places) = (*handed.record, handed.buffer.len());
         let advanced =
-            parse(file).and_then(|ward| self.nights(&self.ward(ward), &before, k, buffer.len()));
-        hand_back(advanced, record, buffer, None, answer);
-        self.after(Handed { record, buffer, roster: None, answer }, &before);
+            parse(file).and_then(|ward| self.nights(&self.ward(ward), &before, k, places));
+        hand_back(advanced, &mut handed);
+        self.after(handed, &before);
     }
 
-    fn advance_days(
-        &self,
-        file: &[u8],
-        nights: &Nights,
-        record: &mut Words,
-        k: u32,
-        buffer: &mut [u32],
-        roster: &mut Letters,
-        answer: &mut Answer,
-    ) {
-        let before = *record;
-        let advanced = parse(file)
-            .and_then(|ward| self.days(&self.ward(ward), nights, &before, k, buffer.len()));
-        hand_back(advanced, record, buffer, Some(roster), answer);
-        self.after(Handed { record, buffer, roster: Some(roster), answer }, &before);
+    fn advance_days(&self, file: &[u8], nights: &Nights, k: u32, mut handed: Handed) {
+        let (before, places) = (*handed.record, handed.buffer.len());
+        let advanced =
+            parse(file).and_then(|ward| self.days(&self.ward(ward), nights, &before, k, places));
+        hand_back(advanced, &mut handed);
+        self.after(handed, &before);
     }
 
     fn check(&self, file: &[u8], roster: &[u8], answer: &mut Answer) {

@@ -83,24 +83,18 @@ impl Plain {
     }
 }
 
-/// Writes what an advance hands back; of a refusal the answer only. The letters given.
-fn hand_back(
-    done: Result<Advanced, No>,
-    record: &mut Words,
-    buffer: &mut [u32],
-    answer: &mut Answer,
-) -> Vec<u8> {
+/// Writes what an advance hands back; of a refusal the answer only.
+fn hand_back(done: Result<Advanced, No>, handed: &mut Handed) {
     match done {
-        Err(no) => {
-            *answer = refused(no);
-            Vec::new()
-        }
+        Err(no) => *handed.answer = refused(no),
         Ok((done, list)) => {
-            *record = done.record.words();
-            buffer[..list.len()].copy_from_slice(&list);
-            let count = done.roster.len() as u64;
-            *answer = [0, 0, done.outcome, done.made, done.penalty, count];
-            done.roster
+            *handed.record = done.record.words();
+            handed.buffer[..list.len()].copy_from_slice(&list);
+            let count = done.roster.len();
+            if let Some(roster) = &mut handed.roster {
+                roster[..count].copy_from_slice(&done.roster);
+            }
+            *handed.answer = [0, 0, done.outcome, done.made, done.penalty, count as u64];
         }
     }
 }
@@ -124,31 +118,14 @@ impl Calls for Plain {
         };
     }
 
-    fn advance_nights(
-        &self,
-        file: &[u8],
-        record: &mut Words,
-        k: u32,
-        buffer: &mut [u32],
-        answer: &mut Answer,
-    ) {
-        let done = self.by_night(file, record, k, buffer.len());
-        hand_back(done, record, buffer, answer);
+    fn advance_nights(&self, file: &[u8], k: u32, mut handed: Handed) {
+        let done = self.by_night(file, handed.record, k, handed.buffer.len());
+        hand_back(done, &mut handed);
     }
 
-    fn advance_days(
-        &self,
-        file: &[u8],
-        nights: &Nights,
-        record: &mut Words,
-        k: u32,
-        buffer: &mut [u32],
-        roster: &mut Letters,
-        answer: &mut Answer,
-    ) {
-        let done = self.by_day(file, nights, record, k, buffer.len());
-        let letters = hand_back(done, record, buffer, answer);
-        roster[..letters.len()].copy_from_slice(&letters);
+    fn advance_days(&self, file: &[u8], nights: &Nights, k: u32, mut handed: Handed) {
+        let done = self.by_day(file, nights, handed.record, k, handed.buffer.len());
+        hand_back(done, &mut handed);
     }
 
     fn check(&self, file: &[u8], roster: &[u8], answer: &mut Answer) {
