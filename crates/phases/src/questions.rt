@@ -2,7 +2,7 @@
 // and the night patterns are not looked at; where it is true, by day over those patterns.
 ghost use mathlib.Core.Path.{_≡_};
 ghost use mathlib.Core.Bool.{_&&_};
-ghost use Prim.Native.Nat.{_+_, _<_, _≤_, min};
+ghost use Prim.Native.Nat.{_+_, _<_, _≤_};
 ghost use lib.Dec.{leb};
 ghost use Rattle.numbers.specs.Range.{upFrom, all};
 ghost use Rattle.fields.specs.Fields.{Accepted, nurses};
@@ -83,23 +83,12 @@ pub fn removal_names(w: &[u64], nights: &[u32; 48], daily: bool, x: removals::Re
     false
 }
 
-// How many removals are held after so many steps.
-pub fn removals_held(steps: u32, tl: usize) -> usize
-    ensures { λ r. ⌜ r ≡ min steps tl ⌝ }
-{
-    let made = steps as usize;
-    if made < tl {
-        return made;
-    }
-    tl
-}
-
 // Whether each removal held names a nurse, with one of hers or with none.
 pub fn removals_name(w: &[u64], nights: &[u32; 48], daily: bool, rec: search::Record) -> bool
     requires { ⌜ Accepted (now w) ⌝ }
     ensures { λ r. ⌜ r ≡ all (namesAt (phaseOf daily (now (w .entry)) (now (nights .entry))) (rec .removals)) (upFrom 0 (held (phaseOf daily (now (w .entry)) (now (nights .entry)) .tabu) rec)) ⌝ }
 {
-    let n = removals_held(rec.steps, fields::tabu(w));
+    let n = removals::lesser(rec.steps as usize, fields::tabu(w));
     let list = rec.removals;
     let mut j: usize = 0;
     while j < n {

@@ -17,11 +17,14 @@ Inv-loop w nights daily n list j₀ j = (j ≤ n) × (all (namesAt (phaseOf dail
 abbrev μ-loop : tie.MeasureT-loop
 μ-loop w nights daily n list j₀ j = n - j
 
+cast-lesser : tie.Need-cast-lesser Inv-loop μ-loop
+cast-lesser c = search needs
+
 tabu-requires : tie.Need-tabu-requires Inv-loop μ-loop
 tabu-requires c κs = search needs
 
-removals-held-requires : tie.Need-removals-held-requires Inv-loop μ-loop
-removals-held-requires c κs = search needs
+lesser-requires : tie.Need-lesser-requires Inv-loop μ-loop
+lesser-requires c κs = search needs
 
 loop-holds : tie.Need-loop-holds Inv-loop μ-loop
 loop-holds c = (omega arith, all-from _ refl)
@@ -45,10 +48,10 @@ loop-again : tie.Need-loop-again Inv-loop μ-loop
 loop-again c = (omega arith, all-more _ _ _ (c .before .before .before .before .loop .inv .1) (c .before .before .before .loop-test .taken) (sym (c .before .removal-names .ensures) ∙ c .if1 .taken))
 
 returns : tie.Need-returns Inv-loop μ-loop
-returns c = held-all _ _ _ _ _ (all-stop _ _ _ (c .before .before .before .before .loop .inv .1) (c .before .before .before .loop-test .taken) (sym (c .before .removal-names .ensures) ∙ c .if1 .left)) (c .before .before .before .before .before .before .removals-held .ensures) (c .before .before .before .before .before .before .before .tabu .ensures .0)
+returns c = held-all _ _ _ _ _ (all-stop _ _ _ (c .before .before .before .before .loop .inv .1) (c .before .before .before .loop-test .taken) (sym (c .before .removal-names .ensures) ∙ c .if1 .left)) (c .before .before .before .before .before .before .lesser .ensures) (c .before .before .before .before .before .before .before .tabu .ensures .0)
 
 returns-2 : tie.Need-returns-2 Inv-loop μ-loop
-returns-2 c = held-all _ _ _ _ _ (all-end _ _ _ (c .before .loop .inv .1) (c .loop-test .left)) (c .before .before .before .removals-held .ensures) (c .before .before .before .before .tabu .ensures .0)
+returns-2 c = held-all _ _ _ _ _ (all-end _ _ _ (c .before .loop .inv .1) (c .loop-test .left)) (c .before .before .before .lesser .ensures) (c .before .before .before .before .tabu .ensures .0)
 
 pub removals-name-spec : {M : Type 1} → statement M
 removals-name-spec =
@@ -56,8 +59,9 @@ removals-name-spec =
     (tie.spec
     Inv-loop
     μ-loop
+    cast-lesser
     tabu-requires
-    removals-held-requires
+    lesser-requires
     loop-holds
     mul-x
     array-copy-out-x
