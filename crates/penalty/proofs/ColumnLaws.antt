@@ -1,5 +1,5 @@
 -- Columns: what a nurse put in changes, how they come to show all nurses, and that counts over their 64 places are counts over the nurses.
-use mathlib.Core.Path.{_≡_, refl, sym, ap, ap₂, _∙_, subst}
+use mathlib.Core.Path.{_≡_, refl, sym, ap, ap₂, _∙_}
 use mathlib.Core.Bool.{Bool, true, false, cond, _&&_}
 use mathlib.Core.List.{List}
 use mathlib.Core.Option.{some}
@@ -21,7 +21,7 @@ use Rattle.rows.specs.Rows.{availableOn}
 use Rattle.penalty.specs.declared.columns.Columns.{Columns}
 use Rattle.history.specs.Slot.{Slot}
 use Rattle.penalty.specs.Penalty.{startsIn, workedIn, exchanged, atNight, free, atDay}
-use Rattle.penalty.specs.Columns.{Same, ShownNight, ShownDay, ShowsNight, ShowsDay, Empty, PutAt, NursePut, Frees}
+use Rattle.penalty.specs.Columns.{Same, ShownNight, ShownDay, Empty, PutAt, NursePut, Frees}
 
 -- ---- who is on, below m
 
@@ -161,16 +161,3 @@ module _ (w : List ℕ) (slots : ℕ → Slot) (i p : ℕ) (h : i < nurses w) wh
       same-put (nurses w) i f (put f i (has p d)) (atDay w slots d) (atDay w (exchanged slots i p) d) s
       (ap (put f i) (sym (ap (λ (x : Slot). has (workedIn w i x) d) (exchanged-here slots i p)))) h
       (λ j q. sym (ap (λ (x : Slot). has (workedIn w j x) d) (exchanged-there slots i p j q)))
-
-  -- the columns after an exchange
-  pub night-exchange : (c r : Columns) {set : ℕ} → ShowsNight w slots c → Frees w i p set → NursePut c r (days w) i p set → ShowsNight w (exchanged slots i p) r
-  night-exchange c r s g q = record {
-    night-shown = λ d l. subst (λ (f : ℕ → Bool). Same (nurses w) f (atNight w (exchanged slots i p) d)) (sym (q .night-put d l)) (night-after d _ (s .night-shown d l));
-    free-shown = λ d l. subst (λ (f : ℕ → Bool). Same (nurses w) f (free w (exchanged slots i p) d))
-        (sym (q .day-put d l ∙ ap (put (has (getD (c .day) d 0)) i) (g d l))) (free-after d _ (s .free-shown d l));
-  }
-
-  pub day-exchange : (c r : Columns) {nights : ℕ} → ShowsDay w slots c → NursePut c r (days w) i nights p → ShowsDay w (exchanged slots i p) r
-  day-exchange c r s q = record {
-    day-shown = λ d l. subst (λ (f : ℕ → Bool). Same (nurses w) f (atDay w (exchanged slots i p) d)) (sym (q .day-put d l)) (day-after d _ (s .day-shown d l));
-  }

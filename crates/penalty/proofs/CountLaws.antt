@@ -1,6 +1,6 @@
 -- What is counted on columns is what the ward says: sums over 64 places are counts over the nurses.
-use mathlib.Core.Path.{_≡_, refl, ap, ap₂, _∙_}
-use mathlib.Core.Bool.{Bool}
+use mathlib.Core.Path.{_≡_, refl, sym, ap, ap₂, _∙_, subst}
+use mathlib.Core.Bool.{Bool, true, false}
 use mathlib.Core.List.{List}
 use Prim.Native.Nat.{ℕ, _+_, _-_, _*_, _≤_, _<_}
 use native.Mathlib.Nat.{zero-mul, zero-add}
@@ -13,10 +13,11 @@ use Rattle.fields.specs.Fields.{Accepted, nurses, days, groups, weight, masks, 
 use Rattle.penalty.specs.declared.columns.Columns.{Columns}
 use Rattle.penalty.specs.declared.duty.Weights.{Weights}
 use Rattle.penalty.specs.declared.duty.Duty.{Duty}
+use Rattle.penalty.specs.declared.Penalty.{Penalty}
 use Rattle.history.specs.Slot.{Slot}
-use Rattle.penalty.specs.Penalty.{Bounded, partsOf, onDuty, members, shortOn, overOn, unplacedIn, atNight, free, atDay, nightParts, dayParts}
-use Rattle.penalty.specs.Columns.{Same, ShowsNight, ShowsDay}
-use Rattle.penalty.specs.Walk.{weightsOf, noHigh, Counts, membersIn, needTerm, lowTerm, highTerm, groupTerm, dutyShort, dutyOver, dutyCost, shortIn, overIn, NightParts, DayParts, nightShortAt, nightOverAt, dayShortAt, dayOverAt}
+use Rattle.penalty.specs.Penalty.{Bounded, partsOf, onDuty, members, shortOn, overOn, unplacedIn, nightParts, dayParts, partsIn}
+use Rattle.penalty.specs.Columns.{Same, Shows}
+use Rattle.penalty.specs.Walk.{weightsOf, noHigh, Counts, membersIn, needTerm, lowTerm, highTerm, groupTerm, dutyShort, dutyOver, dutyCost, shortIn, overIn, DayCounts, shortAt, overAt}
 use Rattle.penalty.proofs.FieldLaws.{length-masks}
 use Rattle.penalty.proofs.ColumnLaws.{count-same, all-same}
 
@@ -62,93 +63,76 @@ duty-of w k d column e m q h = record {
 }
 
 pub night-of : (w : List ℕ) (d night day : ℕ) {a b r : Duty} → Counts a (shortIn w 0 d (has night)) 81600 (overIn w 0 d (has night)) 104000
-    → Counts b (shortIn w 1 d (has day)) 81600 (overIn w 1 d (has day)) 104000 → r .short ≡ a .short + b .short → r .over ≡ a .over → NightParts w d night day r
+    → Counts b (shortIn w 1 d (has day)) 81600 (overIn w 1 d (has day)) 104000 → r .short ≡ a .short + b .short → r .over ≡ a .over → DayCounts false w d night day r
 night-of w d night day x y e q = record {
   short-is = record { is = e ∙ ap₂ (λ (m n : ℕ). m + n) (x .short-is .is) (y .short-is .is); most = omega (arith, x .short-is .most, y .short-is .most, e) };
   over-is = record { is = q ∙ x .over-is .is; most = omega (arith, x .over-is .most, q) };
 }
 
--- ---- the month: the loops over the days
+pub worked-of : (w : List ℕ) (d day : ℕ) {r : Duty} → Counts r (shortIn w 1 d (has day)) 81600 (overIn w 1 d (has day)) 104000 → (night : ℕ) → DayCounts true w d night day r
+worked-of w d day h night = record { short-is = record { is = h .short-is .is; most = omega (arith, h .short-is .most) }; over-is = h .over-is }
 
-pub record NightSums (w nights free : List ℕ) (n d short over : ℕ) : Type 0 where
+-- in the search that the flag says
+pub counts-as : (daily b : Bool) (w : List ℕ) (d night day : ℕ) {r : Duty} → daily ≡ b → DayCounts b w d night day r → DayCounts daily w d night day r
+counts-as daily b w d night day {r} e h = subst (λ (x : Bool). DayCounts x w d night day r) (sym e) h
+
+-- ---- the month: the loop over the days
+
+pub record MonthSums (daily : Bool) (w nights worked : List ℕ) (n d unplaced : ℕ) (p : Penalty) : Type 0 where
   pub inside : d ≤ n
-  pub short-sum : Is short (0 + sumTo d (nightShortAt w nights free)) (0 + 163200 * d)
-  pub over-sum : Is over (0 + sumTo d (nightOverAt w nights)) (0 + 104000 * d)
+  pub short-sum : Is (p .short) (0 + sumTo d (shortAt daily w nights worked)) (0 + 163200 * d)
+  pub over-sum : Is (p .over) (0 + sumTo d (overAt daily w nights worked)) (0 + 104000 * d)
+  pub unplaced-is : p .unplaced ≡ unplaced
 
-module _ (w nights free : List ℕ) (n : ℕ) where
-  pub night-start : NightSums w nights free n 0 0 0
-  night-start = record {
+module _ (daily : Bool) (w nights worked : List ℕ) (n u : ℕ) where
+  pub month-start : {p : Penalty} → p .short ≡ 0 → p .over ≡ 0 → p .unplaced ≡ u → MonthSums daily w nights worked n 0 u p
+  month-start e q h = record {
     inside = omega arith;
-    short-sum = loop-start 0 0 _ (record { is = refl; most = omega arith });
-    over-sum = loop-start 0 0 _ (record { is = refl; most = omega arith });
+    short-sum = loop-start 0 0 _ (record { is = e; most = omega arith });
+    over-sum = loop-start 0 0 _ (record { is = q; most = omega arith });
+    unplaced-is = h;
   }
 
-  pub night-turn : {d s o : ℕ} {t : Duty} → NightSums w nights free n d s o → d < n → NightParts w d (getD nights d 0) (getD free d 0) t
-      → NightSums w nights free n (d + 1) (s + t .short) (o + t .over)
-  unfolding nightShortAt nightOverAt
-  night-turn h l c = record {
+  pub month-turn : {d : ℕ} {p : Penalty} {t : Duty} → MonthSums daily w nights worked n d u p → d < n
+      → DayCounts daily w d (getD nights d 0) (getD worked d 0) t
+      → MonthSums daily w nights worked n (d + 1) u (record { short = p .short + t .short; over = p .over + t .over; unplaced = p .unplaced })
+  unfolding shortAt overAt
+  month-turn h l c = record {
     inside = omega arith;
-    short-sum = loop-turn 0 0 163200 (nightShortAt w nights free) _ (h .short-sum) (c .short-is);
-    over-sum = loop-turn 0 0 104000 (nightOverAt w nights) _ (h .over-sum) (c .over-is);
+    short-sum = loop-turn 0 0 163200 (shortAt daily w nights worked) _ (h .short-sum) (c .short-is);
+    over-sum = loop-turn 0 0 104000 (overAt daily w nights worked) _ (h .over-sum) (c .over-is);
+    unplaced-is = h .unplaced-is;
   }
 
-pub night-bounded : (w nights free : List ℕ) {n d s o u : ℕ} → NightSums w nights free n d s o → n ≤ 31 → u ≤ 48 → Bounded (record { short = s; over = o; unplaced = u })
-night-bounded w nights free h l m = record {
-  short-most = omega (arith, h .short-sum .most, h .inside);
-  over-most = omega (arith, h .over-sum .most, h .inside);
-  unplaced-most = m;
-}
-
-pub night-is : (w : List ℕ) (cols : Columns) {n d s o u : ℕ} → Accepted w → NightSums w (cols .night) (cols .day) n d s o → n ≤ d → n ≡ days w
-    → (slots : ℕ → Slot) → ShowsNight w slots cols → u ≡ unplacedIn w slots → partsOf (record { short = s; over = o; unplaced = u }) ≡ nightParts w slots
-unfolding nightParts nightShortAt nightOverAt
-night-is w cols {n} {d} {s} {o} {u} a h l e slots g q =
-    let m : d ≡ days w = omega (arith, h .inside) in
-    let x : s ≡ sumTo (days w) (λ d. shortOn w 0 (atNight w slots d) d + shortOn w 1 (free w slots d) d) =
-    h .short-sum .is ∙ zero-add _ ∙ ap (λ (k : ℕ). sumTo k (nightShortAt w (cols .night) (cols .day))) m
-    ∙ sum-ext (days w) _ _ (λ d l. ap₂ (λ (x y : ℕ). x + y) (short-same w a 0 d _ _ (g .night-shown d l)) (short-same w a 1 d _ _ (g .free-shown d l))) in
-    let y : o ≡ sumTo (days w) (λ d. overOn w 0 (atNight w slots d) d) =
-    h .over-sum .is ∙ zero-add _ ∙ ap (λ (k : ℕ). sumTo k (nightOverAt w (cols .night))) m
-    ∙ sum-ext (days w) _ _ (λ d l. over-same w a 0 d _ _ (g .night-shown d l)) in
-    λ j. record { short = x j; over = y j; unplaced = q j }
-
-pub record DaySums (w worked : List ℕ) (n d short over : ℕ) : Type 0 where
-  pub inside : d ≤ n
-  pub short-sum : Is short (0 + sumTo d (dayShortAt w worked)) (0 + 81600 * d)
-  pub over-sum : Is over (0 + sumTo d (dayOverAt w worked)) (0 + 104000 * d)
-
-module _ (w worked : List ℕ) (n : ℕ) where
-  pub day-start : DaySums w worked n 0 0 0
-  day-start = record {
-    inside = omega arith;
-    short-sum = loop-start 0 0 _ (record { is = refl; most = omega arith });
-    over-sum = loop-start 0 0 _ (record { is = refl; most = omega arith });
+  pub month-bounded : {d : ℕ} {p : Penalty} → MonthSums daily w nights worked n d u p → n ≤ 31 → u ≤ 48 → Bounded p
+  month-bounded h l m = record {
+    short-most = omega (arith, h .short-sum .most, h .inside);
+    over-most = omega (arith, h .over-sum .most, h .inside);
+    unplaced-most = omega (arith, h .unplaced-is);
   }
 
-  pub day-turn : {d s o : ℕ} {t : Duty} → DaySums w worked n d s o → d < n → DayParts w d (getD worked d 0) t → DaySums w worked n (d + 1) (s + t .short) (o + t .over)
-  unfolding dayShortAt dayOverAt
-  day-turn h l c = record {
-    inside = omega arith;
-    short-sum = loop-turn 0 0 81600 (dayShortAt w worked) _ (h .short-sum) (c .short-is);
-    over-sum = loop-turn 0 0 104000 (dayOverAt w worked) _ (h .over-sum) (c .over-is);
-  }
+-- the sums over columns that show the slots are the ward's
+module _ (w : List ℕ) (cols : Columns) (a : Accepted w) (slots : ℕ → Slot) where
+  shorts-are : (daily : Bool) → Shows daily w slots cols → sumTo (days w) (shortAt daily w (cols .night) (cols .day)) ≡ partsIn daily w slots .short
+  unfolding shortAt nightParts dayParts
+  shorts-are false g = sum-ext (days w) _ _ (λ d l. ap₂ (λ (x y : ℕ). x + y) (short-same w a 0 d _ _ (g .night-shown d l)) (short-same w a 1 d _ _ (g .free-shown d l)))
+  shorts-are true g = sum-ext (days w) _ _ (λ d l. short-same w a 1 d _ _ (g .day-shown d l))
 
-pub day-bounded : (w worked : List ℕ) {n d s o u : ℕ} → DaySums w worked n d s o → n ≤ 31 → u ≤ 48 → Bounded (record { short = s; over = o; unplaced = u })
-day-bounded w worked h l m = record {
-  short-most = omega (arith, h .short-sum .most, h .inside);
-  over-most = omega (arith, h .over-sum .most, h .inside);
-  unplaced-most = m;
-}
+  overs-are : (daily : Bool) → Shows daily w slots cols → sumTo (days w) (overAt daily w (cols .night) (cols .day)) ≡ partsIn daily w slots .over
+  unfolding overAt nightParts dayParts
+  overs-are false g = sum-ext (days w) _ _ (λ d l. over-same w a 0 d _ _ (g .night-shown d l))
+  overs-are true g = sum-ext (days w) _ _ (λ d l. over-same w a 1 d _ _ (g .day-shown d l))
 
-pub day-is : (w : List ℕ) (cols : Columns) {n d s o u : ℕ} → Accepted w → DaySums w (cols .day) n d s o → n ≤ d → n ≡ days w
-    → (slots : ℕ → Slot) → ShowsDay w slots cols → u ≡ unplacedIn w slots → partsOf (record { short = s; over = o; unplaced = u }) ≡ dayParts w slots
-unfolding dayParts dayShortAt dayOverAt
-day-is w cols {n} {d} {s} {o} {u} a h l e slots g q =
-    let m : d ≡ days w = omega (arith, h .inside) in
-    let x : s ≡ sumTo (days w) (λ d. shortOn w 1 (atDay w slots d) d) =
-    h .short-sum .is ∙ zero-add _ ∙ ap (λ (k : ℕ). sumTo k (dayShortAt w (cols .day))) m
-    ∙ sum-ext (days w) _ _ (λ d l. short-same w a 1 d _ _ (g .day-shown d l)) in
-    let y : o ≡ sumTo (days w) (λ d. overOn w 1 (atDay w slots d) d) =
-    h .over-sum .is ∙ zero-add _ ∙ ap (λ (k : ℕ). sumTo k (dayOverAt w (cols .day))) m
-    ∙ sum-ext (days w) _ _ (λ d l. over-same w a 1 d _ _ (g .day-shown d l)) in
-    λ j. record { short = x j; over = y j; unplaced = q j }
+  unplaced-are : (daily : Bool) → unplacedIn w slots ≡ partsIn daily w slots .unplaced
+  unfolding nightParts dayParts
+  unplaced-are false = refl
+  unplaced-are true = refl
+
+  pub month-is : (daily : Bool) {n d u : ℕ} {p : Penalty} → MonthSums daily w (cols .night) (cols .day) n d u p → n ≤ d → n ≡ days w
+      → Shows daily w slots cols → u ≡ unplacedIn w slots → partsOf p ≡ partsIn daily w slots
+  month-is daily {n} {d} h l e g q =
+      let m : d ≡ days w = omega (arith, h .inside) in
+      let x = h .short-sum .is ∙ zero-add _ ∙ ap (λ (k : ℕ). sumTo k (shortAt daily w (cols .night) (cols .day))) m ∙ shorts-are daily g in
+      let y = h .over-sum .is ∙ zero-add _ ∙ ap (λ (k : ℕ). sumTo k (overAt daily w (cols .night) (cols .day))) m ∙ overs-are daily g in
+      let z = h .unplaced-is ∙ q ∙ unplaced-are daily in
+      λ j. record { short = x j; over = y j; unplaced = z j }

@@ -1,6 +1,6 @@
 -- A day's column: nurse i as bit i, from 0. The columns show a choice of slots when each bit says whether the nurse counts.
 use mathlib.Core.Path.{_≡_}
-use mathlib.Core.Bool.{Bool, false}
+use mathlib.Core.Bool.{Bool, true, false}
 use mathlib.Core.List.{List}
 use Prim.Native.Nat.{ℕ, suc, _≤_, _<_}
 use lib.ListN.{getD}
@@ -25,12 +25,14 @@ pub record ShownNight (w : List ℕ) (slots : ℕ → Slot) (m : ℕ) (c : Colum
 pub record ShownDay (w : List ℕ) (slots : ℕ → Slot) (m : ℕ) (c : Columns) : Type 0 where
   pub day-shown : (d : ℕ) → d < days w → Same m (has (getD (c .day) d 0)) (atDay w slots d)
 
--- all nurses
-abbrev pub ShowsNight : List ℕ → (ℕ → Slot) → Columns → Type 0
-ShowsNight w slots c = ShownNight w slots (nurses w) c
+-- by night (false) or by day (true)
+abbrev pub Shown : Bool → List ℕ → (ℕ → Slot) → ℕ → Columns → Type 0
+Shown false w slots m c = ShownNight w slots m c
+Shown true w slots m c = ShownDay w slots m c
 
-abbrev pub ShowsDay : List ℕ → (ℕ → Slot) → Columns → Type 0
-ShowsDay w slots c = ShownDay w slots (nurses w) c
+-- all nurses
+abbrev pub Shows : Bool → List ℕ → (ℕ → Slot) → Columns → Type 0
+Shows daily w slots c = Shown daily w slots (nurses w) c
 
 -- nobody on any day
 pub record Empty (c : Columns) : Type 0 where

@@ -1,6 +1,6 @@
 -- The penalty: what is short of the needs and lows, what is above the highs, and the nurses not yet placed.
 -- Nurses, groups and days count from 0 here; k is 0 for night and 1 for day.
-use mathlib.Core.Bool.{Bool, cond, _&&_}
+use mathlib.Core.Bool.{Bool, true, false, cond, _&&_}
 use mathlib.Core.List.{List}
 use mathlib.Core.Option.{none, some}
 use Prim.Native.Nat.{ℕ, suc, _+_, _-_, _*_, _≤_}
@@ -105,3 +105,9 @@ dayParts w slots = record {
 
 unfoldable pub dayPenalty : List ℕ → (ℕ → Slot) → ℕ
 dayPenalty w slots = total (dayParts w slots)
+
+-- ---- either search: by night (false) or by day (true)
+
+abbrev pub partsIn : Bool → List ℕ → (ℕ → Slot) → Parts
+partsIn false w slots = nightParts w slots
+partsIn true w slots = dayParts w slots

@@ -1,6 +1,6 @@
 -- What the code counts on columns: sums over 64 places, whoever stands there. f says which bits of the column are set.
 use mathlib.Core.Path.{_≡_}
-use mathlib.Core.Bool.{Bool, _&&_}
+use mathlib.Core.Bool.{Bool, true, false, _&&_}
 use mathlib.Core.List.{List}
 use Prim.Native.Nat.{ℕ, _+_, _-_, _*_, _≤_}
 use lib.ListN.{length, getD}
@@ -69,21 +69,20 @@ shortIn w k d f = dutyShort (weightsOf w k) (masks w) (needs w d) k f
 abbrev pub overIn : List ℕ → ℕ → ℕ → (ℕ → Bool) → ℕ
 overIn w k d f = dutyOver (weightsOf w k) (masks w) (needs w d) k f
 
--- one day by night and by day
-abbrev pub NightParts : List ℕ → ℕ → ℕ → ℕ → Duty → Type 0
-NightParts w d night day r = Counts r (shortIn w 0 d (has night) + shortIn w 1 d (has day)) 163200 (overIn w 0 d (has night)) 104000
+-- one day on its two columns, by night (false) or by day (true)
+abbrev pub shortWith : Bool → List ℕ → ℕ → ℕ → ℕ → ℕ
+shortWith false w d night day = shortIn w 0 d (has night) + shortIn w 1 d (has day)
+shortWith true w d night day = shortIn w 1 d (has day)
 
-abbrev pub DayParts : List ℕ → ℕ → ℕ → Duty → Type 0
-DayParts w d day r = Counts r (shortIn w 1 d (has day)) 81600 (overIn w 1 d (has day)) 104000
+abbrev pub overWith : Bool → List ℕ → ℕ → ℕ → ℕ → ℕ
+overWith false w d night day = overIn w 0 d (has night)
+overWith true w d night day = overIn w 1 d (has day)
 
-unfoldable pub nightShortAt : List ℕ → List ℕ → List ℕ → ℕ → ℕ
-nightShortAt w night day d = shortIn w 0 d (has (getD night d 0)) + shortIn w 1 d (has (getD day d 0))
+abbrev pub DayCounts : Bool → List ℕ → ℕ → ℕ → ℕ → Duty → Type 0
+DayCounts daily w d night day r = Counts r (shortWith daily w d night day) 163200 (overWith daily w d night day) 104000
 
-unfoldable pub nightOverAt : List ℕ → List ℕ → ℕ → ℕ
-nightOverAt w night d = overIn w 0 d (has (getD night d 0))
+unfoldable pub shortAt : Bool → List ℕ → List ℕ → List ℕ → ℕ → ℕ
+shortAt daily w night day d = shortWith daily w d (getD night d 0) (getD day d 0)
 
-unfoldable pub dayShortAt : List ℕ → List ℕ → ℕ → ℕ
-dayShortAt w day d = shortIn w 1 d (has (getD day d 0))
-
-unfoldable pub dayOverAt : List ℕ → List ℕ → ℕ → ℕ
-dayOverAt w day d = overIn w 1 d (has (getD day d 0))
+unfoldable pub overAt : Bool → List ℕ → List ℕ → List ℕ → ℕ → ℕ
+overAt daily w night day d = overWith daily w d (getD night d 0) (getD day d 0)

@@ -9,9 +9,10 @@ ghost use mathlib.Core.Path.{_≡_};
 ghost use Prim.Native.Nat.{ℕ, _<_, _≤_};
 ghost use Rattle.fields.specs.Fields.{Accepted, days};
 ghost use Rattle.history.specs.Slot.{Slot};
-ghost use Rattle.penalty.specs.Penalty.{Bounded, partsOf, total, unplacedIn, nightParts, dayParts};
-ghost use Rattle.penalty.specs.Columns.{ShowsNight, ShowsDay};
-ghost use Rattle.penalty.specs.Walk.{NightParts, DayParts};
+ghost use Rattle.penalty.specs.Penalty.{Bounded, partsOf, total, unplacedIn, partsIn};
+ghost use Rattle.penalty.specs.Columns.{Shows};
+ghost use mathlib.Core.Bool.{true, false};
+ghost use Rattle.penalty.specs.Walk.{DayCounts};
 
 pub struct Penalty {
     pub short: u64,
@@ -23,14 +24,14 @@ impl Penalty {
     // What a nurse not yet placed adds, flat.
     pub const UNPLACED: u64 = 10_000_000;
 
-    // Everyone unplaced.
-    pub fn fresh(short: u64, over: u64, nurses: u64) -> Penalty
-        ensures { λ r. ⌜ (r .short ≡ short) × (r .over ≡ over) × (r .unplaced ≡ nurses) ⌝ }
+    // Nothing counted yet.
+    pub fn fresh() -> Penalty
+        ensures { λ r. ⌜ r ≡ record { short = 0; over = 0; unplaced = 0 } ⌝ }
     {
         Penalty {
-            short: short,
-            over: over,
-            unplaced: nurses,
+            short: 0,
+            over: 0,
+            unplaced: 0,
         }
     }
 
@@ -45,7 +46,7 @@ impl Penalty {
 // One day in the night search: nights on N days, day need and lows on available nurses, day highs ignored.
 fn night_day(w: &[u64], d: usize, night: u64, day: u64) -> Duty
     requires { ⌜ Accepted (now w) × (d < days (now w)) ⌝ }
-    ensures { λ r. ⌜ NightParts (now (w .entry)) d night day r ⌝ }
+    ensures { λ r. ⌜ DayCounts false (now (w .entry)) d night day r ⌝ }
 {
     let masks = fields::masks(w);
     let row = fields::needs(w, d);
@@ -60,7 +61,7 @@ fn night_day(w: &[u64], d: usize, night: u64, day: u64) -> Duty
 // One day in the day search: the night terms are zero.
 fn day_day(w: &[u64], d: usize, day: u64) -> Duty
     requires { ⌜ Accepted (now w) × (d < days (now w)) ⌝ }
-    ensures { λ r. ⌜ DayParts (now (w .entry)) d day r ⌝ }
+    ensures { λ r. ⌜ ((night : ℕ) → DayCounts true (now (w .entry)) d night day r) ⌝ }
 {
     duty::on_column(
         weights::weights(w, 1),
@@ -71,46 +72,31 @@ fn day_day(w: &[u64], d: usize, day: u64) -> Duty
     )
 }
 
-// The night search's penalty of columns.
-pub fn night_parts(w: &[u64], cols: Columns, unplaced: u64) -> Penalty
-    requires { ⌜ Accepted (now w) × (unplaced ≤ 48) ⌝ }
-    ensures bounded { λ r. ⌜ Bounded r ⌝ }
-    ensures parts { λ r. ⌜ ((slots : ℕ → Slot) → ShowsNight (now (w .entry)) slots cols → unplaced ≡ unplacedIn (now (w .entry)) slots →
-        partsOf r ≡ nightParts (now (w .entry)) slots) ⌝ }
+// One day in either search.
+fn on_day(w: &[u64], d: usize, night: u64, day: u64, daily: bool) -> Duty
+    requires { ⌜ Accepted (now w) × (d < days (now w)) ⌝ }
+    ensures { λ r. ⌜ DayCounts daily (now (w .entry)) d night day r ⌝ }
 {
-    let mut short = 0;
-    let mut over = 0;
-    let n = fields::days(w);
-    for d in 0..n {
-        let t = night_day(w, d, cols.night[d], cols.day[d]);
-        short = short + t.short;
-        over = over + t.over;
+    if daily {
+        return day_day(w, d, day);
     }
-    Penalty {
-        short: short,
-        over: over,
-        unplaced: unplaced,
-    }
+    night_day(w, d, night, day)
 }
 
-// The day search's penalty of columns.
-pub fn day_parts(w: &[u64], cols: Columns, unplaced: u64) -> Penalty
+// The penalty of columns, by night or by day.
+pub fn parts(w: &[u64], cols: Columns, unplaced: u64, daily: bool) -> Penalty
     requires { ⌜ Accepted (now w) × (unplaced ≤ 48) ⌝ }
     ensures bounded { λ r. ⌜ Bounded r ⌝ }
-    ensures parts { λ r. ⌜ ((slots : ℕ → Slot) → ShowsDay (now (w .entry)) slots cols → unplaced ≡ unplacedIn (now (w .entry)) slots →
-        partsOf r ≡ dayParts (now (w .entry)) slots) ⌝ }
+    ensures parts { λ r. ⌜ ((slots : ℕ → Slot) → Shows daily (now (w .entry)) slots cols → unplaced ≡ unplacedIn (now (w .entry)) slots →
+        partsOf r ≡ partsIn daily (now (w .entry)) slots) ⌝ }
 {
-    let mut short = 0;
-    let mut over = 0;
+    let mut sum = Penalty::fresh();
+    sum.unplaced = unplaced;
     let n = fields::days(w);
     for d in 0..n {
-        let t = day_day(w, d, cols.day[d]);
-        short = short + t.short;
-        over = over + t.over;
+        let t = on_day(w, d, cols.night[d], cols.day[d], daily);
+        sum.short = sum.short + t.short;
+        sum.over = sum.over + t.over;
     }
-    Penalty {
-        short: short,
-        over: over,
-        unplaced: unplaced,
-    }
+    sum
 }

@@ -25,8 +25,8 @@ use Rattle.penalty.specs.declared.Penalty.{Penalty}
 use Rattle.penalty.specs.declared.columns.Columns.{Columns}
 use Rattle.trials.specs.declared.costs.Costs.{Costs}
 use Rattle.history.specs.Slot.{Slot, isNone}
-use Rattle.penalty.specs.Penalty.{partsOf, total, rest, unplacedIn, exchanged, startsIn, workedIn, nightParts, dayParts, nightPenalty, dayPenalty}
-use Rattle.penalty.specs.Columns.{ShownNight, ShownDay, Empty, NursePut}
+use Rattle.penalty.specs.Penalty.{partsOf, total, rest, unplacedIn, exchanged, startsIn, workedIn, nightParts, dayParts, partsIn, nightPenalty, dayPenalty}
+use Rattle.penalty.specs.Columns.{Shown, Shows, Empty, NursePut}
 use Rattle.trials.specs.Costs.{Small, Chunks, trialOf}
 use Rattle.penalty.proofs.ColumnLaws.{night-none, night-more, day-none, day-more}
 use Rattle.penalty.proofs.BoundLaws.{night-split, day-split, unplaced-after}
@@ -36,7 +36,7 @@ use Rattle.removals.specs.Removals.{slot}
 use Rattle.search.specs.Stored.{slotAt, view, viewOf, Fits}
 use Rattle.best.specs.Best.{overList, costIn, bestOver, considered, improves}
 use Rattle.search.specs.Walk.{exchangedIn, steppedOf}
-use Rattle.search.specs.Seek.{costOf, restOf, patternFor, Shown, Agree, stretch, Seeks}
+use Rattle.search.specs.Seek.{costOf, patternFor, Agree, stretch, Seeks}
 use Rattle.trials.specs.Tables.{tableTrial, DayTrials, NightTrials, Tables}
 use Rattle.search.proofs.AdvanceLaws.{takes-none, takes-some, takes-nurse}
 use Rattle.best.proofs.BestLaws.{turn-barred, turn-worse, turn-considered, over-keep, nurses-none, nurses-turn}
@@ -126,11 +126,10 @@ unplaced-is w r slots e a =
     ∙ sum-ext (nurses w) (λ i. oneIf (not (getD (r .placed) i false))) (λ i. oneIf (isNone (slots i)))
     (λ i l. ap oneIf (sym (ap isNone (a i l) ∙ none-flag (getD (r .placed) i false) (getD (r .patterns) i 0))))
 
-pub shown-day : (daily : Bool) (w : List ℕ) (slots : ℕ → Slot) (m : ℕ) (c : Columns) → daily ≡ true → Shown daily w slots m c → ShownDay w slots m c
-shown-day daily w slots m c d s = subst (λ (b : Bool). Shown b w slots m c) d s
-
-pub shown-night : (daily : Bool) (w : List ℕ) (slots : ℕ → Slot) (m : ℕ) (c : Columns) → daily ≡ false → Shown daily w slots m c → ShownNight w slots m c
-shown-night daily w slots m c d s = subst (λ (b : Bool). Shown b w slots m c) d s
+cost-total : (daily : Bool) (w : List ℕ) (slots : ℕ → Slot) → total (partsIn daily w slots) ≡ costOf daily w slots
+unfolding nightPenalty dayPenalty
+cost-total false w slots = refl
+cost-total true w slots = refl
 
 module _ (daily : Bool) (w : List ℕ) (r : Stored) (slots : ℕ → Slot) (cols : Columns) {m u : ℕ} (e : m ≡ nurses w)
     (q : Is u (countTo m (λ i. not (getD (r .placed) i false))) 48) (a : Agree w r slots)
@@ -138,15 +137,9 @@ module _ (daily : Bool) (w : List ℕ) (r : Stored) (slots : ℕ → Slot) (cols
   waiting : u ≡ unplacedIn w slots
   waiting = q .is ∙ unplaced-is w r slots e a
 
-  pub penalty-day : {x : ℕ} {y : Penalty} → daily ≡ true → x ≡ total (partsOf y)
-      → ((l : ℕ → Slot) → ShownDay w l (nurses w) cols → u ≡ unplacedIn w l → partsOf y ≡ dayParts w l) → x ≡ costOf daily w slots
-  unfolding dayPenalty
-  penalty-day d f g = rw d (f ∙ ap total (g slots (shown-day daily w slots (nurses w) cols d (s slots a)) waiting))
-
-  pub penalty-night : {x : ℕ} {y : Penalty} → daily ≡ false → x ≡ total (partsOf y)
-      → ((l : ℕ → Slot) → ShownNight w l (nurses w) cols → u ≡ unplacedIn w l → partsOf y ≡ nightParts w l) → x ≡ costOf daily w slots
-  unfolding nightPenalty
-  penalty-night d f g = rw d (f ∙ ap total (g slots (shown-night daily w slots (nurses w) cols d (s slots a)) waiting))
+  pub penalty-is : {x : ℕ} {y : Penalty} → x ≡ total (partsOf y)
+      → ((l : ℕ → Slot) → Shows daily w l cols → u ≡ unplacedIn w l → partsOf y ≡ partsIn daily w l) → x ≡ costOf daily w slots
+  penalty-is f g = f ∙ ap total (g slots (s slots a) waiting) ∙ cost-total daily w slots
 
 -- ---- a nurse's trials
 
@@ -213,12 +206,12 @@ module _ (w : List ℕ) (r : Stored) (i : ℕ) (l : i < nurses w) (P : Phase) wh
   pub cost-there : (daily : Bool) {lists ends : List ℕ} {u others : ℕ} → Accepted w → Seeks daily w lists ends P
       → u ≡ countTo (nurses w) (λ j. not (getD (r .placed) j false))
       → ((a : ℕ) → u ≡ a + oneIf (not (getD (r .placed) i false)) → others ≡ a)
-      → (λ p. restOf daily w (exchanged slotsIn i p) + 10000000 * others) ≡ costIn P (viewOf P r) i
+      → (λ p. rest (partsIn daily w (exchanged slotsIn i p)) + 10000000 * others) ≡ costIn P (viewOf P r) i
   cost-there daily {others = others} a s q f =
-      fun-ext (λ p. ap (λ (x : ℕ). restOf daily w (exchanged slotsIn i p) + 10000000 * x) (others-are (s .nurses-are) q f p)
+      fun-ext (λ p. ap (λ (x : ℕ). rest (partsIn daily w (exchanged slotsIn i p)) + 10000000 * x) (others-are (s .nurses-are) q f p)
       ∙ sym (s .cost-is (exchanged slotsIn i p) ∙ splits daily p))
     where
-      splits : (d : Bool) (p : ℕ) → costOf d w (exchanged slotsIn i p) ≡ restOf d w (exchanged slotsIn i p) + 10000000 * unplacedIn w (exchanged slotsIn i p)
+      splits : (d : Bool) (p : ℕ) → costOf d w (exchanged slotsIn i p) ≡ rest (partsIn d w (exchanged slotsIn i p)) + 10000000 * unplacedIn w (exchanged slotsIn i p)
       splits true p = day-split w (exchanged slotsIn i p) a .0 ∙ omega arith
       splits false p = night-split w (exchanged slotsIn i p) a .0 ∙ omega arith
 

@@ -8,10 +8,8 @@ use Rattle.numbers.specs.Range.{keep, Ascending}
 use Rattle.fields.specs.Fields.{nurses, tabu}
 use Rattle.nights.specs.Nights.{commonOf}
 use Rattle.nights.specs.Hers.{hersOf}
-use Rattle.penalty.specs.declared.columns.Columns.{Columns}
 use Rattle.history.specs.Slot.{Slot}
-use Rattle.penalty.specs.Penalty.{rest, startsIn, workedIn, nightParts, dayParts, nightPenalty, dayPenalty}
-use Rattle.penalty.specs.Columns.{ShownNight, ShownDay}
+use Rattle.penalty.specs.Penalty.{startsIn, workedIn, nightPenalty, dayPenalty}
 use Rattle.history.specs.Phase.{Phase, Answer, ended, End·zero, End·asked, End·none}
 use Rattle.search.specs.Stored.{slotAt, viewOf, soundStored}
 use Rattle.search.specs.declared.Ending.{Ending}
@@ -24,19 +22,10 @@ abbrev pub costOf : Bool → List ℕ → (ℕ → Slot) → ℕ
 costOf true w slots = dayPenalty w slots
 costOf false w slots = nightPenalty w slots
 
--- what is short and over in it
-abbrev pub restOf : Bool → List ℕ → (ℕ → Slot) → ℕ
-restOf true w slots = rest (dayParts w slots)
-restOf false w slots = rest (nightParts w slots)
-
 -- the days that a slot counts on: her pattern, or her marks while she is unplaced
 abbrev pub patternFor : Bool → List ℕ → ℕ → Slot → ℕ
 patternFor true w i s = workedIn w i s
 patternFor false w i s = startsIn w i s
-
-abbrev pub Shown : Bool → List ℕ → (ℕ → Slot) → ℕ → Columns → Type 0
-Shown true w slots m c = ShownDay w slots m c
-Shown false w slots m c = ShownNight w slots m c
 
 -- these slots are those of a stored record, as far as there are nurses
 unfoldable pub Agree : List ℕ → Stored → (ℕ → Slot) → Type 0

@@ -11,7 +11,8 @@ ghost use Rattle.numbers.specs.Digits.{numberOf};
 ghost use Rattle.fields.specs.Fields.{Accepted, Block, nurses, markOn};
 ghost use Rattle.history.specs.Slot.{Slot};
 ghost use Rattle.search.specs.Stored.{slotAt};
-ghost use Rattle.search.specs.Seek.{costOf, patternFor, Shown, Agree};
+ghost use Rattle.penalty.specs.Columns.{Shown};
+ghost use Rattle.search.specs.Seek.{costOf, patternFor, Agree};
 
 // The days with this mark, as a set.
 fn marked_days(b: &[u64], n: usize, mark: u64) -> u32
@@ -101,10 +102,6 @@ pub fn penalty_of(w: &[u64], rec: Record, daily: bool) -> u64
     let m = fields::nurses(w);
     let cols = columns(w, rec, daily);
     let waiting = unplaced(rec, m);
-    if daily {
-        let parts = penalty::day_parts(w, cols, waiting);
-        return parts.total();
-    }
-    let parts = penalty::night_parts(w, cols, waiting);
+    let parts = penalty::parts(w, cols, waiting, daily);
     parts.total()
 }

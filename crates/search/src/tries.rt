@@ -22,7 +22,8 @@ ghost use Rattle.history.specs.Phase.{Phase};
 ghost use Rattle.history.specs.Record.{mayTake};
 ghost use Rattle.search.specs.Stored.{view, viewOf};
 ghost use Rattle.best.specs.Best.{considered, overList, costIn, bestOver};
-ghost use Rattle.search.specs.Seek.{Shown, Agree, Lists, Seeks};
+ghost use Rattle.penalty.specs.Columns.{Shown};
+ghost use Rattle.search.specs.Seek.{Agree, Lists, Seeks};
 
 // Which search it is, and by day where each nurse's stretch of the lists ends.
 pub struct Plan {

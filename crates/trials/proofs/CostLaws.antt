@@ -1,5 +1,5 @@
 -- A nurse's table: how it is filled, and that a trial by it is the penalty counted afresh after the exchange.
-use mathlib.Core.Path.{_≡_, refl, sym, ap, ap₂, _∙_}
+use mathlib.Core.Path.{_≡_, refl, sym, ap, ap₂, _∙_, subst}
 use mathlib.Core.Bool.{Bool, true, false, cond}
 use mathlib.Core.List.{List}
 use mathlib.Core.Logic.{⊎-elim}
@@ -24,10 +24,10 @@ use Rattle.trials.specs.declared.costs.Costs.{Costs}
 use Rattle.trials.specs.declared.costs.Three.{Three}
 use Rattle.history.specs.Slot.{Slot}
 use Rattle.penalty.specs.Penalty.{shortOn, overOn, exchanged, atNight, free, atDay, nightParts, dayParts}
-use Rattle.penalty.specs.Columns.{ShowsNight, ShowsDay}
-use Rattle.trials.specs.Costs.{trialAt, trialOf, Small, TrialsNight, TrialsDay}
+use Rattle.penalty.specs.Columns.{Shows}
+use Rattle.trials.specs.Costs.{trialAt, trialOf, Small, TrialsNight, TrialsDay, Trials}
 use Rattle.penalty.specs.Walk.{weightsOf, noHigh, dutyCost}
-use Rattle.trials.specs.Walk.{Tells, nightWith, dayWith, NightDay, DayDay, Filled}
+use Rattle.trials.specs.Walk.{Tells, dayWith, Entries, Filled}
 use Rattle.penalty.proofs.ColumnLaws.{zeros, night-after, free-after, day-after}
 use Rattle.penalty.proofs.CountLaws.{short-same, over-same, cost-both, cost-low}
 
@@ -49,8 +49,8 @@ wider h = record { is = h .is; most = omega (arith, h .most) }
 pub night-three : (w : List ℕ) (d i night day : ℕ) {a b : Pair}
     → Tells a (λ x. dutyCost (weightsOf w 0) (masks w) (needs w d) 0 (put (has night) i x)) 185600
     → Tells b (λ x. dutyCost (noHigh (weightsOf w 1)) (masks w) (needs w d) 1 (put (has day) i x)) 185600
-    → NightDay w d i night day (record { night = a .on + b .off; free = a .off + b .on; none = a .off + b .off })
-unfolding nightWith
+    → Entries false w d i night day (record { night = a .on + b .off; free = a .off + b .on; none = a .off + b .off })
+unfolding dayWith
 night-three w d i night day x y = record {
   at-night = both (x .on-is) (y .off-is);
   at-free = both (x .off-is) (y .on-is);
@@ -59,9 +59,13 @@ night-three w d i night day x y = record {
 
 pub day-three : (w : List ℕ) (d i day : ℕ) {b : Pair}
     → Tells b (λ x. dutyCost (weightsOf w 1) (masks w) (needs w d) 1 (put (has day) i x)) 185600
-    → DayDay w d i day (record { night = b .off; free = b .on; none = b .off })
+    → (night : ℕ) → Entries true w d i night day (record { night = b .off; free = b .on; none = b .off })
 unfolding dayWith
-day-three w d i day y = record { at-night = wider (y .off-is); at-free = wider (y .on-is); at-none = wider (y .off-is) }
+day-three w d i day y night = record { at-night = wider (y .off-is); at-free = wider (y .on-is); at-none = wider (y .off-is) }
+
+-- in the search that the flag says
+pub entries-as : (daily b : Bool) (w : List ℕ) (d i night day : ℕ) {r : Three} → daily ≡ b → Entries b w d i night day r → Entries daily w d i night day r
+entries-as daily b w d i night day {r} e h = subst (λ (x : Bool). Entries x w d i night day r) (sym e) h
 
 -- ---- filling the table
 
@@ -89,66 +93,48 @@ fill-small l f b d p e = go (decLt e d)
     go (yes q) = p .done e q .most
     go (no q) = omega (arith, p .left e (omega arith))
 
--- a day's cost by night with nurse i in a state, and by day with her worked or not
-unfoldable pub nightAt : List ℕ → Columns → ℕ → Bool → Bool → ℕ → ℕ
-nightAt w c i a b d = nightWith w d i a b (getD (c .night) d 0) (getD (c .day) d 0)
+-- what a day costs on these columns with nurse i in a state
+unfoldable pub entryAt : Bool → List ℕ → Columns → ℕ → Bool → Bool → ℕ → ℕ
+entryAt daily w c i a b d = dayWith daily w d i a b (getD (c .night) d 0) (getD (c .day) d 0)
 
-unfoldable pub dayAt : List ℕ → Columns → ℕ → Bool → ℕ → ℕ
-dayAt w c i b d = dayWith w d i b (getD (c .day) d 0)
-
--- three lists filled up to d
-pub record Table (f g h : ℕ → ℕ) (n d : ℕ) (t : Costs) : Type 0 where
+-- the table filled up to d
+pub record Table (daily : Bool) (w : List ℕ) (c : Columns) (i n d : ℕ) (t : Costs) : Type 0 where
   pub inside : d ≤ n
-  pub nights : Filled (t .night) f 371200 d
-  pub frees : Filled (t .free) g 371200 d
-  pub nones : Filled (t .none) h 371200 d
+  pub nights : Filled (t .night) (entryAt daily w c i true false) 371200 d
+  pub frees : Filled (t .free) (entryAt daily w c i false true) 371200 d
+  pub nones : Filled (t .none) (entryAt daily w c i false false) 371200 d
 
-abbrev pub NightTable : List ℕ → Columns → ℕ → ℕ → ℕ → Costs → Type 0
-NightTable w c i n d t = Table (nightAt w c i true false) (nightAt w c i false true) (nightAt w c i false false) n d t
+module _ (daily : Bool) (w : List ℕ) (c : Columns) (i n : ℕ) where
+  pub table-start : Table daily w c i n 0 (record { night = replicate 33 0; free = replicate 33 0; none = replicate 33 0 })
+  table-start = record { inside = omega arith; nights = fill-start _ _; frees = fill-start _ _; nones = fill-start _ _ }
 
-abbrev pub DayTable : List ℕ → Columns → ℕ → ℕ → ℕ → Costs → Type 0
-DayTable w c i n d t = Table (dayAt w c i false) (dayAt w c i true) (dayAt w c i false) n d t
-
-pub table-start : (f g h : ℕ → ℕ) (n : ℕ) → Table f g h n 0 (record { night = replicate 33 0; free = replicate 33 0; none = replicate 33 0 })
-table-start f g h n = record { inside = omega arith; nights = fill-start _ _; frees = fill-start _ _; nones = fill-start _ _ }
-
-pub table-turn : (f g h : ℕ → ℕ) (n d : ℕ) (t : Costs) {x y z : ℕ} → Table f g h n d t → d < n → n ≤ 31 → Is x (f d) 371200 → Is y (g d) 371200 → Is z (h d) 371200
-    → Table f g h n (d + 1) (record { night = set (t .night) d x; free = set (t .free) d y; none = set (t .none) d z })
-table-turn f g h n d t k l m x y z =
-    let low : d < 31 = omega arith in
-    record {
-      inside = omega arith;
-      nights = fill-turn _ _ _ _ (k .nights) low x;
-      frees = fill-turn _ _ _ _ (k .frees) low y;
-      nones = fill-turn _ _ _ _ (k .nones) low z;
-    }
-
-pub night-row : (w : List ℕ) (c : Columns) (i n d : ℕ) (t : Costs) {r : Three} → NightTable w c i n d t → d < n → n ≤ 31
-    → NightDay w d i (getD (c .night) d 0) (getD (c .day) d 0) r
-    → NightTable w c i n (d + 1) (record { night = set (t .night) d (r .night); free = set (t .free) d (r .free); none = set (t .none) d (r .none) })
-unfolding nightAt
-night-row w c i n d t k l m r = table-turn _ _ _ n d t k l m (r .at-night) (r .at-free) (r .at-none)
-
-pub day-row : (w : List ℕ) (c : Columns) (i n d : ℕ) (t : Costs) {r : Three} → DayTable w c i n d t → d < n → n ≤ 31 → DayDay w d i (getD (c .day) d 0) r
-    → DayTable w c i n (d + 1) (record { night = set (t .night) d (r .night); free = set (t .free) d (r .free); none = set (t .none) d (r .none) })
-unfolding dayAt
-day-row w c i n d t k l m r = table-turn _ _ _ n d t k l m (r .at-night) (r .at-free) (r .at-none)
+  pub table-turn : (d : ℕ) (t : Costs) {r : Three} → Table daily w c i n d t → d < n → n ≤ 31 → Entries daily w d i (getD (c .night) d 0) (getD (c .day) d 0) r
+      → Table daily w c i n (d + 1) (record { night = set (t .night) d (r .night); free = set (t .free) d (r .free); none = set (t .none) d (r .none) })
+  unfolding entryAt
+  table-turn d t k l m r =
+      let low : d < 31 = omega arith in
+      record {
+        inside = omega arith;
+        nights = fill-turn _ _ _ _ (k .nights) low (r .at-night);
+        frees = fill-turn _ _ _ _ (k .frees) low (r .at-free);
+        nones = fill-turn _ _ _ _ (k .nones) low (r .at-none);
+      }
 
 all-zero : (a b : Bool) {x y z : ℕ} → x ≡ 0 → y ≡ 0 → z ≡ 0 → cond a x (cond b y z) ≡ 0
 all-zero true b h k l = h
 all-zero false true h k l = k
 all-zero false false h k l = l
 
-pub table-small : (f g h : ℕ → ℕ) (t : Costs) {n d m : ℕ} → Table f g h n d t → n ≤ d → n ≡ m → m ≤ 31 → Small t m
+pub table-small : (daily : Bool) (w : List ℕ) (c : Columns) (i : ℕ) (t : Costs) {n d m : ℕ} → Table daily w c i n d t → n ≤ d → n ≡ m → m ≤ 31 → Small t m
 unfolding trialAt
-table-small f g h t {n} {d} {m} k l e q = record {
+table-small daily w c i t {n} {d} {m} k l e q = record {
   at-most = q;
   night-small = fill-small _ _ _ _ (k .nights);
   free-small = fill-small _ _ _ _ (k .frees);
   none-small = fill-small _ _ _ _ (k .nones);
   past = λ p s x r.
-      let i : d ≤ x = omega (arith, k .inside) in
-      all-zero (has p x) (has s x) (k .nights .left x i) (k .frees .left x i) (k .nones .left x i);
+      let z : d ≤ x = omega (arith, k .inside) in
+      all-zero (has p x) (has s x) (k .nights .left x z) (k .frees .left x z) (k .nones .left x z);
 }
 
 -- ---- a trial
@@ -161,10 +147,10 @@ state-is f false false h ex ey ez = ez
 
 module _ (w : List ℕ) (c : Columns) (i : ℕ) (slots : ℕ → Slot) (a : Accepted w) (l : i < nurses w) where
   -- by night
-  night-cost : ShowsNight w slots c → (p d : ℕ) → d < days w
-      → nightAt w c i (has p d) (availableOn (block w i) p (suc d)) d
+  night-cost : Shows false w slots c → (p d : ℕ) → d < days w
+      → entryAt false w c i (has p d) (availableOn (block w i) p (suc d)) d
       ≡ (shortOn w 0 (atNight w (exchanged slots i p) d) d + shortOn w 1 (free w (exchanged slots i p) d) d) + overOn w 0 (atNight w (exchanged slots i p) d) d
-  unfolding nightAt nightWith
+  unfolding entryAt dayWith
   night-cost s p d h =
       let f = put (has (getD (c .night) d 0)) i (has p d) in
       let g = put (has (getD (c .day) d 0)) i (availableOn (block w i) p (suc d)) in
@@ -179,23 +165,23 @@ module _ (w : List ℕ) (c : Columns) (i : ℕ) (slots : ℕ → Slot) (a : Acce
         short-same w a 1 d g _ y,
       )
 
-  pub night-trials : (t : Costs) {n e : ℕ} → NightTable w c i n e t → n ≤ e → n ≡ days w → ShowsNight w slots c → TrialsNight w slots i t
+  night-trials : (t : Costs) {n e : ℕ} → Table false w c i n e t → n ≤ e → n ≡ days w → Shows false w slots c → TrialsNight w slots i t
   unfolding trialOf trialAt nightParts
   night-trials t {n} {e} k q m s = record {
     afresh = λ p set g.
         sum-ext (days w) _ _ (λ d h.
         let b : d < e = omega arith in
         ap (λ (x : Bool). cond (has p d) (getD (t .night) d 0) (cond x (getD (t .free) d 0) (getD (t .none) d 0))) (g d h)
-        ∙ state-is (λ x y. nightAt w c i x y d) (has p d) (availableOn (block w i) p (suc d)) (started-busy (block w i) p d)
+        ∙ state-is (λ x y. entryAt false w c i x y d) (has p d) (availableOn (block w i) p (suc d)) (started-busy (block w i) p d)
         (k .nights .done d b .is) (k .frees .done d b .is) (k .nones .done d b .is)
         ∙ night-cost s p d h)
         ∙ sum-add (days w) _ _;
   }
 
   -- by day
-  day-cost : ShowsDay w slots c → (q d : ℕ) → d < days w
-      → dayAt w c i (has q d) d ≡ shortOn w 1 (atDay w (exchanged slots i q) d) d + overOn w 1 (atDay w (exchanged slots i q) d) d
-  unfolding dayAt dayWith
+  day-cost : Shows true w slots c → (q d : ℕ) → d < days w
+      → entryAt true w c i false (has q d) d ≡ shortOn w 1 (atDay w (exchanged slots i q) d) d + overOn w 1 (atDay w (exchanged slots i q) d) d
+  unfolding entryAt dayWith
   day-cost s q d h =
       let f = put (has (getD (c .day) d 0)) i (has q d) in
       let x = day-after w slots i q l d _ (s .day-shown d h) in
@@ -208,13 +194,17 @@ module _ (w : List ℕ) (c : Columns) (i : ℕ) (slots : ℕ → Slot) (a : Acce
   nothing : (d : ℕ) → has 0 d ≡ false
   nothing d = rw (bit-of-zero d)
 
-  pub day-trials : (t : Costs) {n e : ℕ} → DayTable w c i n e t → n ≤ e → n ≡ days w → ShowsDay w slots c → TrialsDay w slots i t
+  day-trials : (t : Costs) {n e : ℕ} → Table true w c i n e t → n ≤ e → n ≡ days w → Shows true w slots c → TrialsDay w slots i t
   unfolding trialOf trialAt dayParts
   day-trials t {n} {e} k r m s = record {
     afresh = λ q.
         sum-ext (days w) _ _ (λ d h.
         let b : d < e = omega arith in
-        worked-is (λ x. dayAt w c i x d) (has 0 d) (has q d) (getD (t .night) d 0) (nothing d) (k .frees .done d b .is) (k .nones .done d b .is)
+        worked-is (λ x. entryAt true w c i false x d) (has 0 d) (has q d) (getD (t .night) d 0) (nothing d) (k .frees .done d b .is) (k .nones .done d b .is)
         ∙ day-cost s q d h)
         ∙ sum-add (days w) _ _;
   }
+
+  pub table-trials : (daily : Bool) (t : Costs) {n e : ℕ} → Table daily w c i n e t → n ≤ e → n ≡ days w → Shows daily w slots c → Trials daily w slots i t
+  table-trials false t k q m s = night-trials t k q m s
+  table-trials true t k q m s = day-trials t k q m s

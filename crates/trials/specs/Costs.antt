@@ -1,6 +1,6 @@
 -- A nurse's table: what each day costs with her at night, available, or neither, all others as they are.
 use mathlib.Core.Path.{_≡_}
-use mathlib.Core.Bool.{cond}
+use mathlib.Core.Bool.{Bool, true, false, cond}
 use mathlib.Core.List.{List}
 use Prim.Native.Nat.{ℕ, _+_, _*_, _/_, _%_, _≤_, _<_}
 use lib.ListN.{getD}
@@ -35,6 +35,11 @@ pub record TrialsNight (w : List ℕ) (slots : ℕ → Slot) (i : ℕ) (c : Cost
 
 pub record TrialsDay (w : List ℕ) (slots : ℕ → Slot) (i : ℕ) (c : Costs) : Type 0 where
   pub afresh : (q : ℕ) → trialOf c (days w) 0 q ≡ rest (dayParts w (exchanged slots i q))
+
+-- by night (false) or by day (true)
+abbrev pub Trials : Bool → List ℕ → (ℕ → Slot) → ℕ → Costs → Type 0
+Trials false w slots i c = TrialsNight w slots i c
+Trials true w slots i c = TrialsDay w slots i c
 
 -- ---- sums over three days at a time
 

@@ -4,10 +4,9 @@ use mathlib.Core.Bool.{Bool, true, false}
 use mathlib.Core.List.{List}
 use Prim.Native.Nat.{ℕ}
 use Rattle.history.specs.Slot.{Slot}
-use Rattle.fields.specs.Fields.{nurses}
 use Rattle.penalty.specs.declared.columns.Columns.{Columns}
-use Rattle.penalty.specs.Penalty.{rest, exchanged, nightParts, dayParts}
-use Rattle.penalty.specs.Columns.{ShownNight, ShownDay, Frees}
+use Rattle.penalty.specs.Penalty.{rest, exchanged, partsIn}
+use Rattle.penalty.specs.Columns.{Shows, Frees}
 use Rattle.trials.specs.declared.costs.Costs.{Costs}
 use Rattle.trials.specs.Costs.{Small, Chunks, trialOf}
 
@@ -22,7 +21,11 @@ pub record DayTrials (t : List ℕ) (cost : ℕ → ℕ) : Type 0 where
 pub record NightTrials (w : List ℕ) (i : ℕ) (t : List ℕ) (cost : ℕ → ℕ) : Type 0 where
   pub started : (p free : ℕ) → Frees w i p free → tableTrial t p free (cost p)
 
+-- by night (false) or by day (true)
+abbrev pub TableTrials : Bool → List ℕ → ℕ → List ℕ → (ℕ → ℕ) → Type 0
+TableTrials false w i t cost = NightTrials w i t cost
+TableTrials true w i t cost = DayTrials t cost
+
 -- her table, all others as the columns show them: a trial is what is short and over, counted afresh after the exchange
 abbrev pub Tables : Bool → List ℕ → Columns → ℕ → List ℕ → Type 0
-Tables true w cols i t = (slots : ℕ → Slot) → ShownDay w slots (nurses w) cols → DayTrials t (λ q. rest (dayParts w (exchanged slots i q)))
-Tables false w cols i t = (slots : ℕ → Slot) → ShownNight w slots (nurses w) cols → NightTrials w i t (λ p. rest (nightParts w (exchanged slots i p)))
+Tables daily w cols i t = (slots : ℕ → Slot) → Shows daily w slots cols → TableTrials daily w i t (λ p. rest (partsIn daily w (exchanged slots i p)))

@@ -18,25 +18,19 @@ pub record Tells (r : Pair) (f : Bool → ℕ) (b : ℕ) : Type 0 where
 
 -- ---- a nurse's table
 
--- a day by night on its two columns, with nurse i on or not at night and available or not
-unfoldable pub nightWith : List ℕ → ℕ → ℕ → Bool → Bool → ℕ → ℕ → ℕ
-nightWith w d i a b night day =
+-- A day on its two columns, with nurse i at night or not (a), and available or not (b), in the night search (false);
+-- in the day search (true) with her working or not (b).
+unfoldable pub dayWith : Bool → List ℕ → ℕ → ℕ → Bool → Bool → ℕ → ℕ → ℕ
+dayWith false w d i a b night day =
     dutyCost (weightsOf w 0) (masks w) (needs w d) 0 (put (has night) i a)
     + dutyCost (noHigh (weightsOf w 1)) (masks w) (needs w d) 1 (put (has day) i b)
+dayWith true w d i a b night day = dutyCost (weightsOf w 1) (masks w) (needs w d) 1 (put (has day) i b)
 
-pub record NightDay (w : List ℕ) (d i night day : ℕ) (t : Three) : Type 0 where
-  pub at-night : Is (t .night) (nightWith w d i true false night day) 371200
-  pub at-free : Is (t .free) (nightWith w d i false true night day) 371200
-  pub at-none : Is (t .none) (nightWith w d i false false night day) 371200
-
--- a day by day, with nurse i on or not
-unfoldable pub dayWith : List ℕ → ℕ → ℕ → Bool → ℕ → ℕ
-dayWith w d i b day = dutyCost (weightsOf w 1) (masks w) (needs w d) 1 (put (has day) i b)
-
-pub record DayDay (w : List ℕ) (d i day : ℕ) (t : Three) : Type 0 where
-  pub at-night : Is (t .night) (dayWith w d i false day) 371200
-  pub at-free : Is (t .free) (dayWith w d i true day) 371200
-  pub at-none : Is (t .none) (dayWith w d i false day) 371200
+-- the three entries of a day
+pub record Entries (daily : Bool) (w : List ℕ) (d i night day : ℕ) (t : Three) : Type 0 where
+  pub at-night : Is (t .night) (dayWith daily w d i true false night day) 371200
+  pub at-free : Is (t .free) (dayWith daily w d i false true night day) 371200
+  pub at-none : Is (t .none) (dayWith daily w d i false false night day) 371200
 
 -- the first d places of l hold f, each at most b, and the others 0
 pub record Filled (l : List ℕ) (f : ℕ → ℕ) (b d : ℕ) : Type 0 where

@@ -2,12 +2,13 @@
 use crate::pairs;
 use penalty::columns::Columns;
 use penalty::weights;
+ghost use mathlib.Core.Bool.{true, false};
 ghost use Prim.Native.Nat.{ℕ, _<_};
 ghost use Rattle.fields.specs.Fields.{Accepted, nurses, days};
 ghost use Rattle.history.specs.Slot.{Slot};
-ghost use Rattle.penalty.specs.Columns.{ShowsNight, ShowsDay};
-ghost use Rattle.trials.specs.Costs.{Small, TrialsNight, TrialsDay};
-ghost use Rattle.trials.specs.Walk.{NightDay, DayDay};
+ghost use Rattle.penalty.specs.Columns.{Shows};
+ghost use Rattle.trials.specs.Costs.{Small, Trials};
+ghost use Rattle.trials.specs.Walk.{Entries};
 
 // Each day's cost, short and over together: with her at night, available, or neither. By day: free is worked.
 // Eleven groups of three days; 0 past the month.
@@ -27,7 +28,7 @@ pub struct Three {
 // A day by night.
 fn night_day(w: &[u64], d: usize, i: usize, night: u64, day: u64) -> Three
     requires { ⌜ Accepted (now w) × (d < days (now w)) × (i < 64) ⌝ }
-    ensures { λ r. ⌜ NightDay (now (w .entry)) d i night day r ⌝ }
+    ensures { λ r. ⌜ Entries false (now (w .entry)) d i night day r ⌝ }
 {
     let masks = fields::masks(w);
     let row = fields::needs(w, d);
@@ -43,7 +44,7 @@ fn night_day(w: &[u64], d: usize, i: usize, night: u64, day: u64) -> Three
 // A day by day.
 fn day_day(w: &[u64], d: usize, i: usize, day: u64) -> Three
     requires { ⌜ Accepted (now w) × (d < days (now w)) × (i < 64) ⌝ }
-    ensures { λ r. ⌜ DayDay (now (w .entry)) d i day r ⌝ }
+    ensures { λ r. ⌜ ((night : ℕ) → Entries true (now (w .entry)) d i night day r) ⌝ }
 {
     let masks = fields::masks(w);
     let row = fields::needs(w, d);
@@ -55,32 +56,22 @@ fn day_day(w: &[u64], d: usize, i: usize, day: u64) -> Three
     }
 }
 
-// The table of nurse i in the night search.
-pub(crate) fn nurse_costs_night(w: &[u64], cols: Columns, i: usize) -> Costs
-    requires { ⌜ Accepted (now w) × (i < nurses (now w)) ⌝ }
-    ensures small { λ r. ⌜ Small r (days (now (w .entry))) ⌝ }
-    ensures trials { λ r. ⌜ ((slots : ℕ → Slot) → ShowsNight (now (w .entry)) slots cols → TrialsNight (now (w .entry)) slots i r) ⌝ }
+// A day in either search.
+fn on_day(w: &[u64], d: usize, i: usize, night: u64, day: u64, daily: bool) -> Three
+    requires { ⌜ Accepted (now w) × (d < days (now w)) × (i < 64) ⌝ }
+    ensures { λ r. ⌜ Entries daily (now (w .entry)) d i night day r ⌝ }
 {
-    let mut c = Costs {
-        night: [0; 33],
-        free: [0; 33],
-        none: [0; 33],
-    };
-    let n = fields::days(w);
-    for d in 0..n {
-        let t = night_day(w, d, i, cols.night[d], cols.day[d]);
-        c.night[d] = t.night;
-        c.free[d] = t.free;
-        c.none[d] = t.none;
+    if daily {
+        return day_day(w, d, i, day);
     }
-    c
+    night_day(w, d, i, night, day)
 }
 
-// The table of nurse i in the day search.
-pub(crate) fn nurse_costs_day(w: &[u64], cols: Columns, i: usize) -> Costs
+// The table of nurse i, by night or by day.
+pub(crate) fn nurse_costs(w: &[u64], cols: Columns, i: usize, daily: bool) -> Costs
     requires { ⌜ Accepted (now w) × (i < nurses (now w)) ⌝ }
     ensures small { λ r. ⌜ Small r (days (now (w .entry))) ⌝ }
-    ensures trials { λ r. ⌜ ((slots : ℕ → Slot) → ShowsDay (now (w .entry)) slots cols → TrialsDay (now (w .entry)) slots i r) ⌝ }
+    ensures trials { λ r. ⌜ ((slots : ℕ → Slot) → Shows daily (now (w .entry)) slots cols → Trials daily (now (w .entry)) slots i r) ⌝ }
 {
     let mut c = Costs {
         night: [0; 33],
@@ -89,7 +80,7 @@ pub(crate) fn nurse_costs_day(w: &[u64], cols: Columns, i: usize) -> Costs
     };
     let n = fields::days(w);
     for d in 0..n {
-        let t = day_day(w, d, i, cols.day[d]);
+        let t = on_day(w, d, i, cols.night[d], cols.day[d], daily);
         c.night[d] = t.night;
         c.free[d] = t.free;
         c.none[d] = t.none;

@@ -16,10 +16,6 @@ pub fn table(w: &[u64], cols: Columns, i: usize, daily: bool) -> [u64; 704]
     ensures trials { λ r. ⌜ Tables daily (now (w .entry)) cols i r ⌝ }
 {
     let n = fields::days(w);
-    if daily {
-        let costs = costs::nurse_costs_day(w, cols, i);
-        return chunks::chunks(costs, n);
-    }
-    let costs = costs::nurse_costs_night(w, cols, i);
+    let costs = costs::nurse_costs(w, cols, i, daily);
     chunks::chunks(costs, n)
 }

@@ -1,7 +1,7 @@
 -- `penalty::day_day` meets its contract.
 use native.Mathlib.Omega.{arith}
 use Rattle.penalty.proofs.FieldLaws.{row-of, light-of}
-use Rattle.penalty.proofs.CountLaws.{duty-of}
+use Rattle.penalty.proofs.CountLaws.{duty-of, worked-of}
 use borrow.Author.Needs.{needs}
 use Rattle.penalty.proofs.day_day.Statement.{statement}
 use Rattle.penalty.proofs.day_day.Tie as tie
@@ -19,7 +19,7 @@ on-column-requires : tie.Need-on-column-requires
 on-column-requires c κs = (light-of _ _ (c .before .before .before .before .pre .0) (omega arith) (c .before .before .weights .ensures), row-of _ _ (c .before .before .before .before .pre .0) (c .before .before .before .before .pre .1) (c .before .masks .ensures) (c .needs .ensures), search needs)
 
 returns : tie.Need-returns
-returns c = duty-of _ _ _ _ (c .before .before .before .weights .ensures) (c .before .before .masks .ensures) (c .before .needs .ensures) (c .on-column .ensures)
+returns c = worked-of _ _ _ (duty-of _ _ _ _ (c .before .before .before .weights .ensures) (c .before .before .masks .ensures) (c .before .needs .ensures) (c .on-column .ensures))
 
 pub day-day-spec : {M : Type 1} → statement M
 day-day-spec =

@@ -1,37 +1,37 @@
--- `trials::costs::nurse_costs_night` meets its contract: the loop fills the table, and a trial by it is the penalty counted afresh.
+-- `trials::costs::nurse_costs` meets its contract: the loop fills the table, and a trial by it is the penalty counted afresh.
 use borrow.Author.Needs.{needs}
 use Prim.Native.Nat.{_-_}
 use native.Mathlib.Omega.{arith}
-use Rattle.trials.proofs.CostLaws.{NightTable, table-start, night-row, table-small, night-trials}
-use Rattle.trials.proofs.costs.nurse_costs_night.Statement.{statement}
-use Rattle.trials.proofs.costs.nurse_costs_night.Tie as tie
+use Rattle.trials.proofs.CostLaws.{Table, table-start, table-turn, table-small, table-trials}
+use Rattle.trials.proofs.costs.nurse_costs.Statement.{statement}
+use Rattle.trials.proofs.costs.nurse_costs.Tie as tie
 
 abbrev Inv-loop : tie.InvT-loop
-Inv-loop w i cols c₀ n d₀ c d = NightTable w cols i n d c
+Inv-loop w i daily cols c₀ n d₀ c d = Table daily w cols i n d c
 
 abbrev μ-loop : tie.MeasureT-loop
-μ-loop w i cols c₀ n d₀ c d = n - d
+μ-loop w i daily cols c₀ n d₀ c d = n - d
 
 days-requires : tie.Need-days-requires Inv-loop μ-loop
 days-requires c κs = search needs
 
 loop-holds : tie.Need-loop-holds Inv-loop μ-loop
-loop-holds c = table-start _ _ _ _
+loop-holds c = table-start (c .before .before .args .daily) _ _ _ _
 
-mul-night-day : tie.Need-mul-night-day Inv-loop μ-loop
-mul-night-day c = search needs
+mul-on-day : tie.Need-mul-on-day Inv-loop μ-loop
+mul-on-day c = search needs
 
-element-copy-out-night-day : tie.Need-element-copy-out-night-day Inv-loop μ-loop
-element-copy-out-night-day c = search needs
+element-copy-out-on-day : tie.Need-element-copy-out-on-day Inv-loop μ-loop
+element-copy-out-on-day c = search needs
 
-mul-night-day-2 : tie.Need-mul-night-day-2 Inv-loop μ-loop
-mul-night-day-2 c = search needs
+mul-on-day-2 : tie.Need-mul-on-day-2 Inv-loop μ-loop
+mul-on-day-2 c = search needs
 
-element-copy-out-night-day-2 : tie.Need-element-copy-out-night-day-2 Inv-loop μ-loop
-element-copy-out-night-day-2 c = search needs
+element-copy-out-on-day-2 : tie.Need-element-copy-out-on-day-2 Inv-loop μ-loop
+element-copy-out-on-day-2 c = search needs
 
-night-day-requires : tie.Need-night-day-requires Inv-loop μ-loop
-night-day-requires c κs = search needs
+on-day-requires : tie.Need-on-day-requires Inv-loop μ-loop
+on-day-requires c κs = search needs
 
 mul-c : tie.Need-mul-c Inv-loop μ-loop
 mul-c c = search needs
@@ -58,27 +58,27 @@ loop-less : tie.Need-loop-less Inv-loop μ-loop
 loop-less c = search needs
 
 loop-again : tie.Need-loop-again Inv-loop μ-loop
-loop-again c = night-row _ _ _ _ _ _ (c .before .before .before .before .loop .inv) (c .before .before .before .loop-test .taken) (omega (arith, c .before .before .before .before .before .days .ensures .0, c .before .before .before .before .before .before .before .pre .0 .days-most)) (c .night-day .ensures)
+loop-again c = table-turn (c .before .before .before .before .before .before .before .args .daily) _ _ _ _ _ _ (c .before .before .before .before .loop .inv) (c .before .before .before .loop-test .taken) (omega (arith, c .before .before .before .before .before .days .ensures .0, c .before .before .before .before .before .before .before .pre .0 .days-most)) (c .on-day .ensures)
 
 returns : tie.Need-returns Inv-loop μ-loop
 returns c = (
-  table-small _ _ _ _ (c .before .loop .inv) (c .loop-test .left) (c .before .before .days .ensures .0) (c .before .before .before .before .pre .0 .days-most),
-  λ slots s. night-trials _ _ _ slots (c .before .before .before .before .pre .0) (c .before .before .before .before .pre .1) _ (c .before .loop .inv) (c .loop-test .left) (c .before .before .days .ensures .0) s,
+  table-small (c .before .before .before .before .args .daily) _ _ _ _ (c .before .loop .inv) (c .loop-test .left) (c .before .before .days .ensures .0) (c .before .before .before .before .pre .0 .days-most),
+  λ slots s. table-trials (c .before .before .before .before .args .w .now) _ (c .before .before .before .before .args .i) slots (c .before .before .before .before .pre .0) (c .before .before .before .before .pre .1) (c .before .before .before .before .args .daily) _ (c .before .loop .inv) (c .loop-test .left) (c .before .before .days .ensures .0) s,
 )
 
-pub nurse-costs-night-spec : {M : Type 1} → statement M
-nurse-costs-night-spec =
+pub nurse-costs-spec : {M : Type 1} → statement M
+nurse-costs-spec =
     tie.close
     (tie.spec
     Inv-loop
     μ-loop
     days-requires
     loop-holds
-    mul-night-day
-    element-copy-out-night-day
-    mul-night-day-2
-    element-copy-out-night-day-2
-    night-day-requires
+    mul-on-day
+    element-copy-out-on-day
+    mul-on-day-2
+    element-copy-out-on-day-2
+    on-day-requires
     mul-c
     element-write-c
     mul-c-2

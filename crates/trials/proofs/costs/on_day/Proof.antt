@@ -1,0 +1,21 @@
+-- `trials::costs::on_day` meets its contract.
+use mathlib.Core.Bool.{true, false}
+use Rattle.trials.proofs.CostLaws.{entries-as}
+use borrow.Author.Needs.{needs}
+use Rattle.trials.proofs.costs.on_day.Statement.{statement}
+use Rattle.trials.proofs.costs.on_day.Tie as tie
+
+day-day-requires : tie.Need-day-day-requires
+day-day-requires c κs = search needs
+
+returns : tie.Need-returns
+returns c = entries-as (c .before .before .before .args .daily) true (c .before .before .before .args .w .now) (c .before .before .before .args .d) (c .before .before .before .args .i) (c .before .before .before .args .night) (c .before .before .before .args .day) (c .before .if1 .taken) (c .day-day .ensures (c .before .before .before .args .night))
+
+night-day-requires : tie.Need-night-day-requires
+night-day-requires c κs = search needs
+
+returns-2 : tie.Need-returns-2
+returns-2 c = entries-as (c .before .before .before .args .daily) false (c .before .before .before .args .w .now) (c .before .before .before .args .d) (c .before .before .before .args .i) (c .before .before .before .args .night) (c .before .before .before .args .day) (c .before .if1 .left) (c .night-day .ensures)
+
+pub on-day-spec : {M : Type 1} → statement M
+on-day-spec = tie.close (tie.spec day-day-requires returns night-day-requires returns-2)
