@@ -5,5 +5,7 @@ pub mod RunLaws
 pub mod FollowLaws
 pub mod PlacedLaws
 pub mod DemandLaws
+pub mod TurnLaws
+pub mod WithoutLaws
 pub mod Unique
 pub mod Worked

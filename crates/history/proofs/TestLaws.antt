@@ -1,11 +1,11 @@
 -- Laws of Boolean tests, read as equations.
-use mathlib.Core.Path.{_≡_, refl, sym, _∙_}
+use mathlib.Core.Path.{_≡_, refl, sym, ap, _∙_}
 use mathlib.Core.Bool.{Bool, true, false, not, _&&_, _||_, true≢false, false≢true}
-use mathlib.Core.Logic.{_⊎_, inl, inr}
+use mathlib.Core.Logic.{_⊎_, inl, inr, _≢_}
 use mathlib.Core.Option.{none, some}
 use Prim.Native.Nat.{ℕ}
 use borrow.Author.Tests.{eqb-true, eq-eqb}
-use Rattle.history.specs.Slot.{Slot}
+use Rattle.history.specs.Slot.{Slot, isNone}
 use Rattle.history.specs.Phase.{holds}
 
 pub and-true : (a b : Bool) → (a && b) ≡ true → (a ≡ true) × (b ≡ true)
@@ -38,6 +38,17 @@ not-of-false b e = rw e
 pub false-of : (b : Bool) → (b ≡ true → ⊥) → b ≡ false
 false-of true n = absurd (n refl)
 false-of false n = refl
+
+-- a slot's pattern, where there is one
+pub some-same : {a b : ℕ} → some a ≡ some b → a ≡ b
+some-same {a} {b} e = ap held e
+  where
+    held : Slot → ℕ
+    held none = 0
+    held (some p) = p
+
+pub some-not-none : (p : ℕ) → some p ≢ none
+some-not-none p e = false≢true (ap isNone e)
 
 pub holds-true : (s : Slot) (p : ℕ) → holds s p ≡ true → s ≡ some p
 holds-true none p e = absurd (false≢true e)

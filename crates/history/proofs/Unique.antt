@@ -1,8 +1,8 @@
 -- The claim's own words fix the answers and the history: whoever believes `Turns` and `Steps` need not read how the history is computed.
-use Prim.Native.Nat.{ℕ, zero, suc, _+_, _-_, _≤_, _<_}
+use Prim.Native.Nat.{ℕ, zero, suc, _-_, _≤_, _<_}
 use mathlib.Core.Path.{_≡_, refl, sym, ap, _∙_, subst}
 use mathlib.Core.Logic.{_≢_, _↔_, ⊎-elim}
-use mathlib.Core.List.{List, [], _∷_, _++_, reverse, reverseAux, reverseAux-eq, reverse-reverse, append-assoc}
+use mathlib.Core.List.{List, [], _∷_, reverse, reverseAux, reverseAux-eq, reverse-reverse}
 use mathlib.Core.Option.{Option, none, some}
 use native.Mathlib.Omega.{arith}
 use native.Mathlib.Nat.{not-suc-le-zero}
@@ -11,12 +11,13 @@ use lib.ListN.{length, length-append, length-reverse}
 use borrow.Author.Tests.{eqb-true, eqb-false}
 use Rattle.history.specs.Phase.{Step, Phase, Call, Answer, ended, End, End·zero, End·asked, End·none, given, inTurn}
 use Rattle.history.specs.History.{History, inUse, penalty, next, extend, reply, advance, answers, history}
-use Rattle.history.specs.Claim.{Allowed, Least, Steps, Made, Went, refuses, goes, Turns, done, turn}
+use Rattle.history.specs.Claim.{Allowed, Least, Steps, Made, Went, refuses, goes, Turns, done, turn, Determined}
 use Rattle.history.proofs.TestLaws.{cases}
 use Rattle.history.proofs.AllowedLaws.{next-none, next-some}
 use Rattle.history.proofs.RunLaws.{run-zero, run-asked, run-none, run-step}
 use Rattle.history.proofs.FollowLaws.{advance-refused, advance-goes}
 use Rattle.history.proofs.ChooseLaws.{step-path}
+use Rattle.history.proofs.TurnLaws.{steps-then}
 use Rattle.history.proofs.DemandLaws.{no-next, given-letters, zero≢asked}
 
 module _ (P : Phase) where
@@ -101,28 +102,11 @@ module _ (P : Phase) where
   went-is {c} {h} (refuses {n = n} e) f = sym (advance-refused P c h n e)
   went-is {c} {h} (goes {h′ = h′} {e = e} {n = n} {c = p} {l = l} q r) f = made-is (c .steps) h h′ e n p l r f ∙ sym (advance-goes P c h q)
 
-  went-extends : {c : Call} {h h′ : History} {a : Answer} → Went P c h a h′ → (new : History) × (h′ ≡ new ++ h)
-  went-extends (refuses e) = ([], refl)
-  went-extends (goes q r) = (r .new, r .added)
-
-  turns-extend : {cs : List Call} {l : List Answer} {h h′ : History} → Turns P cs l h h′ → (new : History) × (h′ ≡ new ++ h)
-  turns-extend done = ([], refl)
-  turns-extend (turn {h = h} w t) =
-      let a = went-extends w in
-      let b = turns-extend t in
-      (b .0 ++ a .0, b .1 ∙ ap (λ (x : History). b .0 ++ x) (a .1) ∙ sym (append-assoc (b .0) (a .0) h))
-
-  steps-before : (h h′ new : History) → h′ ≡ new ++ h → Steps P h′ → Steps P h
-  steps-before h h′ new e f later s earlier q =
-      f (new ++ later) s earlier (e ∙ ap (λ (x : History). new ++ x) q ∙ sym (append-assoc new later (s ∷ earlier)))
-
   turns-are : {cs : List Call} {l : List Answer} {h h′ : History} → Turns P cs l h h′ → Steps P h′ → (l, h′) ≡ inTurn (advance P) cs h
   turns-are done f = refl
   turns-are (turn {c = c} {cs = cs} {h = h} {h′ = h′} {h″ = h″} w t) f =
-      let x = turns-extend t in
-      rw (← (went-is w (steps-before h′ h″ (x .0) (x .1) f)), ← (turns-are t f))
+      rw (← (went-is w (steps-then P t f)), ← (turns-are t f))
 
--- whatever takes these calls from fresh as the claim says has these answers and this history
-pub determined : (P : Phase) (cs : List Call) (l : List Answer) (h : History) → Turns P cs l [] h → Steps P h → (l ≡ answers P cs) × (h ≡ history P cs)
+pub determined : Determined
 unfolding answers history
 determined P cs l h t f = let e = turns-are P t f in (ap (λ (x : List Answer × History). x .0) e, ap (λ (x : List Answer × History). x .1) e)

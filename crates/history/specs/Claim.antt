@@ -1,9 +1,9 @@
 -- Demand 3: one claim about a whole list of advances.
-use Prim.Native.Nat.{ℕ, _+_, _*_, _≤_, _<_}
+use Prim.Native.Nat.{ℕ, suc, _+_, _*_, _≤_, _<_}
 use mathlib.Core.Path.{_≡_}
-use mathlib.Core.Logic.{_≢_, _↔_}
-use mathlib.Core.List.{List, [], _∷_, _++_, List·Memᴰ}
-use mathlib.Core.Option.{none, some}
+use mathlib.Core.Logic.{_≢_, _↔_, _⊎_}
+use mathlib.Core.List.{List, [], _∷_, _++_, map, List·Memᴰ}
+use mathlib.Core.Option.{Option, none, some}
 use lib.ListN.{length}
 use Rattle.numbers.specs.Sum.{countTo}
 use Rattle.history.specs.Slot.{Slot, isNone, unplacedCost}
@@ -80,3 +80,29 @@ pub record Demand3 (P : Phase) {R : Type 0} (start : R) (advance : Call → R �
   pub steps : Steps P (history P cs)
   -- once as many steps were made as there are nurses, nobody is unplaced
   pub placed : P .nurses ≤ length (history P cs) → (i : ℕ) → i < P .nurses → inUse (history P cs) i ≢ none
+
+-- The claim's own words are enough: whatever takes these calls from fresh as they say has these answers and this history, so nobody need believe
+-- how the history is computed. proofs/Unique shows it.
+abbrev pub Determined : Type 0
+Determined = (P : Phase) (cs : List Call) (l : List Answer) (h : History) → Turns P cs l [] h → Steps P h → (l ≡ answers P cs) × (h ≡ history P cs)
+
+-- ---- where there is nothing to search
+
+-- nurse i is the lowest who has no pattern
+pub record Without (P : Phase) (i : ℕ) : Type 0 where
+  pub nurse : i < P .nurses
+  pub no-pattern : P .patterns i ≡ []
+  pub lower : (j : ℕ) → j < i → P .patterns j ≢ []
+
+-- every nurse has a pattern, or some nurse is the lowest who has none; proofs/WithoutLaws shows it
+abbrev pub OneOrOther : Type 0
+OneOrOther = (P : Phase) → ((i : ℕ) → i < P .nurses → P .patterns i ≢ []) ⊎ ((i : ℕ) × Without P i)
+
+-- the first no of questions 7 to 9, or else that of question 10, which names nurse i
+abbrev pub orTen : ℕ → Option No → No
+orTen i (some n) = n
+orTen i none = record { question = 10; place = suc i }
+
+-- every advance of a list is refused, with the no that its call has, and the record stays as it was at the start
+abbrev pub AllRefused : {R : Type 0} → R → (Call → R → Answer × R) → (Call → No) → List Call → Type 0
+AllRefused start advance why cs = inTurn advance cs start ≡ (map (λ c. refused (why c)) cs, start)

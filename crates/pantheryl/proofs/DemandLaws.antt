@@ -5,26 +5,27 @@ use mathlib.Core.List.{List, [], _∷_}
 use mathlib.Core.Option.{Option, none, some}
 use native.Mathlib.Omega.{arith}
 use lib.ListN.{length, replicate, length-take}
-use Rattle.layout.specs.Grammar.{good}
+use Rattle.layout.specs.Grammar.{good, bad}
 use Rattle.ward.specs.Answers.{readWard}
 use Rattle.ward.proofs.RoundTrip.{ward-back}
 use Rattle.ward.proofs.BothWaysLaws.{all-bytes}
 use Rattle.ward.proofs.AcceptedLaws.{accepted-ward}
-use Rattle.history.specs.Phase.{Phase, Step, Call, No, Answer, inTurn}
+use Rattle.history.specs.Phase.{Phase, Step, Call, No, Answer, refused, refusal, inTurn}
 use Rattle.history.specs.Record.{Record, total, best, stepped, proceed, replyOf}
-use Rattle.history.specs.Claim.{Demand3}
+use Rattle.history.specs.Claim.{Demand3, orTen, AllRefused}
 use Rattle.search.specs.Stored.{viewOf, store, allZero, refusalStored, replyStored, advanceStored, Sized, Fits}
 use Rattle.search.specs.declared.Record.{Record as Stored}
 use Rattle.history.proofs.RunLaws.{by-turns}
+use Rattle.history.proofs.WithoutLaws.{all-refused}
 use Rattle.search.proofs.StoredLaws.{view-held, store-sized}
-use Rattle.search.proofs.AdvanceLaws.{stored-refused, stored-goes}
+use Rattle.search.proofs.AdvanceLaws.{stored-refused, stored-goes, stored-without}
 use Rattle.phases.specs.Phases.{nightPhase, dayPhase, nightOf}
 use Rattle.planner.specs.Advances.{advanceOver}
 use Rattle.phases.proofs.PhaseLaws.{night-fits, day-fits}
-use Rattle.planner.proofs.DemandLaws.{advance-read, demand}
+use Rattle.planner.proofs.DemandLaws.{advance-read, advance-unread, demand}
 use Rattle.pantheryl.specs.Words.{wordsOfRecord}
 use Rattle.pantheryl.specs.Answers.{wordsLeft}
-use Rattle.pantheryl.specs.Demand.{byWords, keptWords, WordsDemanded}
+use Rattle.pantheryl.specs.Demand.{byWords, keptWords, WordsRefusing, WordsDemanded}
 use Rattle.pantheryl.proofs.BackLaws.{read-back}
 
 -- ---- a record handed back has its declared sizes
@@ -109,11 +110,39 @@ module _ (phase : List ℕ → Phase) (file w : List ℕ) (reads : readWard file
       subst (λ (adv : Call → Stored → Answer × Stored). Demand3 (phase w) (replicate 289 0) (byWords adv) keptWords cs) (sym same)
       (by-words (phase w) fits cs (subst (λ (adv : Call → Stored → Answer × Stored). Demand3 (phase w) allZero adv store cs) same d))
 
+-- a refused advance leaves the words as they were
+refused-words : (advance : Call → Stored → Answer × Stored) (n : No) (c : Call) → advance c allZero ≡ (refused n, allZero)
+    → byWords advance c (replicate 289 0) ≡ (refused n, replicate 289 0)
+unfolding wordsLeft
+refused-words advance n c e = rw (read-back .fresh, e)
+
+-- one advance of a file that reads as w, where a nurse has no pattern
+refusing : (phase : List ℕ → Phase) (file w : List ℕ) → readWard file ≡ good w → WordsRefusing (phase w) (advanceOver phase (readWard file))
+refusing phase file w reads i h cs =
+    all-refused (replicate 289 0) (byWords (advanceOver phase (readWard file))) (λ c. orTen i (refusal (phase w) c 0))
+    (λ c. refused-words (advanceOver phase (readWard file)) (orTen i (refusal (phase w) c 0)) c
+    (ap (λ (adv : Call → Stored → Answer × Stored). adv c allZero) (advance-read phase file w reads) ∙ stored-without (phase w) c allZero i h)) cs
+
+-- a file that is not read
+unread : (phase : List ℕ → Phase) (file : List ℕ) (q p : ℕ) → readWard file ≡ bad q p → (cs : List Call)
+    → AllRefused (replicate 289 0) (byWords (advanceOver phase (readWard file))) (λ c. record { question = q; place = p }) cs
+unread phase file q p e cs =
+    all-refused (replicate 289 0) (byWords (advanceOver phase (readWard file))) (λ c. record { question = q; place = p })
+    (λ c. refused-words (advanceOver phase (readWard file)) (record { question = q; place = p }) c (advance-unread phase file q p c allZero e)) cs
+
 pub words-demand : WordsDemanded
-words-demand file w bytes e =
-    let a = accepted-ward w w (ward-back file w (all-bytes file bytes) e .1) in
-    let d = demand file w bytes e in
-    record {
-      nights = λ has cs. from-file nightPhase file w e (night-fits w a) cs (d .nights has cs);
-      days = λ nights has cs. from-file (λ v. dayPhase v (nightOf nights)) file w e (day-fits w (nightOf nights) a) cs (d .days nights has cs .claim);
-    }
+words-demand = record {
+  accepted = λ file w bytes e.
+      let a = accepted-ward w w (ward-back file w (all-bytes file bytes) e .1) in
+      let d = demand .accepted file w bytes e in
+      record {
+        nights = λ has cs. from-file nightPhase file w e (night-fits w a) cs (d .nights has cs);
+        no-nights = refusing nightPhase file w e;
+        days = λ nights has cs. from-file (λ v. dayPhase v (nightOf nights)) file w e (day-fits w (nightOf nights) a) cs (d .days nights has cs .claim);
+        no-days = λ nights. refusing (λ v. dayPhase v (nightOf nights)) file w e;
+      };
+  unread = λ file q p e. record {
+    nights = λ cs. unread nightPhase file q p e cs;
+    days = λ nights cs. unread (λ v. dayPhase v (nightOf nights)) file q p e cs;
+  };
+}

@@ -3,15 +3,15 @@ use Prim.Native.Nat.{ℕ, _+_, _*_, _<_}
 use mathlib.Core.Path.{_≡_, refl, sym, ap, _∙_, subst}
 use mathlib.Core.Bool.{Bool, true, false, cond, _&&_, true≢false}
 use mathlib.Core.Logic.{_≢_, ⊎-elim}
-use mathlib.Core.List.{List, [], _∷_, _++_, append-assoc, List·Memᴰ, List·Memᴰ·not-nil, List·Memᴰ·cases-cons, Memᴰ·cast}
-use mathlib.Core.Option.{Option, none, some}
+use mathlib.Core.List.{List, [], _∷_, List·Memᴰ, List·Memᴰ·not-nil, List·Memᴰ·cases-cons}
+use mathlib.Core.Option.{none, some}
 use lib.Dec.{leb, eqb}
 use borrow.Author.Tests.{eqb-true}
 use Rattle.numbers.specs.Range.{keep, upFrom, all}
 use Rattle.numbers.specs.Digits.{has}
 use Rattle.numbers.proofs.AllLaws.{all-each}
 use Rattle.fields.specs.Fields.{Accepted, nurses, days}
-use Rattle.layout.specs.Grammar.{Read, good}
+use Rattle.layout.specs.Grammar.{Read, good, bad}
 use Rattle.ward.specs.Answers.{readWard}
 use Rattle.ward.proofs.RoundTrip.{ward-back}
 use Rattle.ward.proofs.BothWaysLaws.{all-bytes}
@@ -22,25 +22,28 @@ use Rattle.history.specs.Slot.{Slot, isNone}
 use Rattle.penalty.specs.Penalty.{workedIn, atDay, nightPenalty, dayPenalty}
 use Rattle.penalty.specs.Held.{DayHeld}
 use Rattle.penalty.proofs.HeldLaws.{day-zero, day-held}
-use Rattle.history.specs.Phase.{Step, Phase, Call, No, Answer, End, End·zero, End·asked, End·none, first, unless, refusal, ended}
+use Rattle.history.specs.Phase.{Phase, Call, Answer, End, End·zero, End·asked, End·none, first, unless, refusal, refused, ended}
 use Rattle.history.specs.History.{History, inUse, penalty}
-use Rattle.history.specs.Claim.{Steps, Made, refuses, goes, Turns, done, turn, Demand3}
+use Rattle.history.specs.Claim.{Steps, Made, refuses, goes, Turns, done, turn, Demand3, orTen, AllRefused}
 use Rattle.removals.specs.Removals.{patternOf}
 use Rattle.search.specs.Stored.{allZero, store, advanceStored}
 use Rattle.search.specs.declared.Record.{Record as Stored}
 use Rattle.history.proofs.TestLaws.{and-true}
 use Rattle.history.proofs.DemandLaws.{zero≢asked}
-use Rattle.search.proofs.AdvanceLaws.{demand3-stored}
+use Rattle.history.proofs.TurnLaws.{steps-then, in-use-hers}
+use Rattle.history.proofs.WithoutLaws.{all-refused}
+use Rattle.search.proofs.AdvanceLaws.{stored-without, demand3-stored}
+use Rattle.phases.proofs.OutcomeLaws.{first-none, unless-none}
 use Rattle.letters.specs.Letters.{misplaced}
 use Rattle.rosters.specs.Check.{holds}
 use Rattle.rosters.proofs.GivenLaws.{duty-alike, members-alike, Patterns, placedAll, given-at-zero}
 use Rattle.phases.specs.Phases.{nightPhase, nightsOpen, listsFit, dayListOver, dayPhase, nightOf}
 use Rattle.planner.specs.Advances.{advanceOver, advanceDays}
 use Rattle.planner.specs.Answers.{said, checkLetters, checkOver, checkSays}
-use Rattle.planner.specs.Demand.{NightPatterns, DayPatterns, Rightly, Each, NightDemand, DayDemand, Demanded}
+use Rattle.planner.specs.Demand.{NightPatterns, DayPatterns, Rightly, Each, NightDemand, DayDemand, Refusing, Demanded}
 use Rattle.phases.proofs.PhaseLaws.{night-fits, night-lawful, day-fits, day-lawful}
 
--- ---- each pattern in use is one of hers
+-- ---- what is kept passes the test
 
 kept-front : (t : ℕ → Bool) (y x : ℕ) (rest : List ℕ) (b : Bool) → t y ≡ b → (List·Memᴰ x rest → t x ≡ true) → List·Memᴰ x (cond b (y ∷ rest) rest) → t x ≡ true
 kept-front t y x rest true e f m = ⊎-elim (λ q. ap t q ∙ e) f (List·Memᴰ·cases-cons m)
@@ -50,52 +53,6 @@ pub member-kept : (t : ℕ → Bool) (xs : List ℕ) (x : ℕ) → List·Memᴰ 
 unfolding keep
 member-kept t [] x m = absurd (List·Memᴰ·not-nil m)
 member-kept t (y ∷ ys) x m = kept-front t y x (keep t ys) (t y) refl (λ r. member-kept t ys x r) m
-
-steps-before : (P : Phase) (new h : History) → Steps P (new ++ h) → Steps P h
-steps-before P new h f later s earlier e = f (new ++ later) s earlier (ap (λ (t : History). new ++ t) e ∙ sym (append-assoc new later (s ∷ earlier)))
-
-last-hers : (P : Phase) (s : Step) (i p : ℕ) (u : Slot) (b : Bool) → eqb i (s .nurse) ≡ b → List·Memᴰ (s .pattern) (P .patterns (s .nurse))
-    → (u ≡ some p → List·Memᴰ p (P .patterns i)) → cond b (some (s .pattern)) u ≡ some p → List·Memᴰ p (P .patterns i)
-last-hers P s i p u true q m f e =
-    Memᴰ·cast (sym (ap patternOf e)) (subst (λ (j : ℕ). List·Memᴰ (s .pattern) (P .patterns j)) (sym (eqb-true i (s .nurse) q)) m)
-last-hers P s i p u false q m f e = f e
-
-in-use-hers : (P : Phase) (h : History) → Steps P h → (i p : ℕ) → inUse h i ≡ some p → List·Memᴰ p (P .patterns i)
-in-use-hers P [] f i p e = absurd (true≢false (ap isNone e))
-in-use-hers P (s ∷ h) f i p e =
-    last-hers P s i p (inUse h i) (eqb i (s .nurse)) refl (f [] s h refl .1 .allowed .hers) (in-use-hers P h (steps-before P (s ∷ []) h f) i p) e
-
--- the history after one of the advances is the end of the history after all
-turns-add : {P : Phase} {cs : List Call} {l : List Answer} {h h″ : History} → Turns P cs l h h″ → (new : History) × (h″ ≡ new ++ h)
-turns-add done = ([], refl)
-turns-add (turn (refuses e) ts) = turns-add ts
-turns-add {h} (turn (goes e m) ts) =
-    let r = turns-add ts in
-    (r .0 ++ m .new, r .1 ∙ ap (λ (x : History). r .0 ++ x) (m .added) ∙ sym (append-assoc (r .0) (m .new) h))
-
-steps-then : {P : Phase} {cs : List Call} {l : List Answer} {h h″ : History} → Turns P cs l h h″ → Steps P h″ → Steps P h
-steps-then {P} {h} ts f = let r = turns-add ts in steps-before P (r .0) h (subst (Steps P) (r .1) f)
-
--- ---- what a call that is not refused knows of the nights
-
-some≢none : (n : No) → some n ≢ none
-some≢none n e = true≢false (ap let-through (sym e))
-  where
-    let-through : Option No → Bool
-    let-through none = true
-    let-through (some n) = false
-
-first-left : (x y : Option No) → first x y ≡ none → x ≡ none
-first-left none y e = refl
-first-left (some n) y e = e
-
-first-right : (x y : Option No) → first x y ≡ none → y ≡ none
-first-right none y e = e
-first-right (some n) y e = absurd (some≢none n e)
-
-unless-none : (b : Bool) (q i : ℕ) → unless b q i ≡ none → b ≡ true
-unless-none true q i e = refl
-unless-none false q i e = absurd (some≢none (record { question = q; place = i }) e)
 
 -- ---- the roster
 
@@ -110,7 +67,7 @@ module _ (w : List ℕ) (nights : ℕ → ℕ) where
       let eight = unless (nightsOpen w nights) 8 0 in
       let nine = listsFit (dayListOver w nights) (nurses w) (c .places) in
       let seven = unless (leb (c .steps) 10000 && leb (steps + c .steps) 1000000) 7 0 in
-      unless-none (nightsOpen w nights) 8 0 (first-left eight nine (first-right seven (first eight nine) e))
+      unless-none (nightsOpen w nights) 8 0 (first-none eight nine (first-none seven (first eight nine) e .1) .0)
 
   module _ (a : Accepted w) where
     -- everyone's slot at penalty zero is placed, so the penalty is that of the patterns alone
@@ -176,7 +133,7 @@ module _ (w : List ℕ) (nights : ℕ → ℕ) where
       each-right : {cs : List Call} {l : List Answer} {h h″ : History} → Turns (dayPhase w nights) cs l h h″ → Steps (dayPhase w nights) h″ → Each (Rightly file) l
       each-right done f = tt
       each-right (turn (refuses e) ts) f = (tt, each-right ts f)
-      each-right (turn {c} {h} (goes {e = end} e m) ts) f = (right-made end (nights-open c _ e) m (steps-then ts f), each-right ts f)
+      each-right (turn {c} {h} (goes {e = end} e m) ts) f = (right-made end (nights-open c _ e) m (steps-then (dayPhase w nights) ts f), each-right ts f)
 
 -- ---- demand 3
 
@@ -202,7 +159,34 @@ module _ (file w : List ℕ) (reads : readWard file ≡ good w) (a : Accepted w)
         rosters = rw (d .follows) (each-right w (nightOf nights) a file reads (d .each) (d .steps));
       }
 
+  refusing : (phase : List ℕ → Phase) → Refusing (phase w) (advanceOver phase (readWard file))
+  refusing phase i h cs =
+      subst (λ (adv : Call → Stored → Answer × Stored). AllRefused allZero adv (λ c. orTen i (refusal (phase w) c 0)) cs) (sym (advance-read phase file w reads))
+      (all-refused allZero (advanceStored (phase w)) (λ c. orTen i (refusal (phase w) c 0)) (λ c. stored-without (phase w) c allZero i h) cs)
+
+-- a file that is not read
+pub advance-unread : (phase : List ℕ → Phase) (file : List ℕ) (q p : ℕ) (c : Call) (r : Stored) → readWard file ≡ bad q p
+    → advanceOver phase (readWard file) c r ≡ (refused (record { question = q; place = p }), r)
+unfolding advanceOver
+advance-unread phase file q p c r e = rw e
+
+unread : (phase : List ℕ → Phase) (file : List ℕ) (q p : ℕ) → readWard file ≡ bad q p → (cs : List Call)
+    → AllRefused allZero (advanceOver phase (readWard file)) (λ c. record { question = q; place = p }) cs
+unread phase file q p e cs =
+    all-refused allZero (advanceOver phase (readWard file)) (λ c. record { question = q; place = p }) (λ c. advance-unread phase file q p c allZero e) cs
+
 pub demand : Demanded
-demand file w bytes e =
-    let a = accepted-ward w w (ward-back file w (all-bytes file bytes) e .1) in
-    record { nights = night-demand file w e a; days = day-demand file w e a }
+demand = record {
+  accepted = λ file w bytes e.
+      let a = accepted-ward w w (ward-back file w (all-bytes file bytes) e .1) in
+      record {
+        nights = night-demand file w e a;
+        no-nights = refusing file w e a nightPhase;
+        days = day-demand file w e a;
+        no-days = λ nights. refusing file w e a (λ v. dayPhase v (nightOf nights));
+      };
+  unread = λ file q p e. record {
+    nights = λ cs. unread nightPhase file q p e cs;
+    days = λ nights cs. unread (λ v. dayPhase v (nightOf nights)) file q p e cs;
+  };
+}

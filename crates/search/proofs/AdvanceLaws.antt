@@ -1,5 +1,5 @@
 -- An advance over stored records, as a loop of steps makes it; and demand 3 of such advances.
-use Prim.Native.Nat.{ℕ, _+_, _-_, _≤_, _<_, min}
+use Prim.Native.Nat.{ℕ, suc, _+_, _-_, _≤_, _<_, min}
 use mathlib.Core.Path.{_≡_, refl, sym, ap, ap₂, _∙_, subst}
 use mathlib.Core.Bool.{Bool, true, false, cond, _&&_, false≢true}
 use mathlib.Core.Logic.{_≢_}
@@ -16,7 +16,7 @@ use Rattle.history.specs.Slot.{Slot}
 use Rattle.history.specs.Phase.{Step, Phase, Call, No, Answer, refused, ended, End, End·zero, End·asked, End·none, exchanges, run, refusal, given}
 use Rattle.history.specs.History.{History, penalty, extend, reply, advance}
 use Rattle.history.specs.Record.{Record, recordOf, mayTake, costAfter, total, best, stepped, proceed, among, hers, allName, lacking, sound, replyOf}
-use Rattle.history.specs.Claim.{Lawful, Demand3}
+use Rattle.history.specs.Claim.{Lawful, Demand3, Without, orTen}
 use Rattle.search.specs.Stored.{store, view, viewOf, allZero, unusedZero, soundStored, refusalStored, replyStored, advanceStored, Sized, Fits}
 use Rattle.best.specs.Best.{bestOver, found}
 use Rattle.search.specs.Walk.{exchangedIn, steppedOf}
@@ -29,6 +29,7 @@ use Rattle.history.proofs.ChooseLaws.{least-first, offers-only, range-only}
 use Rattle.history.proofs.RunLaws.{run-zero, run-asked, run-stuck, run-on}
 use Rattle.history.proofs.FollowLaws.{Grown, first-none, among-member, fresh-record, removals-held, none-past, lacking-none, sound-record, advance-refused, advance-goes, proceed-extend}
 use Rattle.history.proofs.DemandLaws.{demand3-of}
+use Rattle.history.proofs.WithoutLaws.{lacking-lowest}
 use Rattle.best.proofs.BestLaws.{found-best}
 use Rattle.search.proofs.StoredLaws.{Held, Whole, view-store, store-fresh, unused-store, view-exchanged, exchanged-whole, store-view}
 
@@ -213,6 +214,15 @@ module _ (P : Phase) (c : Call) (r : Stored) where
   pub stored-goes : refusalStored P c r ≡ none → advanceStored P c r ≡ replyStored P (c .steps) r
   unfolding advanceStored
   stored-goes e = rw (e, advanceStored)
+
+  -- where a nurse has no pattern
+  pub stored-without : (i : ℕ) → Without P i → advanceStored P c r ≡ (refused (orTen i (refusal P c (r .steps))), r)
+  unfolding refusalStored
+  stored-without i w = go (refusal P c (r .steps)) refl
+    where
+      go : (o : Option No) → refusal P c (r .steps) ≡ o → advanceStored P c r ≡ (refused (orTen i o), r)
+      go none e = stored-refused (record { question = 10; place = suc i }) (rw (e, lacking-lowest P i w))
+      go (some n) e = stored-refused n (rw e)
 
   -- the questions in turn
   pub asks-seven : (leb (c .steps) 10000 && leb (r .steps + c .steps) 1000000) ≡ false → refusalStored P c r ≡ some (record { question = 7; place = 0 })

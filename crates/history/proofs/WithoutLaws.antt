@@ -1,0 +1,62 @@
+-- Where a nurse has no pattern, question 10 names the lowest; and a list of advances that are each refused changes nothing.
+use Prim.Native.Nat.{ℕ, zero, suc, _+_, _≤_, _<_}
+use mathlib.Core.Path.{_≡_, refl, sym, ap, _∙_}
+use mathlib.Core.Logic.{_≢_, _⊎_, inl, inr}
+use mathlib.Core.List.{List, [], _∷_}
+use mathlib.Core.Option.{some}
+use native.Mathlib.Nat.{eq-or-lt-of-le, not-suc-le-zero}
+use native.Mathlib.Omega.{arith}
+use lib.ListN.{length}
+use Rattle.numbers.specs.Range.{upFrom}
+use Rattle.history.specs.Phase.{Phase, Call, No, Answer, refused}
+use Rattle.history.specs.Record.{lacking}
+use Rattle.history.specs.Claim.{Without, OneOrOther, AllRefused}
+
+module _ (P : Phase) (i : ℕ) (w : Without P i) where
+  abbrev ten : No
+  ten = record { question = 10; place = suc i }
+
+  lacking-from : (a n : ℕ) → a ≤ i → i < a + n → lacking (P .patterns) (upFrom a n) ≡ some ten
+  unfolding upFrom
+  lacking-from a zero l h = absurd (omega arith)
+  lacking-from a (suc n) l h = go (P .patterns a) refl (λ q. lacking-from (suc a) n q (omega arith)) (eq-or-lt-of-le l)
+    where
+      go : (ps : List ℕ) → P .patterns a ≡ ps → (a < i → lacking (P .patterns) (upFrom (suc a) n) ≡ some ten) → (a ≡ i) ⊎ (a < i)
+          → lacking (P .patterns) (a ∷ upFrom (suc a) n) ≡ some ten
+      go [] e f (inl q) = rw (e, lacking, q)
+      go [] e f (inr q) = absurd (w .lower a q e)
+      go (p ∷ ps) e f (inl q) =
+          let z : length (p ∷ ps) ≡ length {A = ℕ} [] = ap length (sym e ∙ ap (P .patterns) q ∙ w .no-pattern) in
+          absurd (omega arith)
+      go (p ∷ ps) e f (inr q) = rw (e, lacking) (f q)
+
+  pub lacking-lowest : lacking (P .patterns) (upFrom 0 (P .nurses)) ≡ some ten
+  lacking-lowest = lacking-from 0 (P .nurses) (omega arith) (omega (arith, w .nurse))
+
+-- the nurses below m, one after the other
+module _ (P : Phase) where
+  one-of : (m : ℕ) → m ≤ P .nurses → ((i : ℕ) → i < m → P .patterns i ≢ []) ⊎ ((i : ℕ) × Without P i)
+  one-of zero l = inl (λ i h. absurd (not-suc-le-zero h))
+  one-of (suc m) l = next (one-of m (omega arith)) (P .patterns m) refl
+    where
+      next : ((i : ℕ) → i < m → P .patterns i ≢ []) ⊎ ((i : ℕ) × Without P i) → (ps : List ℕ) → P .patterns m ≡ ps
+          → ((i : ℕ) → i < suc m → P .patterns i ≢ []) ⊎ ((i : ℕ) × Without P i)
+      next (inr x) ps e = inr x
+      next (inl f) [] e = inr (m, record { nurse = omega arith; no-pattern = e; lower = f })
+      next (inl f) (p ∷ ps) e = inl (λ i h q. each i (eq-or-lt-of-le h) q)
+        where
+          each : (i : ℕ) → (suc i ≡ suc m) ⊎ (suc i < suc m) → P .patterns i ≢ []
+          each i (inl q) z =
+              let y : i ≡ m = omega arith in
+              let x : length (p ∷ ps) ≡ length {A = ℕ} [] = ap length (sym e ∙ ap (P .patterns) (sym y) ∙ z) in
+              absurd (omega arith)
+          each i (inr q) z = f i (omega arith) z
+
+pub one-or-other : OneOrOther
+one-or-other P = one-of P (P .nurses) (omega arith)
+
+pub all-refused : {R : Type 0} (start : R) (advance : Call → R → Answer × R) (why : Call → No) → ((c : Call) → advance c start ≡ (refused (why c), start))
+    → (cs : List Call) → AllRefused start advance why cs
+all-refused start advance why one [] = refl
+all-refused {R} start advance why one (c ∷ cs) =
+    rw (one c) (ap (λ (x : List Answer × R). (refused (why c) ∷ x .0, x .1)) (all-refused start advance why one cs))
