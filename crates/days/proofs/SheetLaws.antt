@@ -8,9 +8,9 @@ use native.Mathlib.Decide.{decLt}
 use borrow.Author.Tests.{lt-ltb, le-ltb, ltb-true, eqb-true}
 use lib.Dec.{ltb, eqb}
 use lib.ListN.{length, take, drop}
-use Rattle.numbers.specs.Range.{upFrom, all, Ascending}
+use Rattle.numbers.specs.Range.{upFrom, all, Exactly}
 use Rattle.numbers.specs.Digits.{has}
-use Rattle.numbers.proofs.RangeLaws.{and-parts, keep-ascending, At, kept-in, kept-only}
+use Rattle.numbers.proofs.RangeLaws.{and-parts, kept-exactly}
 use Rattle.numbers.proofs.DigitLaws.{number-has, bit-of-zero}
 use Rattle.numbers.proofs.AgreeLaws.{all-agree, keep-agree, all-in}
 use Rattle.fields.specs.Fields.{Accepted, days, nurses, block, blockAt, duty, leastRestsOf, mostRestsOf, markOn}
@@ -116,24 +116,14 @@ sheet-small b n longest p m row s few short = record { few-days = omega (arith, 
 
 -- ---- what her list is: ascending, and exactly the patterns that the rule lets through
 
-pub list-ascending : (w : List ℕ) (i p : ℕ) → Ascending (dayList w i p)
-unfolding dayList
-list-ascending w i p = keep-ascending (dayRuleOf w i p) 0 (2 ^ days w)
-
 -- the rule's yes is to patterns of the month only
 pub rule-below : (w : List ℕ) (i p q : ℕ) → dayRuleOf w i p q ≡ true → q < 2 ^ days w
 unfolding dayRule choice
 rule-below w i p q e = ltb-true q (2 ^ days w) (and-parts _ _ (and-parts _ _ e .0) .0)
 
-pub list-has : (w : List ℕ) (i p q : ℕ) → dayRuleOf w i p q ≡ true → At (dayList w i p) q
+pub list-exactly : (w : List ℕ) (i p : ℕ) → Exactly (dayRuleOf w i p) (dayList w i p)
 unfolding dayList
-list-has w i p q e = kept-in (dayRuleOf w i p) 0 (2 ^ days w) q (omega arith) (omega (arith, rule-below w i p q e)) e
-
-pub list-only : (w : List ℕ) (i p q : ℕ) → At (dayList w i p) q → (dayRuleOf w i p q ≡ true) × (q < 2 ^ days w)
-unfolding dayList
-list-only w i p q a =
-    let k = kept-only (dayRuleOf w i p) 0 (2 ^ days w) q a in
-    (k .0, omega (arith, k .2))
+list-exactly w i p = kept-exactly (dayRuleOf w i p) (dayRuleOf w i p) (2 ^ days w) (λ q e. (rule-below w i p q e, e)) (λ q l e. e)
 
 -- ---- her block as a part of the ward
 

@@ -1,6 +1,6 @@
 -- The common list and a nurse's list: their order, what is in them, and hers as a part of the common one.
 use mathlib.Core.Path.{_≡_, refl, sym, ap, _∙_, subst}
-use mathlib.Core.Bool.{Bool, true, false, cond, _||_}
+use mathlib.Core.Bool.{Bool, true, false, cond, _||_, _&&_}
 use mathlib.Core.List.{List, [], _∷_, _++_}
 use Prim.Native.Nat.{ℕ, _+_, _^_, _<_}
 use native.Mathlib.Omega.{arith}
@@ -8,8 +8,8 @@ use lib.Dec.{ltb}
 use lib.ListN.{length, getD, length-append, List·getD-append}
 use lib.Seq.{getD-append-add}
 use borrow.Author.Tests.{ltb-true, lt-ltb}
-use Rattle.numbers.specs.Range.{upFrom, keep, Ascending}
-use Rattle.numbers.proofs.RangeLaws.{keep-append, keep-ascending, keep-passes, kept-below, kept-in, kept-only, and-parts, At}
+use Rattle.numbers.specs.Range.{upFrom, keep, Exactly}
+use Rattle.numbers.proofs.RangeLaws.{keep-append, keep-passes, kept-below, kept-exactly, and-parts}
 use Rattle.fields.specs.Fields.{days, block}
 use Rattle.fields.specs.declared.rules.Rules.{Rules}
 use Rattle.fields.specs.Rules.{rulesOf}
@@ -17,10 +17,6 @@ use Rattle.nights.specs.Nights.{inCommon, common, commonOf, Among}
 use Rattle.nights.specs.Hers.{hers, hersOf, nightList}
 
 -- ---- the common list
-
-pub common-ascending : (r : Rules) (n : ℕ) → Ascending (common r n)
-unfolding common
-common-ascending r n = keep-ascending (inCommon r n) 0 (2 ^ n)
 
 -- each of its numbers keeps the rule and is a pattern of the month
 pub common-keeps : (r : Rules) (n k : ℕ) → k < length (common r n) → inCommon r n (getD (common r n) k 0) ≡ true
@@ -31,32 +27,22 @@ pub common-below : (r : Rules) (n k : ℕ) → k < length (common r n) → getD 
 unfolding common
 common-below r n k h = omega (arith, kept-below (inCommon r n) 0 (2 ^ n) k h .1)
 
--- a number is in it exactly by the rule
-pub common-in : (r : Rules) (n p : ℕ) → p < 2 ^ n → inCommon r n p ≡ true → At (common r n) p
+-- a number is in it exactly where it is a pattern of the month and keeps the rule
+pub common-exactly : (r : Rules) (n : ℕ) → Exactly (λ p. ltb p (2 ^ n) && inCommon r n p) (common r n)
 unfolding common
-common-in r n p h e = kept-in (inCommon r n) 0 (2 ^ n) p (omega arith) (omega arith) e
-
-pub common-only : (r : Rules) (n p : ℕ) → At (common r n) p → (inCommon r n p ≡ true) × (p < 2 ^ n)
-unfolding common
-common-only r n p a =
-    let k = kept-only (inCommon r n) 0 (2 ^ n) p a in
-    (k .0, omega (arith, k .2))
+common-exactly r n =
+    kept-exactly (λ p. ltb p (2 ^ n) && inCommon r n p) (inCommon r n) (2 ^ n)
+    (λ p e. let h = and-parts (ltb p (2 ^ n)) (inCommon r n p) e in (ltb-true p (2 ^ n) (h .0), h .1))
+    (λ p l e. rw (lt-ltb p (2 ^ n) l) e)
 
 -- ---- hers
 
-pub list-ascending : (w : List ℕ) (i : ℕ) → Ascending (nightList w i)
-unfolding nightList
-list-ascending w i = keep-ascending (hersOf w i) 0 (2 ^ days w)
-
-pub list-in : (w : List ℕ) (i p : ℕ) → hersOf w i p ≡ true → At (nightList w i) p
+pub list-exactly : (w : List ℕ) (i : ℕ) → Exactly (hersOf w i) (nightList w i)
 unfolding nightList hers
-list-in w i p e = kept-in (hersOf w i) 0 (2 ^ days w) p (omega arith) (omega (arith, ltb-true p (2 ^ days w) (and-parts (ltb p (2 ^ days w)) _ e .0))) e
-
-pub list-only : (w : List ℕ) (i p : ℕ) → At (nightList w i) p → (hersOf w i p ≡ true) × (p < 2 ^ days w)
-unfolding nightList
-list-only w i p a =
-    let k = kept-only (hersOf w i) 0 (2 ^ days w) p a in
-    (k .0, omega (arith, k .2))
+list-exactly w i =
+    kept-exactly (hersOf w i) (hersOf w i) (2 ^ days w)
+    (λ p e. (ltb-true p (2 ^ days w) (and-parts (ltb p (2 ^ days w)) _ e .0), e))
+    (λ p l e. e)
 
 -- what is hers is in the common list
 pub hers-common : (r : Rules) (n : ℕ) (b : List ℕ) (p : ℕ) → hers r n b p ≡ true → inCommon r n p ≡ true

@@ -6,9 +6,10 @@ use Prim.Native.Nat.{ℕ, zero, suc, _+_, _-_, _≤_, _<_, suc-le-suc}
 use native.Mathlib.Nat.{not-suc-le-zero, le-of-suc-le-suc, eq-or-lt-of-le, suc-add, zero-add, add-zero}
 use native.Mathlib.Numerals.{add-one}
 use native.Mathlib.Omega.{arith}
+use native.Mathlib.Decide.{decLt}
 use mathlib.Core.Logic.{_⊎_, inl, inr}
 use lib.ListN.{length, getD}
-use Rattle.numbers.specs.Range.{upFrom, keep, all, Ascending}
+use Rattle.numbers.specs.Range.{upFrom, keep, all, Ascending, At, Exactly}
 
 -- ---- ranges
 
@@ -115,12 +116,6 @@ keep-ascending t a (suc n) =
 
 -- ---- membership
 
--- x stands in the list
-pub record At (xs : List ℕ) (x : ℕ) : Type 0 where
-  pub place : ℕ
-  pub inside : place < length xs
-  pub there : getD xs place 0 ≡ x
-
 at-front : (b : Bool) (x y : ℕ) (ys : List ℕ) → At ys x → At (cond b (y ∷ ys) ys) x
 at-front true x y ys a = record { place = suc (a .place); inside = suc-le-suc (a .inside); there = a .there }
 at-front false x y ys a = a
@@ -146,6 +141,26 @@ kept-only t a n x at =
     let p = keep-passes t (upFrom a n) k (at .inside) in
     let b = kept-below t a n k (at .inside) in
     (ap t (sym (at .there)) ∙ p, omega (arith, at .there, b .0), omega (arith, at .there, b .1))
+
+-- an ascending list has each number once
+ascending-once : (xs : List ℕ) → Ascending xs → (j k : ℕ) → j < length xs → k < length xs → getD xs j 0 ≡ getD xs k 0 → j ≡ k
+unfolding Ascending
+ascending-once xs a j k l h e = go (decLt j k) (decLt k j)
+  where
+    go : Dec (j < k) → Dec (k < j) → j ≡ k
+    go (yes p) q = absurd (omega (arith, a j k p h))
+    go (no p) (yes q) = absurd (omega (arith, a k j q l))
+    go (no p) (no q) = omega arith
+
+-- what a test keeps of the numbers below n is exactly what passes a rule, where the rule is the test and being below n
+pub kept-exactly : (rule t : ℕ → Bool) (n : ℕ) → ((x : ℕ) → rule x ≡ true → (x < n) × (t x ≡ true)) → ((x : ℕ) → x < n → t x ≡ true → rule x ≡ true)
+    → Exactly rule (keep t (upFrom 0 n))
+kept-exactly rule t n f g = record {
+  every = λ x e. let p = f x e in kept-in t 0 n x (omega arith) (omega (arith, p .0)) (p .1);
+  only = λ x a. let p = kept-only t 0 n x a in g x (omega (arith, p .2)) (p .0);
+  once = ascending-once (keep t (upFrom 0 n)) (keep-ascending t 0 n);
+  ascending = keep-ascending t 0 n;
+}
 
 -- ---- all
 

@@ -1,13 +1,12 @@
 -- Nights and days are phases of which demand 3 is proved: the places fit, the lists ascend, and the unplaced cost a flat 10,000,000 beside a rest below it.
-use Prim.Native.Nat.{ℕ, _^_, _<_}
+use Prim.Native.Nat.{ℕ, _<_}
 use mathlib.Core.Logic.{_≢_}
 use mathlib.Core.List.{List, []}
 use Rattle.numbers.specs.Range.{Ascending}
-use Rattle.numbers.proofs.RangeLaws.{keep-ascending}
-use Rattle.fields.specs.Fields.{Accepted, nurses, days}
+use Rattle.fields.specs.Fields.{Accepted, nurses}
 use Rattle.nights.specs.Hers.{nightList}
-use Rattle.nights.proofs.ListLaws.{list-ascending}
-use Rattle.days.specs.Days.{dayRuleOf, dayList}
+use Rattle.nights.proofs.ListLaws as night-laws
+use Rattle.days.proofs.SheetLaws as day-laws
 use Rattle.penalty.specs.Penalty.{rest, nightParts, dayParts, unplacedIn}
 use Rattle.penalty.proofs.BoundLaws.{night-split, day-split}
 use Rattle.history.specs.Claim.{Lawful}
@@ -23,7 +22,7 @@ module _ (w : List ℕ) where
 
   pub night-ascending : (i : ℕ) → i < nightPhase w .nurses → Ascending (nightPhase w .patterns i)
   unfolding nightPhase
-  night-ascending i h = list-ascending w i
+  night-ascending i h = night-laws.list-exactly w i .ascending
 
   pub night-lawful : Accepted w → ((i : ℕ) → i < nurses w → nightList w i ≢ []) → Lawful (nightPhase w)
   unfolding nightPhase unplacedIn
@@ -42,8 +41,8 @@ module _ (w : List ℕ) (nights : ℕ → ℕ) where
   day-fits a = record { nurses-most = a .nurses-most; tabu-most = a .tabu-most }
 
   pub day-ascending : (i : ℕ) → i < dayPhase w nights .nurses → Ascending (dayPhase w nights .patterns i)
-  unfolding dayPhase dayList
-  day-ascending i h = keep-ascending (dayRuleOf w i (nights i)) 0 (2 ^ days w)
+  unfolding dayPhase
+  day-ascending i h = day-laws.list-exactly w i (nights i) .ascending
 
   pub day-lawful : Accepted w → ((i : ℕ) → i < nurses w → dayListOver w nights i ≢ []) → Lawful (dayPhase w nights)
   unfolding dayPhase unplacedIn

@@ -10,8 +10,8 @@ use native.Mathlib.Omega.{arith}
 use borrow.Author.Tests.{lt-ltb, le-ltb, ltb-true, eq-eqb, ne-eqb}
 use lib.Dec.{ltb, eqb}
 use lib.ListN.{length, getD}
-use Rattle.numbers.specs.Range.{upFrom, keep, all}
-use Rattle.numbers.proofs.RangeLaws.{and-parts, kept-in, At}
+use Rattle.numbers.specs.Range.{upFrom, keep, all, At}
+use Rattle.numbers.proofs.RangeLaws.{and-parts, kept-in}
 use Rattle.fields.specs.Fields.{Accepted, nurses, days, tabu}
 use Rattle.nights.specs.Hers.{hers as hersBy, hersOf, nightList}
 use Rattle.days.specs.Days.{dayRuleOf, dayList}

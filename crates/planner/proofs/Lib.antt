@@ -1,3 +1,4 @@
 pub mod DemandLaws
+pub mod Demand2Laws
 pub mod AnswerLaws
 pub mod FileLaws

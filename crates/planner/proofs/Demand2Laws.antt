@@ -1,0 +1,74 @@
+-- Demand 2: each of its parts, as the layers prove it.
+use Prim.Native.Nat.{ℕ, _*_}
+use mathlib.Core.Path.{_≡_, refl, sym, ap, _∙_}
+use mathlib.Core.Bool.{Bool, true, false, false≢true}
+use mathlib.Core.List.{List}
+use mathlib.Core.Option.{Option, none, some}
+use Rattle.fields.specs.Fields.{nurses, days}
+use Rattle.fields.specs.Rules.{rulesOf}
+use Rattle.layout.specs.Grammar.{Read, good, bad}
+use Rattle.ward.specs.Answers.{readWard}
+use Rattle.ward.proofs.BothWaysLaws.{both-ways}
+use Rattle.nights.proofs.ListLaws as night-laws
+use Rattle.days.proofs.SheetLaws as day-laws
+use Rattle.penalty.proofs.HeldLaws.{night-zero, night-held, day-zero, day-held}
+use Rattle.penalty.proofs.BoundLaws.{night-total-le, day-total-le}
+use Rattle.letters.specs.Letters.{misplaced}
+use Rattle.letters.proofs.LetterLaws.{placed-long}
+use Rattle.rosters.specs.Check.{holds, Holds}
+use Rattle.rosters.proofs.CheckLaws.{holds-sound, holds-complete}
+use Rattle.planner.specs.Answers.{Said, refused, said, checkLetters, checkOver, checkSays}
+use Rattle.planner.specs.Demand2.{Passes, Demand2}
+
+-- ---- the check
+
+abbrev is-yes : Said → Bool
+is-yes (refused n) = false
+is-yes (said b) = b
+
+module _ (w roster : List ℕ) where
+  abbrev place : Option ℕ
+  place = misplaced (nurses w * days w) roster
+
+  letters-yes : checkLetters w roster ≡ said true → (place ≡ none) × Holds w roster
+  unfolding checkLetters
+  letters-yes e = go place refl
+    where
+      go : (o : Option ℕ) → place ≡ o → (place ≡ none) × Holds w roster
+      go none q =
+          let y : said (holds w roster) ≡ checkLetters w roster = sym (rw (q, checkLetters)) in
+          (q, holds-sound w roster (placed-long (nurses w * days w) roster q) (ap is-yes (y ∙ e)))
+      go (some p) q =
+          let y : refused (record { question = 12; place = p }) ≡ checkLetters w roster = sym (rw (q, checkLetters)) in
+          absurd (false≢true (ap is-yes (y ∙ e)))
+
+  yes-letters : place ≡ none → Holds w roster → checkLetters w roster ≡ said true
+  unfolding checkLetters
+  yes-letters q h = rw (q, checkLetters, holds-complete w roster (placed-long (nurses w * days w) roster q) h)
+
+yes-passes : (file roster : List ℕ) → checkSays file roster ≡ said true → Passes file roster
+unfolding checkOver
+yes-passes file roster e = go (readWard file) refl
+  where
+    go : (r : Read) → readWard file ≡ r → Passes file roster
+    go (good w) q =
+        let y = letters-yes w roster (sym (ap (λ (x : Read). checkOver x roster) q) ∙ e) in
+        record { ward = w; reads = q; lettered = y .0; holds = y .1 }
+    go (bad k p) q = absurd (false≢true (ap is-yes (sym (ap (λ (x : Read). checkOver x roster) q) ∙ e)))
+
+passes-yes : (file roster : List ℕ) → Passes file roster → checkSays file roster ≡ said true
+unfolding checkOver
+passes-yes file roster p = ap (λ (x : Read). checkOver x roster) (p .reads) ∙ yes-letters (p .ward) roster (p .lettered) (p .holds)
+
+-- ---- all of it
+
+pub demand2 : Demand2
+demand2 = record {
+  both-ways = both-ways;
+  common-listed = λ w. night-laws.common-exactly (rulesOf w) (days w);
+  nights-listed = night-laws.list-exactly;
+  days-listed = day-laws.list-exactly;
+  by-night = λ w a. record { zero-when = λ slots. (night-zero w slots a, night-held w slots); most = λ slots. night-total-le w slots a };
+  by-day = λ w a. record { zero-when = λ slots. (day-zero w slots a, day-held w slots); most = λ slots. day-total-le w slots a };
+  check-yes = λ file roster. (yes-passes file roster, passes-yes file roster);
+}

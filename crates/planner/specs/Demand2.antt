@@ -1,0 +1,50 @@
+-- Demand 2 in one record. What `read`, `write`, the lists, the penalties and `check` are is said by the definitions that their contracts cite;
+-- this is what holds of those definitions.
+use Prim.Native.Nat.{ℕ, _*_, _^_, _≤_}
+use mathlib.Core.Path.{_≡_}
+use mathlib.Core.Bool.{true, _&&_}
+use mathlib.Core.Logic.{_↔_}
+use mathlib.Core.List.{List}
+use mathlib.Core.Option.{none}
+use lib.Dec.{ltb}
+use Rattle.numbers.specs.Range.{Exactly}
+use Rattle.fields.specs.Fields.{Accepted, nurses, days}
+use Rattle.fields.specs.Rules.{rulesOf}
+use Rattle.layout.specs.Grammar.{good}
+use Rattle.ward.specs.Answers.{readWard}
+use Rattle.ward.specs.BothWays.{BothWays}
+use Rattle.nights.specs.Nights.{inCommon, commonOf}
+use Rattle.nights.specs.Hers.{hersOf, nightList}
+use Rattle.days.specs.Days.{dayRuleOf, dayList}
+use Rattle.history.specs.Slot.{Slot}
+use Rattle.penalty.specs.Penalty.{nightPenalty, dayPenalty}
+use Rattle.penalty.specs.Held.{NightHeld, DayHeld}
+use Rattle.letters.specs.Letters.{misplaced}
+use Rattle.rosters.specs.Check.{Holds}
+use Rattle.planner.specs.Answers.{said, checkSays}
+
+-- a penalty is zero exactly where nothing is broken, and is never above 485,059,200
+pub record Weighs (penalty : (ℕ → Slot) → ℕ) (Held : (ℕ → Slot) → Type 0) : Type 0 where
+  pub zero-when : (slots : ℕ → Slot) → (penalty slots ≡ 0) ↔ Held slots
+  pub most : (slots : ℕ → Slot) → penalty slots ≤ 485059200
+
+-- the file is one of a ward, the roster has its letters, and every rule holds
+pub record Passes (file roster : List ℕ) : Type 0 where
+  pub ward : List ℕ
+  pub reads : readWard file ≡ good ward
+  pub lettered : misplaced (nurses ward * days ward) roster ≡ none
+  pub holds : Holds ward roster
+
+-- proofs/Demand2Laws shows it
+pub record Demand2 : Type 0 where
+  -- reading and writing undo each other
+  pub both-ways : BothWays
+  -- a pattern is listed, once, exactly when it meets the rules: in the common list, in a nurse's own, in her day list over a night pattern
+  pub common-listed : (w : List ℕ) → Exactly (λ p. ltb p (2 ^ days w) && inCommon (rulesOf w) (days w) p) (commonOf w)
+  pub nights-listed : (w : List ℕ) (i : ℕ) → Exactly (hersOf w i) (nightList w i)
+  pub days-listed : (w : List ℕ) (i p : ℕ) → Exactly (dayRuleOf w i p) (dayList w i p)
+  -- the penalties
+  pub by-night : (w : List ℕ) → Accepted w → Weighs (nightPenalty w) (NightHeld w)
+  pub by-day : (w : List ℕ) → Accepted w → Weighs (dayPenalty w) (DayHeld w)
+  -- the check says yes exactly when every rule holds
+  pub check-yes : (file roster : List ℕ) → (checkSays file roster ≡ said true) ↔ Passes file roster
