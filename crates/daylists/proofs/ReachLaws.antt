@@ -1,4 +1,4 @@
--- A pattern that meets the rules is never cut off: on its way the walk goes on.
+-- A pattern that meets the rules is never cut off: on its way the walk goes on. And one that the walk comes to meets them.
 use mathlib.Core.Path.{_≡_, refl, sym, ap, _∙_, subst}
 use mathlib.Core.Bool.{Bool, true, false, cond, not, _||_}
 use mathlib.Core.List.{List}
@@ -14,7 +14,7 @@ use lib.Pow.{shr-shr, shl-shr}
 use Rattle.numbers.specs.Range.{upFrom, all}
 use Rattle.numbers.specs.Digits.{has, bit}
 use Rattle.numbers.proofs.RangeLaws.{and-parts, length-range}
-use Rattle.numbers.proofs.DigitLaws.{bit-above, bit-lt}
+use Rattle.numbers.proofs.DigitLaws.{bit-above, bit-lt, bit-of-zero}
 use Rattle.numbers.proofs.AgreeLaws.{all-in, all-made, keep-le, low-agree, field-agree, has-moved-down, or-left, or-right}
 use Rattle.rows.specs.Rows.{started}
 use Rattle.days.specs.Days.{isRest, windowsHold, rests}
@@ -167,3 +167,67 @@ module _ (m : Month) (row : List ℕ) (b : Bounded m) (q : ℕ) (y : Meets m row
 pub never-cut : (m : Month) (row : List ℕ) → Bounded m → (q : ℕ) → ruleOf m row q ≡ true
     → (d a r : ℕ) → d ≤ m .days → a / 2 ^ d ≡ q / 2 ^ d → r ≡ restsFrom (dutyAt row a) (m .days) d → goesOn m row d a r ≡ true
 never-cut m row b q y = goes-made m row b q (meets m row q y)
+
+-- ---- what the walk comes to
+
+or-false : (a b : Bool) → a ≡ false → (a || b) ≡ true → b ≡ true
+or-false true b e h = let z : _≡_ {A = ℕ} 0 1 = cc in absurd (omega arith)
+or-false false b e h = h
+
+module _ (m : Month) (row : List ℕ) (b : Bounded m) (a r : ℕ) (below : a < 2 ^ m .days) (steps : (d : ℕ) → d ≤ m .days → stepHolds m row d a ≡ true)
+    (first : has (reach m row 0 (a / 2 ^ 0 % 64)) r ≡ true) (rested : r ≡ restsFrom (dutyAt row a) (m .days) 0) where
+  chosen-each : (x : ℕ) → 1 ≤ x → x < 1 + m .days → cond (started a x) (started (m .free) x) (not (started (m .fixed) x)) ≡ true
+  unfolding stepHolds
+  chosen-each zero l h = absurd (omega arith)
+  chosen-each (suc d) l h = and-parts _ _ (steps d (omega arith)) .0
+
+  choice-comes : choiceOf m a ≡ true
+  unfolding choiceOf
+  choice-comes =
+      rw (lt-ltb a (2 ^ m .days) below)
+      (all-made (λ e. cond (started a e) (started (m .free) e) (not (started (m .fixed) e))) 1 (m .days) chosen-each)
+
+  -- the table's first row
+  abbrev firsts : Bool
+  firsts = all (windowsHold (dutyAt row (a / 2 ^ 0 % 64)) (m .longest)) (upFrom 7 (min 6 (m .days)))
+
+  begins : (firsts ≡ true) × (has (m .within) r ≡ true)
+  unfolding reach
+  begins = go firsts refl
+    where
+      go : (t : Bool) → firsts ≡ t → (firsts ≡ true) × (has (m .within) r ≡ true)
+      go true e = (e, rw e at first)
+      go false e = let z : has 0 r ≡ true = rw e at first in absurd (omega (arith, bit-of-zero r, eqb-true (bit 0 r) 1 z))
+
+  early : (t : ℕ) → 7 ≤ t → t < 13 → t < 7 + m .days → windowsHold (dutyAt row a) (m .longest) t ≡ true
+  early t l h k =
+      windows-same (dutyAt row a) (dutyAt row (a / 2 ^ 0 % 64)) (m .longest) t (b .small .short) (omega arith)
+      (λ u i j. duty-same row a (a / 2 ^ 0 % 64) u (λ g. sym (ap (λ (x : ℕ). has (x % 64) (u - 7)) (div-one a) ∙ low-agree a 6 (u - 7) (omega arith))))
+      ∙ all-in (windowsHold (dutyAt row (a / 2 ^ 0 % 64)) (m .longest)) 7 (min 6 (m .days)) t (begins .0) l (omega arith)
+
+  late : (d : ℕ) → d + 7 ≤ m .days → windowsHold (dutyAt row a) (m .longest) (d + 13) ≡ true
+  unfolding stepHolds
+  late d l =
+      let after : (ltb (m .days) (d + 7) || windowsHold (dutyAt row a) (m .longest) (d + 13)) ≡ true = and-parts (cond (has a d) (has (m .free) d) (not (has (m .fixed) d))) _ (steps d (omega arith)) .1 in
+      or-false (ltb (m .days) (d + 7)) (windowsHold (dutyAt row a) (m .longest) (d + 13)) (le-ltb (m .days) (d + 7) l) after
+
+  windows-come : (t : ℕ) → 7 ≤ t → t < 7 + m .days → windowsHold (dutyAt row a) (m .longest) t ≡ true
+  windows-come t l h = go (decLt t 13)
+    where
+      go : Dec (t < 13) → windowsHold (dutyAt row a) (m .longest) t ≡ true
+      go (yes k) = early t l k h
+      go (no k) =
+          let e : t - 13 + 13 ≡ t = omega arith in
+          subst (λ (x : ℕ). windowsHold (dutyAt row a) (m .longest) x ≡ true) e (late (t - 13) (omega arith))
+
+  rests-come : inBounds (m .least) (m .most) (rests (dutyAt row a) (m .days)) ≡ true
+  rests-come =
+      let most : restsFrom (dutyAt row a) (m .days) 0 ≤ m .days =
+      omega (arith, keep-le (λ t. isRest (dutyAt row a t)) (upFrom 7 (m .days - 0)), length-range 7 (m .days - 0), sub-zero (m .days)) in
+      ap (inBounds (m .least) (m .most)) (rests-start (dutyAt row a) (m .days) ∙ sym rested)
+      ∙ sym (b .within-is r (omega (arith, b .small .few-days)))
+      ∙ begins .1
+
+  pub comes-to : ruleOf m row a ≡ true
+  unfolding ruleOf
+  comes-to = rw (choice-comes, all-made (windowsHold (dutyAt row a) (m .longest)) 7 (m .days) windows-come) rests-come

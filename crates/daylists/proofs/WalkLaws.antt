@@ -12,7 +12,7 @@ use lib.ListN.{length, getD, set, length-append}
 use Rattle.numbers.specs.Range.{upFrom, all}
 use Rattle.numbers.specs.Digits.{has}
 use Rattle.days.specs.Days.{windowsHold}
-use Rattle.days.specs.Month.{dutyAt, ruleOf, restOn}
+use Rattle.days.specs.Month.{dutyAt, restOn}
 use Rattle.daylists.specs.Walk.{Filled, stepHolds, branch, reach, goesOn, listed, listedAt, Next, Inside}
 use Rattle.days.specs.declared.month.Month.{Month}
 use Rattle.daylists.specs.declared.walk.Point.{Point}
@@ -99,13 +99,18 @@ module _ (m : Month) (row : List ℕ) where
   -- ---- the walk
 
   module _ (s : Point) where
-    pub leaf-yes : {v : Bool} → s .left ≡ 0 → v ≡ ruleOf m row (s .from) → v ≡ true → listedAt m row s ≡ s .from ∷ []
+    pub leaf-yes : {v : Bool} → s .left ≡ 0 → v ≡ goesOn m row (s .left) (s .from) (s .rests) → v ≡ true → listedAt m row s ≡ s .from ∷ []
     unfolding listed
-    leaf-yes z e y = rw (z, ← e, y)
+    leaf-yes z e y = let g : goesOn m row 0 (s .from) (s .rests) ≡ true = ap (λ (k : ℕ). goesOn m row k (s .from) (s .rests)) (sym z) ∙ sym e ∙ y in rw (z, g)
 
-    pub leaf-no : {v : Bool} → s .left ≡ 0 → v ≡ ruleOf m row (s .from) → v ≡ false → listedAt m row s ≡ []
-    unfolding listed
-    leaf-no z e y = rw (z, ← e, y)
+  -- nothing is listed where the walk does not go on
+  stops : (left a r : ℕ) → goesOn m row left a r ≡ false → listed m row left a r ≡ []
+  unfolding listed
+  stops zero a r e = rw e
+  stops (suc d) a r e = rw e
+
+  pub walk-stops : (s : Point) {v : Bool} → v ≡ goesOn m row (s .left) (s .from) (s .rests) → v ≡ false → listedAt m row s ≡ []
+  walk-stops s e y = stops (s .left) (s .from) (s .rests) (sym e ∙ y)
 
   node-is : (left a r : ℕ) → (left ≡ 0 → ⊥) → listed m row left a r
       ≡ cond (goesOn m row left a r) (listed m row (left - 1) a (r + restOn row a (left - 1)) ++ listed m row (left - 1) (a + 2 ^ (left - 1)) (r + restOn row (a + 2 ^ (left - 1)) (left - 1))) []
@@ -118,9 +123,6 @@ module _ (m : Month) (row : List ℕ) where
   next-lists s t a n = rw (n .left-is, n .from-is, n .rests-is)
 
   module _ (s : Point) (f : s .left ≡ 0 → ⊥) where
-    pub node-no : {v : Bool} → v ≡ goesOn m row (s .left) (s .from) (s .rests) → v ≡ false → listedAt m row s ≡ []
-    node-no e y = node-is (s .left) (s .from) (s .rests) f ∙ rw (← e, y)
-
     pub node-yes : {v : Bool} {b : ℕ} (t u : Point) → v ≡ goesOn m row (s .left) (s .from) (s .rests) → v ≡ true → b ≡ 2 ^ (s .left - 1)
         → Next row s (s .from) t → Next row s (s .from + b) u → listedAt m row s ≡ listedAt m row t ++ listedAt m row u
     node-yes {b = b} t u e y g h k =

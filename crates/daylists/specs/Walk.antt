@@ -10,7 +10,7 @@ use lib.Bits.{bitOr}
 use Rattle.numbers.specs.Range.{upFrom, all}
 use Rattle.numbers.specs.Digits.{has}
 use Rattle.days.specs.Days.{windowsHold}
-use Rattle.days.specs.Month.{dutyAt, ruleOf, restOn}
+use Rattle.days.specs.Month.{dutyAt, restOn}
 use Rattle.days.specs.declared.month.Month.{Month}
 use Rattle.daylists.specs.declared.walk.Point.{Point}
 
@@ -41,12 +41,12 @@ pub record Filled (m : Month) (row table : List ℕ) (k : ℕ) : Type 0 where
 
 -- ---- the walk
 
--- the days before d are undecided, a is the number that the others make, with r rests
+-- the days before d are undecided, a is the number that the others make, with r rests; for d 0 this is the rule (proofs/ReachLaws: `comes-to`)
 unfoldable pub goesOn : Month → List ℕ → ℕ → ℕ → ℕ → Bool
 goesOn m row d a r = stepHolds m row d a && has (reach m row d (a / 2 ^ d % 64)) r
 
 unfoldable pub listed : Month → List ℕ → ℕ → ℕ → ℕ → List ℕ
-listed m row zero a r = cond (ruleOf m row a) (a ∷ []) []
+listed m row zero a r = cond (goesOn m row zero a r) (a ∷ []) []
 listed m row (suc d) a r =
     cond (goesOn m row (suc d) a r)
     (listed m row d a (r + restOn row a d) ++ listed m row d (a + 2 ^ d) (r + restOn row (a + 2 ^ d) d)) []

@@ -42,7 +42,7 @@ fn decided(row: &[u64; 38], s: Point, from: u64) -> Point
     }
 }
 
-// Whether a pattern may remain.
+// Whether a pattern may remain. With no day left to decide, whether the pattern is hers.
 fn goes_on(m: Month, row: &[u64; 38], table: &[u64; 2048], s: Point) -> bool
     requires { ⌜ Small m ⌝ }
     requires { ⌜ Filled m (now row) (now table) (64 * m .days + 64) ⌝ }
@@ -66,13 +66,10 @@ pub(crate) fn count(m: Month, row: &[u64; 38], table: &[u64; 2048], s: Point, ca
     if cap == 0 {
         return 0;
     }
-    if s.left == 0 {
-        if rule::rule_holds(m, row, s.from) {
+    if goes_on(m, row, table, s) {
+        if s.left == 0 {
             return 1;
         }
-        return 0;
-    }
-    if goes_on(m, row, table, s) {
         let with = s.from + (numbers::bit((s.left - 1) as u64) as u64);
         let low = count(m, row, table, decided(row, s, s.from), cap);
         return low + count(m, row, table, decided(row, s, with), cap - low);
@@ -95,14 +92,11 @@ pub(crate) fn fill(
     ensures { λ k. ⌜ k ≡ length (listedAt m (now (row .entry)) s) ⌝ }
     ensures { λ k. ⌜ now (buf .exit) ≡ listedAt m (now (row .entry)) s ++ drop (length (listedAt m (now (row .entry)) s)) (now (buf .entry)) ⌝ }
 {
-    if s.left == 0 {
-        if rule::rule_holds(m, row, s.from) {
+    if goes_on(m, row, table, s) {
+        if s.left == 0 {
             buf[0] = s.from as u32;
             return 1;
         }
-        return 0;
-    }
-    if goes_on(m, row, table, s) {
         let with = s.from + (numbers::bit((s.left - 1) as u64) as u64);
         let low = fill(m, row, table, decided(row, s, s.from), buf);
         return low + fill(m, row, table, decided(row, s, with), &mut buf[low..]);

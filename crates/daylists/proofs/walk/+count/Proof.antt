@@ -2,7 +2,7 @@
 use native.Mathlib.Omega.{arith}
 use mathlib.Core.Path.{ap}
 use lib.ListN.{length, length-append}
-use Rattle.daylists.proofs.WalkLaws.{leaf-yes, leaf-no, node-yes, node-no, low-inside, high-inside, pow-half}
+use Rattle.daylists.proofs.WalkLaws.{leaf-yes, walk-stops, node-yes, low-inside, high-inside, pow-half}
 use borrow.Author.Needs.{needs}
 use Prim.Native.Nat.{ℕ, _<_}
 use borrow.Fn.Kinds.{In}
@@ -10,7 +10,6 @@ use borrow.Fn.PlainCycle.{Measures, is, falls, and}
 use Rattle.daylists.proofs.walk.count.Reads as count
 use Rattle.daylists.proofs.walk.count.Kinds as count-kinds
 use Rattle.daylists.proofs.walk.+count.Lts-count as count-lts
-use Rattle.days.proofs.rule.rule_holds.Reads as rule-holds-reads
 use Rattle.daylists.proofs.walk.decided.Reads as decided-reads
 use Rattle.daylists.proofs.walk.goes_on.Reads as goes-on-reads
 use Rattle.numbers.proofs.bit.Reads as bit-reads
@@ -27,8 +26,6 @@ abbrev count-below : ℕ → In 2 count-kinds.ps
 count-below t = and 2 count-kinds.ps (falls 2 count-kinds.ps _<_ μ-count t) count.Pre
 
 count-returns : (t : ℕ) → count-lts.Need-returns (
-  rule-holds-reads.Asked,
-  rule-holds-reads.Learnt,
   goes-on-reads.Asked,
   goes-on-reads.Learnt,
   bit-reads.Asked,
@@ -40,53 +37,7 @@ count-returns : (t : ℕ) → count-lts.Need-returns (
 ) (count-at t) count.Post
 count-returns t c = omega arith
 
-count-rule-holds-requires : (t : ℕ) → count-lts.Need-rule-holds-requires (
-  rule-holds-reads.Asked,
-  rule-holds-reads.Learnt,
-  goes-on-reads.Asked,
-  goes-on-reads.Learnt,
-  bit-reads.Asked,
-  bit-reads.Learnt,
-  decided-reads.Asked,
-  decided-reads.Learnt,
-  count-below t,
-  count.Post,
-) (count-at t) count.Post
-count-rule-holds-requires t c κs = search needs
-
-count-returns-2 : (t : ℕ) → count-lts.Need-returns-2 (
-  rule-holds-reads.Asked,
-  rule-holds-reads.Learnt,
-  goes-on-reads.Asked,
-  goes-on-reads.Learnt,
-  bit-reads.Asked,
-  bit-reads.Learnt,
-  decided-reads.Asked,
-  decided-reads.Learnt,
-  count-below t,
-  count.Post,
-) (count-at t) count.Post
-count-returns-2 t c = let s = c .before .before .before .before .before .args in
-    omega (arith, ap length (leaf-yes (s .m) (s .row .now) (s .s) (c .before .before .if2 .taken) (c .before .rule-holds .ensures) (c .if3 .taken)))
-
-count-returns-3 : (t : ℕ) → count-lts.Need-returns-3 (
-  rule-holds-reads.Asked,
-  rule-holds-reads.Learnt,
-  goes-on-reads.Asked,
-  goes-on-reads.Learnt,
-  bit-reads.Asked,
-  bit-reads.Learnt,
-  decided-reads.Asked,
-  decided-reads.Learnt,
-  count-below t,
-  count.Post,
-) (count-at t) count.Post
-count-returns-3 t c = let s = c .before .before .before .before .before .args in
-    omega (arith, ap length (leaf-no (s .m) (s .row .now) (s .s) (c .before .before .if2 .taken) (c .before .rule-holds .ensures) (c .if3 .left)))
-
 count-goes-on-requires : (t : ℕ) → count-lts.Need-goes-on-requires (
-  rule-holds-reads.Asked,
-  rule-holds-reads.Learnt,
   goes-on-reads.Asked,
   goes-on-reads.Learnt,
   bit-reads.Asked,
@@ -98,9 +49,20 @@ count-goes-on-requires : (t : ℕ) → count-lts.Need-goes-on-requires (
 ) (count-at t) count.Post
 count-goes-on-requires t c κs = search needs
 
+count-returns-2 : (t : ℕ) → count-lts.Need-returns-2 (
+  goes-on-reads.Asked,
+  goes-on-reads.Learnt,
+  bit-reads.Asked,
+  bit-reads.Learnt,
+  decided-reads.Asked,
+  decided-reads.Learnt,
+  count-below t,
+  count.Post,
+) (count-at t) count.Post
+count-returns-2 t c = let s = c .before .before .before .before .before .args in
+    omega (arith, ap length (leaf-yes (s .m) (s .row .now) (s .s) (c .if3 .taken) (c .before .before .before .goes-on .ensures) (c .before .before .if2 .taken)))
+
 count-sub-bit : (t : ℕ) → count-lts.Need-sub-bit (
-  rule-holds-reads.Asked,
-  rule-holds-reads.Learnt,
   goes-on-reads.Asked,
   goes-on-reads.Learnt,
   bit-reads.Asked,
@@ -113,8 +75,6 @@ count-sub-bit : (t : ℕ) → count-lts.Need-sub-bit (
 count-sub-bit t c = search needs
 
 count-bit-requires : (t : ℕ) → count-lts.Need-bit-requires (
-  rule-holds-reads.Asked,
-  rule-holds-reads.Learnt,
   goes-on-reads.Asked,
   goes-on-reads.Learnt,
   bit-reads.Asked,
@@ -127,8 +87,6 @@ count-bit-requires : (t : ℕ) → count-lts.Need-bit-requires (
 count-bit-requires t c κs = omega (arith, c .before .before .before .before .before .before .pre .1 .0 .few-days, c .before .before .before .before .before .before .pre .1 .1 .1 .days-left)
 
 count-cast-with : (t : ℕ) → count-lts.Need-cast-with (
-  rule-holds-reads.Asked,
-  rule-holds-reads.Learnt,
   goes-on-reads.Asked,
   goes-on-reads.Learnt,
   bit-reads.Asked,
@@ -141,8 +99,6 @@ count-cast-with : (t : ℕ) → count-lts.Need-cast-with (
 count-cast-with t c = search needs
 
 count-add-with : (t : ℕ) → count-lts.Need-add-with (
-  rule-holds-reads.Asked,
-  rule-holds-reads.Learnt,
   goes-on-reads.Asked,
   goes-on-reads.Learnt,
   bit-reads.Asked,
@@ -152,11 +108,9 @@ count-add-with : (t : ℕ) → count-lts.Need-add-with (
   count-below t,
   count.Post,
 ) (count-at t) count.Post
-count-add-with t c = omega (arith, c .before .bit .ensures, pow-half (c .before .before .before .before .before .before .before .before .args .s .left) (c .before .before .before .before .before .if2 .left), c .before .before .before .before .before .before .before .before .pre .1 .1 .1 .fits)
+count-add-with t c = omega (arith, c .before .bit .ensures, pow-half (c .before .before .before .before .before .before .before .before .args .s .left) (c .before .before .before .if3 .left), c .before .before .before .before .before .before .before .before .pre .1 .1 .1 .fits)
 
 count-decided-requires : (t : ℕ) → count-lts.Need-decided-requires (
-  rule-holds-reads.Asked,
-  rule-holds-reads.Learnt,
   goes-on-reads.Asked,
   goes-on-reads.Learnt,
   bit-reads.Asked,
@@ -166,11 +120,9 @@ count-decided-requires : (t : ℕ) → count-lts.Need-decided-requires (
   count-below t,
   count.Post,
 ) (count-at t) count.Post
-count-decided-requires t c κs = (omega (arith, c .before .before .before .before .before .if2 .left), (omega (arith, c .before .before .before .before .before .before .before .before .pre .1 .0 .few-days, c .before .before .before .before .before .before .before .before .pre .1 .1 .1 .days-left), omega (arith, c .before .before .before .before .before .before .before .before .pre .1 .0 .few-days, c .before .before .before .before .before .before .before .before .pre .1 .1 .1 .days-left)))
+count-decided-requires t c κs = (omega (arith, c .before .before .before .if3 .left), (omega (arith, c .before .before .before .before .before .before .before .before .pre .1 .0 .few-days, c .before .before .before .before .before .before .before .before .pre .1 .1 .1 .days-left), omega (arith, c .before .before .before .before .before .before .before .before .pre .1 .0 .few-days, c .before .before .before .before .before .before .before .before .pre .1 .1 .1 .days-left)))
 
 count-count-requires : (t : ℕ) → count-lts.Need-count-requires (
-  rule-holds-reads.Asked,
-  rule-holds-reads.Learnt,
   goes-on-reads.Asked,
   goes-on-reads.Learnt,
   bit-reads.Asked,
@@ -181,11 +133,9 @@ count-count-requires : (t : ℕ) → count-lts.Need-count-requires (
   count.Post,
 ) (count-at t) count.Post
 count-count-requires t c κs = let s = c .before .before .before .before .before .before .before .before .before .args in
-    (omega (arith, c .before .before .before .before .before .before .before .before .before .pre .0, c .decided .ensures .left-is, c .before .before .before .before .before .before .if2 .left), (c .before .before .before .before .before .before .before .before .before .pre .1 .0, (c .before .before .before .before .before .before .before .before .before .pre .1 .1 .0, low-inside (s .m) (s .row .now) (s .s) (c .before .before .before .before .before .before .if2 .left) (c .decided .result) (c .before .before .before .before .before .before .before .before .before .pre .1 .1 .1) (c .decided .ensures))))
+    (omega (arith, c .before .before .before .before .before .before .before .before .before .pre .0, c .decided .ensures .left-is, c .before .before .before .before .if3 .left), (c .before .before .before .before .before .before .before .before .before .pre .1 .0, (c .before .before .before .before .before .before .before .before .before .pre .1 .1 .0, low-inside (s .m) (s .row .now) (s .s) (c .before .before .before .before .if3 .left) (c .decided .result) (c .before .before .before .before .before .before .before .before .before .pre .1 .1 .1) (c .decided .ensures))))
 
 count-decided-requires-2 : (t : ℕ) → count-lts.Need-decided-requires-2 (
-  rule-holds-reads.Asked,
-  rule-holds-reads.Learnt,
   goes-on-reads.Asked,
   goes-on-reads.Learnt,
   bit-reads.Asked,
@@ -195,11 +145,9 @@ count-decided-requires-2 : (t : ℕ) → count-lts.Need-decided-requires-2 (
   count-below t,
   count.Post,
 ) (count-at t) count.Post
-count-decided-requires-2 t c κs = (omega (arith, c .before .before .before .before .before .before .before .if2 .left), (omega (arith, c .before .before .before .before .before .before .before .before .before .before .pre .1 .0 .few-days, c .before .before .before .before .before .before .before .before .before .before .pre .1 .1 .1 .days-left), omega (arith, c .before .before .before .before .before .before .before .before .before .before .pre .1 .0 .few-days, c .before .before .before .before .before .before .before .before .before .before .pre .1 .1 .1 .days-left)))
+count-decided-requires-2 t c κs = (omega (arith, c .before .before .before .before .before .if3 .left), (omega (arith, c .before .before .before .before .before .before .before .before .before .before .pre .1 .0 .few-days, c .before .before .before .before .before .before .before .before .before .before .pre .1 .1 .1 .days-left), omega (arith, c .before .before .before .before .before .before .before .before .before .before .pre .1 .0 .few-days, c .before .before .before .before .before .before .before .before .before .before .pre .1 .1 .1 .days-left)))
 
 count-sub-count : (t : ℕ) → count-lts.Need-sub-count (
-  rule-holds-reads.Asked,
-  rule-holds-reads.Learnt,
   goes-on-reads.Asked,
   goes-on-reads.Learnt,
   bit-reads.Asked,
@@ -212,8 +160,6 @@ count-sub-count : (t : ℕ) → count-lts.Need-sub-count (
 count-sub-count t c = omega (arith, c .before .count .ensures)
 
 count-count-requires-2 : (t : ℕ) → count-lts.Need-count-requires-2 (
-  rule-holds-reads.Asked,
-  rule-holds-reads.Learnt,
   goes-on-reads.Asked,
   goes-on-reads.Learnt,
   bit-reads.Asked,
@@ -224,11 +170,9 @@ count-count-requires-2 : (t : ℕ) → count-lts.Need-count-requires-2 (
   count.Post,
 ) (count-at t) count.Post
 count-count-requires-2 t c κs = let s = c .before .before .before .before .before .before .before .before .before .before .before .args in
-    (omega (arith, c .before .before .before .before .before .before .before .before .before .before .before .pre .0, c .decided2 .ensures .left-is, c .before .before .before .before .before .before .before .before .if2 .left), (c .before .before .before .before .before .before .before .before .before .before .before .pre .1 .0, (c .before .before .before .before .before .before .before .before .before .before .before .pre .1 .1 .0, high-inside (s .m) (s .row .now) (s .s) (c .before .before .before .before .before .before .before .before .if2 .left) (c .decided2 .result) (c .before .before .before .before .before .before .before .before .before .before .before .pre .1 .1 .1) (c .before .before .before .before .bit .ensures) (c .decided2 .ensures))))
+    (omega (arith, c .before .before .before .before .before .before .before .before .before .before .before .pre .0, c .decided2 .ensures .left-is, c .before .before .before .before .before .before .if3 .left), (c .before .before .before .before .before .before .before .before .before .before .before .pre .1 .0, (c .before .before .before .before .before .before .before .before .before .before .before .pre .1 .1 .0, high-inside (s .m) (s .row .now) (s .s) (c .before .before .before .before .before .before .if3 .left) (c .decided2 .result) (c .before .before .before .before .before .before .before .before .before .before .before .pre .1 .1 .1) (c .before .before .before .before .bit .ensures) (c .decided2 .ensures))))
 
 count-add-result : (t : ℕ) → count-lts.Need-add-result (
-  rule-holds-reads.Asked,
-  rule-holds-reads.Learnt,
   goes-on-reads.Asked,
   goes-on-reads.Learnt,
   bit-reads.Asked,
@@ -240,9 +184,7 @@ count-add-result : (t : ℕ) → count-lts.Need-add-result (
 ) (count-at t) count.Post
 count-add-result t c = omega (arith, c .before .before .count .ensures, c .count2 .ensures, c .before .before .before .before .before .before .before .before .before .before .before .before .fits .cap .fits)
 
-count-returns-4 : (t : ℕ) → count-lts.Need-returns-4 (
-  rule-holds-reads.Asked,
-  rule-holds-reads.Learnt,
+count-returns-3 : (t : ℕ) → count-lts.Need-returns-3 (
   goes-on-reads.Asked,
   goes-on-reads.Learnt,
   bit-reads.Asked,
@@ -252,13 +194,11 @@ count-returns-4 : (t : ℕ) → count-lts.Need-returns-4 (
   count-below t,
   count.Post,
 ) (count-at t) count.Post
-count-returns-4 t c = let s = c .before .before .before .before .before .before .before .before .before .before .before .before .args in
-    let node = node-yes (s .m) (s .row .now) (s .s) (c .before .before .before .before .before .before .before .before .before .if2 .left) (c .before .before .before .decided .result) (c .before .decided2 .result) (c .before .before .before .before .before .before .before .before .goes-on .ensures) (c .before .before .before .before .before .before .before .if4 .taken) (c .before .before .before .before .before .bit .ensures) (c .before .before .before .decided .ensures) (c .before .decided2 .ensures) in
+count-returns-3 t c = let s = c .before .before .before .before .before .before .before .before .before .before .before .before .args in
+    let node = node-yes (s .m) (s .row .now) (s .s) (c .before .before .before .before .before .before .before .if3 .left) (c .before .before .before .decided .result) (c .before .decided2 .result) (c .before .before .before .before .before .before .before .before .before .before .goes-on .ensures) (c .before .before .before .before .before .before .before .before .before .if2 .taken) (c .before .before .before .before .before .bit .ensures) (c .before .before .before .decided .ensures) (c .before .decided2 .ensures) in
     omega (arith, c .before .before .count .ensures, c .count2 .ensures, simp length-append at (ap length node))
 
-count-returns-5 : (t : ℕ) → count-lts.Need-returns-5 (
-  rule-holds-reads.Asked,
-  rule-holds-reads.Learnt,
+count-returns-4 : (t : ℕ) → count-lts.Need-returns-4 (
   goes-on-reads.Asked,
   goes-on-reads.Learnt,
   bit-reads.Asked,
@@ -268,13 +208,11 @@ count-returns-5 : (t : ℕ) → count-lts.Need-returns-5 (
   count-below t,
   count.Post,
 ) (count-at t) count.Post
-count-returns-5 t c = let s = c .before .before .before .before .before .args in
-    omega (arith, ap length (node-no (s .m) (s .row .now) (s .s) (c .before .before .if2 .left) (c .before .goes-on .ensures) (c .if4 .left)))
+count-returns-4 t c = let s = c .before .before .before .args in
+    omega (arith, ap length (walk-stops (s .m) (s .row .now) (s .s) (c .before .goes-on .ensures) (c .if2 .left)))
 
 pub +count-spec : {M : Type 1} → statement M
 +count-spec = close μ-count λ t. count-lts.spec (
-  rule-holds-reads.Asked,
-  rule-holds-reads.Learnt,
   goes-on-reads.Asked,
   goes-on-reads.Learnt,
   bit-reads.Asked,
@@ -287,10 +225,8 @@ pub +count-spec : {M : Type 1} → statement M
     (count-at t)
     count.Post
     (count-returns t)
-    (count-rule-holds-requires t)
-    (count-returns-2 t)
-    (count-returns-3 t)
     (count-goes-on-requires t)
+    (count-returns-2 t)
     (count-sub-bit t)
     (count-bit-requires t)
     (count-cast-with t)
@@ -301,5 +237,5 @@ pub +count-spec : {M : Type 1} → statement M
     (count-sub-count t)
     (count-count-requires-2 t)
     (count-add-result t)
+    (count-returns-3 t)
     (count-returns-4 t)
-    (count-returns-5 t)

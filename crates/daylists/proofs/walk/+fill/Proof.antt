@@ -7,14 +7,13 @@ use lib.ListN.{length, length-append, length-set, length-drop}
 use lib.Pow.{pow-pos}
 use Rattle.numbers.proofs.BufferLaws.{part-is, both-written, one-written, none-written, as-long}
 use Rattle.daylists.specs.Walk.{listedAt}
-use Rattle.daylists.proofs.WalkLaws.{leaf-yes, leaf-no, node-yes, node-no, half-fits, low-inside, high-inside, pow-half}
+use Rattle.daylists.proofs.WalkLaws.{leaf-yes, walk-stops, node-yes, half-fits, low-inside, high-inside, pow-half}
 use borrow.Author.Needs.{needs}
 use borrow.Fn.Kinds.{In}
 use borrow.Fn.PlainCycle.{Measures, is, falls, and}
 use Rattle.daylists.proofs.walk.fill.Reads as fill
 use Rattle.daylists.proofs.walk.fill.Kinds as fill-kinds
 use Rattle.daylists.proofs.walk.+fill.Lts-fill as fill-lts
-use Rattle.days.proofs.rule.rule_holds.Reads as rule-holds-reads
 use Rattle.daylists.proofs.walk.decided.Reads as decided-reads
 use Rattle.daylists.proofs.walk.goes_on.Reads as goes-on-reads
 use Rattle.numbers.proofs.bit.Reads as bit-reads
@@ -30,9 +29,7 @@ fill-at t = and 3 fill-kinds.ps (is 3 fill-kinds.ps μ-fill t) fill.Pre
 abbrev fill-below : ℕ → In 3 fill-kinds.ps
 fill-below t = and 3 fill-kinds.ps (falls 3 fill-kinds.ps _<_ μ-fill t) fill.Pre
 
-fill-rule-holds-requires : (t : ℕ) → fill-lts.Need-rule-holds-requires (
-  rule-holds-reads.Asked,
-  rule-holds-reads.Learnt,
+fill-goes-on-requires : (t : ℕ) → fill-lts.Need-goes-on-requires (
   goes-on-reads.Asked,
   goes-on-reads.Learnt,
   bit-reads.Asked,
@@ -42,11 +39,9 @@ fill-rule-holds-requires : (t : ℕ) → fill-lts.Need-rule-holds-requires (
   fill-below t,
   fill.Post,
 ) (fill-at t) fill.Post
-fill-rule-holds-requires t c κs = search needs
+fill-goes-on-requires t c κs = search needs
 
 fill-cast-buf : (t : ℕ) → fill-lts.Need-cast-buf (
-  rule-holds-reads.Asked,
-  rule-holds-reads.Learnt,
   goes-on-reads.Asked,
   goes-on-reads.Learnt,
   bit-reads.Asked,
@@ -59,8 +54,6 @@ fill-cast-buf : (t : ℕ) → fill-lts.Need-cast-buf (
 fill-cast-buf t c = omega (arith, c .before .before .before .before .before .before .pre .1 .1 .1 .0 .fits, pow-pos (c .before .before .before .before .before .before .args .s .left))
 
 fill-slice-write-buf : (t : ℕ) → fill-lts.Need-slice-write-buf (
-  rule-holds-reads.Asked,
-  rule-holds-reads.Learnt,
   goes-on-reads.Asked,
   goes-on-reads.Learnt,
   bit-reads.Asked,
@@ -71,11 +64,9 @@ fill-slice-write-buf : (t : ℕ) → fill-lts.Need-slice-write-buf (
   fill.Post,
 ) (fill-at t) fill.Post
 fill-slice-write-buf t c = let s = c .before .before .before .before .before .before .args in
-    omega (arith, ap length (leaf-yes (s .m) (s .row .now) (s .s) (c .before .before .before .if1 .taken) (c .before .before .rule-holds .ensures) (c .before .if2 .taken)), c .before .before .before .before .before .before .pre .1 .1 .1 .1)
+    omega (arith, ap length (leaf-yes (s .m) (s .row .now) (s .s) (c .before .if2 .taken) (c .before .before .before .before .goes-on .ensures) (c .before .before .before .if1 .taken)), c .before .before .before .before .before .before .pre .1 .1 .1 .1)
 
 fill-same-length : (t : ℕ) → fill-lts.Need-same-length (
-  rule-holds-reads.Asked,
-  rule-holds-reads.Learnt,
   goes-on-reads.Asked,
   goes-on-reads.Learnt,
   bit-reads.Asked,
@@ -88,8 +79,6 @@ fill-same-length : (t : ℕ) → fill-lts.Need-same-length (
 fill-same-length t c = simp length-set
 
 fill-returns : (t : ℕ) → fill-lts.Need-returns (
-  rule-holds-reads.Asked,
-  rule-holds-reads.Learnt,
   goes-on-reads.Asked,
   goes-on-reads.Learnt,
   bit-reads.Asked,
@@ -100,42 +89,10 @@ fill-returns : (t : ℕ) → fill-lts.Need-returns (
   fill.Post,
 ) (fill-at t) fill.Post
 fill-returns t c = let s = c .before .before .before .before .before .before .args in
-    let leaf = leaf-yes (s .m) (s .row .now) (s .s) (c .before .before .before .if1 .taken) (c .before .before .rule-holds .ensures) (c .before .if2 .taken) in
+    let leaf = leaf-yes (s .m) (s .row .now) (s .s) (c .before .if2 .taken) (c .before .before .before .before .goes-on .ensures) (c .before .before .before .if1 .taken) in
     (sym (ap length leaf), one-written _ (s .buf .now) (s .s .from) leaf (c .before .before .before .before .before .before .pre .1 .1 .1 .1))
 
-fill-returns-2 : (t : ℕ) → fill-lts.Need-returns-2 (
-  rule-holds-reads.Asked,
-  rule-holds-reads.Learnt,
-  goes-on-reads.Asked,
-  goes-on-reads.Learnt,
-  bit-reads.Asked,
-  bit-reads.Learnt,
-  decided-reads.Asked,
-  decided-reads.Learnt,
-  fill-below t,
-  fill.Post,
-) (fill-at t) fill.Post
-fill-returns-2 t c = let s = c .before .before .before .before .before .args in
-    let leaf = leaf-no (s .m) (s .row .now) (s .s) (c .before .before .if1 .taken) (c .before .rule-holds .ensures) (c .if2 .left) in
-    (sym (ap length leaf), none-written _ (s .buf .now) leaf)
-
-fill-goes-on-requires : (t : ℕ) → fill-lts.Need-goes-on-requires (
-  rule-holds-reads.Asked,
-  rule-holds-reads.Learnt,
-  goes-on-reads.Asked,
-  goes-on-reads.Learnt,
-  bit-reads.Asked,
-  bit-reads.Learnt,
-  decided-reads.Asked,
-  decided-reads.Learnt,
-  fill-below t,
-  fill.Post,
-) (fill-at t) fill.Post
-fill-goes-on-requires t c κs = search needs
-
 fill-sub-bit : (t : ℕ) → fill-lts.Need-sub-bit (
-  rule-holds-reads.Asked,
-  rule-holds-reads.Learnt,
   goes-on-reads.Asked,
   goes-on-reads.Learnt,
   bit-reads.Asked,
@@ -148,8 +105,6 @@ fill-sub-bit : (t : ℕ) → fill-lts.Need-sub-bit (
 fill-sub-bit t c = search needs
 
 fill-bit-requires : (t : ℕ) → fill-lts.Need-bit-requires (
-  rule-holds-reads.Asked,
-  rule-holds-reads.Learnt,
   goes-on-reads.Asked,
   goes-on-reads.Learnt,
   bit-reads.Asked,
@@ -162,8 +117,6 @@ fill-bit-requires : (t : ℕ) → fill-lts.Need-bit-requires (
 fill-bit-requires t c κs = omega (arith, c .before .before .before .before .before .before .pre .1 .0 .few-days, c .before .before .before .before .before .before .pre .1 .1 .1 .0 .days-left)
 
 fill-cast-with : (t : ℕ) → fill-lts.Need-cast-with (
-  rule-holds-reads.Asked,
-  rule-holds-reads.Learnt,
   goes-on-reads.Asked,
   goes-on-reads.Learnt,
   bit-reads.Asked,
@@ -176,8 +129,6 @@ fill-cast-with : (t : ℕ) → fill-lts.Need-cast-with (
 fill-cast-with t c = search needs
 
 fill-add-with : (t : ℕ) → fill-lts.Need-add-with (
-  rule-holds-reads.Asked,
-  rule-holds-reads.Learnt,
   goes-on-reads.Asked,
   goes-on-reads.Learnt,
   bit-reads.Asked,
@@ -187,11 +138,9 @@ fill-add-with : (t : ℕ) → fill-lts.Need-add-with (
   fill-below t,
   fill.Post,
 ) (fill-at t) fill.Post
-fill-add-with t c = omega (arith, c .before .bit .ensures, pow-half (c .before .before .before .before .before .before .before .before .args .s .left) (c .before .before .before .before .before .if1 .left), c .before .before .before .before .before .before .before .before .pre .1 .1 .1 .0 .fits)
+fill-add-with t c = omega (arith, c .before .bit .ensures, pow-half (c .before .before .before .before .before .before .before .before .args .s .left) (c .before .before .before .if2 .left), c .before .before .before .before .before .before .before .before .pre .1 .1 .1 .0 .fits)
 
 fill-decided-requires : (t : ℕ) → fill-lts.Need-decided-requires (
-  rule-holds-reads.Asked,
-  rule-holds-reads.Learnt,
   goes-on-reads.Asked,
   goes-on-reads.Learnt,
   bit-reads.Asked,
@@ -201,11 +150,9 @@ fill-decided-requires : (t : ℕ) → fill-lts.Need-decided-requires (
   fill-below t,
   fill.Post,
 ) (fill-at t) fill.Post
-fill-decided-requires t c κs = (omega (arith, c .before .before .before .before .before .if1 .left), (omega (arith, c .before .before .before .before .before .before .before .before .pre .1 .0 .few-days, c .before .before .before .before .before .before .before .before .pre .1 .1 .1 .0 .days-left), omega (arith, c .before .before .before .before .before .before .before .before .pre .1 .0 .few-days, c .before .before .before .before .before .before .before .before .pre .1 .1 .1 .0 .days-left)))
+fill-decided-requires t c κs = (omega (arith, c .before .before .before .if2 .left), (omega (arith, c .before .before .before .before .before .before .before .before .pre .1 .0 .few-days, c .before .before .before .before .before .before .before .before .pre .1 .1 .1 .0 .days-left), omega (arith, c .before .before .before .before .before .before .before .before .pre .1 .0 .few-days, c .before .before .before .before .before .before .before .before .pre .1 .1 .1 .0 .days-left)))
 
 fill-fill-requires : (t : ℕ) → fill-lts.Need-fill-requires (
-  rule-holds-reads.Asked,
-  rule-holds-reads.Learnt,
   goes-on-reads.Asked,
   goes-on-reads.Learnt,
   bit-reads.Asked,
@@ -217,12 +164,10 @@ fill-fill-requires : (t : ℕ) → fill-lts.Need-fill-requires (
 ) (fill-at t) fill.Post
 fill-fill-requires t c κs = let s = c .before .before .before .before .before .before .before .before .before .before .args in
     let pre = c .before .before .before .before .before .before .before .before .before .before .pre in
-    let low = half-fits (s .m) (s .row .now) (s .s) (c .before .before .before .before .before .before .before .if1 .left) (c .before .decided .result) (c .before .before .before .before .before .before .goes-on .ensures) (c .before .before .before .before .before .if3 .taken) (c .before .decided .ensures) in
-    (omega (arith, pre .0, c .before .decided .ensures .left-is, c .before .before .before .before .before .before .before .if1 .left), (pre .1 .0, (pre .1 .1 .0, (low-inside (s .m) (s .row .now) (s .s) (c .before .before .before .before .before .before .before .if1 .left) (c .before .decided .result) (pre .1 .1 .1 .0) (c .before .decided .ensures), omega (arith, low, pre .1 .1 .1 .1)))))
+    let low = half-fits (s .m) (s .row .now) (s .s) (c .before .before .before .before .before .if2 .left) (c .before .decided .result) (c .before .before .before .before .before .before .before .before .goes-on .ensures) (c .before .before .before .before .before .before .before .if1 .taken) (c .before .decided .ensures) in
+    (omega (arith, pre .0, c .before .decided .ensures .left-is, c .before .before .before .before .before .if2 .left), (pre .1 .0, (pre .1 .1 .0, (low-inside (s .m) (s .row .now) (s .s) (c .before .before .before .before .before .if2 .left) (c .before .decided .result) (pre .1 .1 .1 .0) (c .before .decided .ensures), omega (arith, low, pre .1 .1 .1 .1)))))
 
 fill-decided-requires-2 : (t : ℕ) → fill-lts.Need-decided-requires-2 (
-  rule-holds-reads.Asked,
-  rule-holds-reads.Learnt,
   goes-on-reads.Asked,
   goes-on-reads.Learnt,
   bit-reads.Asked,
@@ -232,11 +177,9 @@ fill-decided-requires-2 : (t : ℕ) → fill-lts.Need-decided-requires-2 (
   fill-below t,
   fill.Post,
 ) (fill-at t) fill.Post
-fill-decided-requires-2 t c κs = (omega (arith, c .before .before .before .before .before .before .before .before .before .before .if1 .left), (omega (arith, c .before .before .before .before .before .before .before .before .before .before .before .before .before .pre .1 .0 .few-days, c .before .before .before .before .before .before .before .before .before .before .before .before .before .pre .1 .1 .1 .0 .days-left), omega (arith, c .before .before .before .before .before .before .before .before .before .before .before .before .before .pre .1 .0 .few-days, c .before .before .before .before .before .before .before .before .before .before .before .before .before .pre .1 .1 .1 .0 .days-left)))
+fill-decided-requires-2 t c κs = (omega (arith, c .before .before .before .before .before .before .before .before .if2 .left), (omega (arith, c .before .before .before .before .before .before .before .before .before .before .before .before .before .pre .1 .0 .few-days, c .before .before .before .before .before .before .before .before .before .before .before .before .before .pre .1 .1 .1 .0 .days-left), omega (arith, c .before .before .before .before .before .before .before .before .before .before .before .before .before .pre .1 .0 .few-days, c .before .before .before .before .before .before .before .before .before .before .before .before .before .pre .1 .1 .1 .0 .days-left)))
 
 fill-mul-fill : (t : ℕ) → fill-lts.Need-mul-fill (
-  rule-holds-reads.Asked,
-  rule-holds-reads.Learnt,
   goes-on-reads.Asked,
   goes-on-reads.Learnt,
   bit-reads.Asked,
@@ -247,12 +190,10 @@ fill-mul-fill : (t : ℕ) → fill-lts.Need-mul-fill (
   fill.Post,
 ) (fill-at t) fill.Post
 fill-mul-fill t c = let s = c .before .before .before .before .before .before .before .before .before .before .before .before .before .before .args in
-    let low = half-fits (s .m) (s .row .now) (s .s) (c .before .before .before .before .before .before .before .before .before .before .before .if1 .left) (c .before .before .before .before .before .decided .result) (c .before .before .before .before .before .before .before .before .before .before .goes-on .ensures) (c .before .before .before .before .before .before .before .before .before .if3 .taken) (c .before .before .before .before .before .decided .ensures) in
+    let low = half-fits (s .m) (s .row .now) (s .s) (c .before .before .before .before .before .before .before .before .before .if2 .left) (c .before .before .before .before .before .decided .result) (c .before .before .before .before .before .before .before .before .before .before .before .before .goes-on .ensures) (c .before .before .before .before .before .before .before .before .before .before .before .if1 .taken) (c .before .before .before .before .before .decided .ensures) in
     omega (arith, c .before .before .before .fill .ensures .0, low, c .before .before .before .before .before .before .before .before .before .before .before .before .before .before .pre .1 .1 .1 .1, c .before .before .before .before .before .before .before .before .before .before .before .before .before .before .good .1 .1 .1 .1 .0 .1)
 
 fill-sub-fill : (t : ℕ) → fill-lts.Need-sub-fill (
-  rule-holds-reads.Asked,
-  rule-holds-reads.Learnt,
   goes-on-reads.Asked,
   goes-on-reads.Learnt,
   bit-reads.Asked,
@@ -263,12 +204,10 @@ fill-sub-fill : (t : ℕ) → fill-lts.Need-sub-fill (
   fill.Post,
 ) (fill-at t) fill.Post
 fill-sub-fill t c = let s = c .before .before .before .before .before .before .before .before .before .before .before .before .before .before .args in
-    let low = half-fits (s .m) (s .row .now) (s .s) (c .before .before .before .before .before .before .before .before .before .before .before .if1 .left) (c .before .before .before .before .before .decided .result) (c .before .before .before .before .before .before .before .before .before .before .goes-on .ensures) (c .before .before .before .before .before .before .before .before .before .if3 .taken) (c .before .before .before .before .before .decided .ensures) in
+    let low = half-fits (s .m) (s .row .now) (s .s) (c .before .before .before .before .before .before .before .before .before .if2 .left) (c .before .before .before .before .before .decided .result) (c .before .before .before .before .before .before .before .before .before .before .before .before .goes-on .ensures) (c .before .before .before .before .before .before .before .before .before .before .before .if1 .taken) (c .before .before .before .before .before .decided .ensures) in
     omega (arith, c .before .before .before .fill .ensures .0, low, c .before .before .before .before .before .before .before .before .before .before .before .before .before .before .pre .1 .1 .1 .1, c .before .before .before .fill .kept .1 .1 .1 .1 .0)
 
 fill-part-fill-start : (t : ℕ) → fill-lts.Need-part-fill-start (
-  rule-holds-reads.Asked,
-  rule-holds-reads.Learnt,
   goes-on-reads.Asked,
   goes-on-reads.Learnt,
   bit-reads.Asked,
@@ -279,12 +218,10 @@ fill-part-fill-start : (t : ℕ) → fill-lts.Need-part-fill-start (
   fill.Post,
 ) (fill-at t) fill.Post
 fill-part-fill-start t c = let s = c .before .before .before .before .before .before .before .before .before .before .before .before .before .before .args in
-    let low = half-fits (s .m) (s .row .now) (s .s) (c .before .before .before .before .before .before .before .before .before .before .before .if1 .left) (c .before .before .before .before .before .decided .result) (c .before .before .before .before .before .before .before .before .before .before .goes-on .ensures) (c .before .before .before .before .before .before .before .before .before .if3 .taken) (c .before .before .before .before .before .decided .ensures) in
+    let low = half-fits (s .m) (s .row .now) (s .s) (c .before .before .before .before .before .before .before .before .before .if2 .left) (c .before .before .before .before .before .decided .result) (c .before .before .before .before .before .before .before .before .before .before .before .before .goes-on .ensures) (c .before .before .before .before .before .before .before .before .before .before .before .if1 .taken) (c .before .before .before .before .before .decided .ensures) in
     omega (arith, c .before .before .before .fill .ensures .0, low, c .before .before .before .before .before .before .before .before .before .before .before .before .before .before .pre .1 .1 .1 .1, c .before .before .before .fill .kept .1 .1 .1 .1 .0)
 
 fill-part-fill-end : (t : ℕ) → fill-lts.Need-part-fill-end (
-  rule-holds-reads.Asked,
-  rule-holds-reads.Learnt,
   goes-on-reads.Asked,
   goes-on-reads.Learnt,
   bit-reads.Asked,
@@ -297,8 +234,6 @@ fill-part-fill-end : (t : ℕ) → fill-lts.Need-part-fill-end (
 fill-part-fill-end t c = search needs
 
 fill-fill-requires-2 : (t : ℕ) → fill-lts.Need-fill-requires-2 (
-  rule-holds-reads.Asked,
-  rule-holds-reads.Learnt,
   goes-on-reads.Asked,
   goes-on-reads.Learnt,
   bit-reads.Asked,
@@ -310,16 +245,16 @@ fill-fill-requires-2 : (t : ℕ) → fill-lts.Need-fill-requires-2 (
 ) (fill-at t) fill.Post
 fill-fill-requires-2 t c κs = let s = c .before .before .before .before .before .before .before .before .before .before .before .before .before .before .before .args in
     let pre = c .before .before .before .before .before .before .before .before .before .before .before .before .before .before .before .pre in
-    let low = half-fits (s .m) (s .row .now) (s .s) (c .before .before .before .before .before .before .before .before .before .before .before .before .if1 .left) (c .before .before .before .before .before .before .decided .result) (c .before .before .before .before .before .before .before .before .before .before .before .goes-on .ensures) (c .before .before .before .before .before .before .before .before .before .before .if3 .taken) (c .before .before .before .before .before .before .decided .ensures) in
-    let node = node-yes (s .m) (s .row .now) (s .s) (c .before .before .before .before .before .before .before .before .before .before .before .before .if1 .left) (c .before .before .before .before .before .before .decided .result) (c .before .decided2 .result) (c .before .before .before .before .before .before .before .before .before .before .before .goes-on .ensures) (c .before .before .before .before .before .before .before .before .before .before .if3 .taken) (c .before .before .before .before .before .before .before .before .bit .ensures) (c .before .before .before .before .before .before .decided .ensures) (c .before .decided2 .ensures) in
+    let low = half-fits (s .m) (s .row .now) (s .s) (c .before .before .before .before .before .before .before .before .before .before .if2 .left) (c .before .before .before .before .before .before .decided .result) (c .before .before .before .before .before .before .before .before .before .before .before .before .before .goes-on .ensures) (c .before .before .before .before .before .before .before .before .before .before .before .before .if1 .taken) (c .before .before .before .before .before .before .decided .ensures) in
+    let node = node-yes (s .m) (s .row .now) (s .s) (c .before .before .before .before .before .before .before .before .before .before .if2 .left) (c .before .before .before .before .before .before .decided .result) (c .before .decided2 .result) (c .before .before .before .before .before .before .before .before .before .before .before .before .before .goes-on .ensures) (c .before .before .before .before .before .before .before .before .before .before .before .before .if1 .taken) (c .before .before .before .before .before .before .before .before .bit .ensures) (c .before .before .before .before .before .before .decided .ensures) (c .before .decided2 .ensures) in
     let A = listedAt (s .m) (s .row .now) (c .before .before .before .before .before .before .decided .result) in (
-      omega (arith, pre .0, c .before .decided2 .ensures .left-is, c .before .before .before .before .before .before .before .before .before .before .before .before .if1 .left),
+      omega (arith, pre .0, c .before .decided2 .ensures .left-is, c .before .before .before .before .before .before .before .before .before .before .if2 .left),
       (
         pre .1 .0,
         (
           pre .1 .1 .0,
           (
-            high-inside (s .m) (s .row .now) (s .s) (c .before .before .before .before .before .before .before .before .before .before .before .before .if1 .left) (c .before .decided2 .result) (pre .1 .1 .1 .0) (c .before .before .before .before .before .before .before .before .bit .ensures) (c .before .decided2 .ensures),
+            high-inside (s .m) (s .row .now) (s .s) (c .before .before .before .before .before .before .before .before .before .before .if2 .left) (c .before .decided2 .result) (pre .1 .1 .1 .0) (c .before .before .before .before .before .before .before .before .bit .ensures) (c .before .decided2 .ensures),
             rw (part-is A (s .buf .now) (c .before .before .before .before .fill .last .1 .1 .1 .1 .0) (c .before .before .before .before .fill .result) (c .before .before .before .before .fill .ensures .0) (c .before .before .before .before .fill .ensures .1) (omega (arith, low, pre .1 .1 .1 .1)), length-drop)
                 (omega (arith, simp length-append at (ap length node), pre .1 .1 .1 .1)),
           ),
@@ -328,8 +263,6 @@ fill-fill-requires-2 t c κs = let s = c .before .before .before .before .before
     )
 
 fill-add-result : (t : ℕ) → fill-lts.Need-add-result (
-  rule-holds-reads.Asked,
-  rule-holds-reads.Learnt,
   goes-on-reads.Asked,
   goes-on-reads.Learnt,
   bit-reads.Asked,
@@ -340,12 +273,10 @@ fill-add-result : (t : ℕ) → fill-lts.Need-add-result (
   fill.Post,
 ) (fill-at t) fill.Post
 fill-add-result t c = let s = c .before .before .before .before .before .before .before .before .before .before .before .before .before .before .before .before .before .before .args in
-    let node = node-yes (s .m) (s .row .now) (s .s) (c .before .before .before .before .before .before .before .before .before .before .before .before .before .before .before .if1 .left) (c .before .before .before .before .before .before .before .before .before .decided .result) (c .before .before .before .before .decided2 .result) (c .before .before .before .before .before .before .before .before .before .before .before .before .before .before .goes-on .ensures) (c .before .before .before .before .before .before .before .before .before .before .before .before .before .if3 .taken) (c .before .before .before .before .before .before .before .before .before .before .before .bit .ensures) (c .before .before .before .before .before .before .before .before .before .decided .ensures) (c .before .before .before .before .decided2 .ensures) in
+    let node = node-yes (s .m) (s .row .now) (s .s) (c .before .before .before .before .before .before .before .before .before .before .before .before .before .if2 .left) (c .before .before .before .before .before .before .before .before .before .decided .result) (c .before .before .before .before .decided2 .result) (c .before .before .before .before .before .before .before .before .before .before .before .before .before .before .before .before .goes-on .ensures) (c .before .before .before .before .before .before .before .before .before .before .before .before .before .before .before .if1 .taken) (c .before .before .before .before .before .before .before .before .before .before .before .bit .ensures) (c .before .before .before .before .before .before .before .before .before .decided .ensures) (c .before .before .before .before .decided2 .ensures) in
     omega (arith, simp length-append at (ap length node), c .before .before .before .before .before .before .before .fill .ensures .0, c .before .before .fill2 .ensures .0, c .before .before .before .before .before .before .before .before .before .before .before .before .before .before .before .before .before .before .pre .1 .1 .1 .1, c .before .before .before .before .before .before .before .before .before .before .before .before .before .before .before .before .before .before .good .1 .1 .1 .1 .0 .0)
 
 fill-same-length-2 : (t : ℕ) → fill-lts.Need-same-length-2 (
-  rule-holds-reads.Asked,
-  rule-holds-reads.Learnt,
   goes-on-reads.Asked,
   goes-on-reads.Learnt,
   bit-reads.Asked,
@@ -356,17 +287,15 @@ fill-same-length-2 : (t : ℕ) → fill-lts.Need-same-length-2 (
   fill.Post,
 ) (fill-at t) fill.Post
 fill-same-length-2 t c = let s = c .before .before .before .before .before .before .before .before .before .before .before .before .before .before .before .before .before .before .args in
-    let node = node-yes (s .m) (s .row .now) (s .s) (c .before .before .before .before .before .before .before .before .before .before .before .before .before .before .before .if1 .left) (c .before .before .before .before .before .before .before .before .before .decided .result) (c .before .before .before .before .decided2 .result) (c .before .before .before .before .before .before .before .before .before .before .before .before .before .before .goes-on .ensures) (c .before .before .before .before .before .before .before .before .before .before .before .before .before .if3 .taken) (c .before .before .before .before .before .before .before .before .before .before .before .bit .ensures) (c .before .before .before .before .before .before .before .before .before .decided .ensures) (c .before .before .before .before .decided2 .ensures) in
-    let low = half-fits (s .m) (s .row .now) (s .s) (c .before .before .before .before .before .before .before .before .before .before .before .before .before .before .before .if1 .left) (c .before .before .before .before .before .before .before .before .before .decided .result) (c .before .before .before .before .before .before .before .before .before .before .before .before .before .before .goes-on .ensures) (c .before .before .before .before .before .before .before .before .before .before .before .before .before .if3 .taken) (c .before .before .before .before .before .before .before .before .before .decided .ensures) in
+    let node = node-yes (s .m) (s .row .now) (s .s) (c .before .before .before .before .before .before .before .before .before .before .before .before .before .if2 .left) (c .before .before .before .before .before .before .before .before .before .decided .result) (c .before .before .before .before .decided2 .result) (c .before .before .before .before .before .before .before .before .before .before .before .before .before .before .before .before .goes-on .ensures) (c .before .before .before .before .before .before .before .before .before .before .before .before .before .before .before .if1 .taken) (c .before .before .before .before .before .before .before .before .before .before .before .bit .ensures) (c .before .before .before .before .before .before .before .before .before .decided .ensures) (c .before .before .before .before .decided2 .ensures) in
+    let low = half-fits (s .m) (s .row .now) (s .s) (c .before .before .before .before .before .before .before .before .before .before .before .before .before .if2 .left) (c .before .before .before .before .before .before .before .before .before .decided .result) (c .before .before .before .before .before .before .before .before .before .before .before .before .before .before .before .before .goes-on .ensures) (c .before .before .before .before .before .before .before .before .before .before .before .before .before .before .before .if1 .taken) (c .before .before .before .before .before .before .before .before .before .decided .ensures) in
     let A = listedAt (s .m) (s .row .now) (c .before .before .before .before .before .before .before .before .before .decided .result) in
     let B = listedAt (s .m) (s .row .now) (c .before .before .before .before .decided2 .result) in
     as-long (A ++ B) (s .buf .now) _
     (both-written A (s .buf .now) (c .before .before .before .before .before .before .before .fill .last .1 .1 .1 .1 .0) (c .before .before .before .before .before .before .before .fill .result) (c .before .before .before .before .before .before .before .fill .ensures .0) (c .before .before .before .before .before .before .before .fill .ensures .1) (omega (arith, low, c .before .before .before .before .before .before .before .before .before .before .before .before .before .before .before .before .before .before .pre .1 .1 .1 .1)) B (c .before .before .fill2 .last .1 .1 .1 .1 .0) (c .before .before .fill2 .ensures .1))
     (omega (arith, ap length node, c .before .before .before .before .before .before .before .before .before .before .before .before .before .before .before .before .before .before .pre .1 .1 .1 .1))
 
-fill-returns-3 : (t : ℕ) → fill-lts.Need-returns-3 (
-  rule-holds-reads.Asked,
-  rule-holds-reads.Learnt,
+fill-returns-2 : (t : ℕ) → fill-lts.Need-returns-2 (
   goes-on-reads.Asked,
   goes-on-reads.Learnt,
   bit-reads.Asked,
@@ -376,18 +305,16 @@ fill-returns-3 : (t : ℕ) → fill-lts.Need-returns-3 (
   fill-below t,
   fill.Post,
 ) (fill-at t) fill.Post
-fill-returns-3 t c = let s = c .before .before .before .before .before .before .before .before .before .before .before .before .before .before .before .before .before .before .args in
-    let node = node-yes (s .m) (s .row .now) (s .s) (c .before .before .before .before .before .before .before .before .before .before .before .before .before .before .before .if1 .left) (c .before .before .before .before .before .before .before .before .before .decided .result) (c .before .before .before .before .decided2 .result) (c .before .before .before .before .before .before .before .before .before .before .before .before .before .before .goes-on .ensures) (c .before .before .before .before .before .before .before .before .before .before .before .before .before .if3 .taken) (c .before .before .before .before .before .before .before .before .before .before .before .bit .ensures) (c .before .before .before .before .before .before .before .before .before .decided .ensures) (c .before .before .before .before .decided2 .ensures) in
-    let low = half-fits (s .m) (s .row .now) (s .s) (c .before .before .before .before .before .before .before .before .before .before .before .before .before .before .before .if1 .left) (c .before .before .before .before .before .before .before .before .before .decided .result) (c .before .before .before .before .before .before .before .before .before .before .before .before .before .before .goes-on .ensures) (c .before .before .before .before .before .before .before .before .before .before .before .before .before .if3 .taken) (c .before .before .before .before .before .before .before .before .before .decided .ensures) in
+fill-returns-2 t c = let s = c .before .before .before .before .before .before .before .before .before .before .before .before .before .before .before .before .before .before .args in
+    let node = node-yes (s .m) (s .row .now) (s .s) (c .before .before .before .before .before .before .before .before .before .before .before .before .before .if2 .left) (c .before .before .before .before .before .before .before .before .before .decided .result) (c .before .before .before .before .decided2 .result) (c .before .before .before .before .before .before .before .before .before .before .before .before .before .before .before .before .goes-on .ensures) (c .before .before .before .before .before .before .before .before .before .before .before .before .before .before .before .if1 .taken) (c .before .before .before .before .before .before .before .before .before .before .before .bit .ensures) (c .before .before .before .before .before .before .before .before .before .decided .ensures) (c .before .before .before .before .decided2 .ensures) in
+    let low = half-fits (s .m) (s .row .now) (s .s) (c .before .before .before .before .before .before .before .before .before .before .before .before .before .if2 .left) (c .before .before .before .before .before .before .before .before .before .decided .result) (c .before .before .before .before .before .before .before .before .before .before .before .before .before .before .before .before .goes-on .ensures) (c .before .before .before .before .before .before .before .before .before .before .before .before .before .before .before .if1 .taken) (c .before .before .before .before .before .before .before .before .before .decided .ensures) in
     let A = listedAt (s .m) (s .row .now) (c .before .before .before .before .before .before .before .before .before .decided .result) in
     let B = listedAt (s .m) (s .row .now) (c .before .before .before .before .decided2 .result) in (
       omega (arith, simp length-append at (ap length node), c .before .before .before .before .before .before .before .fill .ensures .0, c .before .before .fill2 .ensures .0),
       rw node (both-written A (s .buf .now) (c .before .before .before .before .before .before .before .fill .last .1 .1 .1 .1 .0) (c .before .before .before .before .before .before .before .fill .result) (c .before .before .before .before .before .before .before .fill .ensures .0) (c .before .before .before .before .before .before .before .fill .ensures .1) (omega (arith, low, c .before .before .before .before .before .before .before .before .before .before .before .before .before .before .before .before .before .before .pre .1 .1 .1 .1)) B (c .before .before .fill2 .last .1 .1 .1 .1 .0) (c .before .before .fill2 .ensures .1)),
     )
 
-fill-returns-4 : (t : ℕ) → fill-lts.Need-returns-4 (
-  rule-holds-reads.Asked,
-  rule-holds-reads.Learnt,
+fill-returns-3 : (t : ℕ) → fill-lts.Need-returns-3 (
   goes-on-reads.Asked,
   goes-on-reads.Learnt,
   bit-reads.Asked,
@@ -397,14 +324,12 @@ fill-returns-4 : (t : ℕ) → fill-lts.Need-returns-4 (
   fill-below t,
   fill.Post,
 ) (fill-at t) fill.Post
-fill-returns-4 t c = let s = c .before .before .before .before .before .args in
-    let none = node-no (s .m) (s .row .now) (s .s) (c .before .before .if1 .left) (c .before .goes-on .ensures) (c .if3 .left) in
+fill-returns-3 t c = let s = c .before .before .before .args in
+    let none = walk-stops (s .m) (s .row .now) (s .s) (c .before .goes-on .ensures) (c .if1 .left) in
     (sym (ap length none), none-written _ (s .buf .now) none)
 
 pub +fill-spec : {M : Type 1} → statement M
 +fill-spec = close μ-fill λ t. fill-lts.spec (
-  rule-holds-reads.Asked,
-  rule-holds-reads.Learnt,
   goes-on-reads.Asked,
   goes-on-reads.Learnt,
   bit-reads.Asked,
@@ -416,13 +341,11 @@ pub +fill-spec : {M : Type 1} → statement M
 )
     (fill-at t)
     fill.Post
-    (fill-rule-holds-requires t)
+    (fill-goes-on-requires t)
     (fill-cast-buf t)
     (fill-slice-write-buf t)
     (fill-same-length t)
     (fill-returns t)
-    (fill-returns-2 t)
-    (fill-goes-on-requires t)
     (fill-sub-bit t)
     (fill-bit-requires t)
     (fill-cast-with t)
@@ -437,5 +360,5 @@ pub +fill-spec : {M : Type 1} → statement M
     (fill-fill-requires-2 t)
     (fill-add-result t)
     (fill-same-length-2 t)
+    (fill-returns-2 t)
     (fill-returns-3 t)
-    (fill-returns-4 t)
