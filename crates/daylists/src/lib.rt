@@ -11,7 +11,7 @@ ghost use Rattle.fields.specs.Fields.{Accepted, nurses};
 ghost use Rattle.days.specs.Days.{dayList};
 
 // How many patterns nurse i's day list has, but no more than cap.
-pub fn day_count(w: &[u64], i: usize, p: u32, cap: usize) -> usize
+pub(crate) fn day_count(w: &[u64], i: usize, p: u32, cap: usize) -> usize
     requires { ⌜ Accepted (now w) ⌝ }
     requires { ⌜ i < nurses (now w) ⌝ }
     ensures { λ k. ⌜ k ≡ min cap (length (dayList (now (w .entry)) i p)) ⌝ }
@@ -24,7 +24,7 @@ pub fn day_count(w: &[u64], i: usize, p: u32, cap: usize) -> usize
 }
 
 // Writes nurse i's day list from the buffer's start, which has the room.
-pub fn day_fill(w: &[u64], i: usize, p: u32, buf: &mut [u32]) -> usize
+pub(crate) fn day_fill(w: &[u64], i: usize, p: u32, buf: &mut [u32]) -> usize
     requires { ⌜ Accepted (now w) ⌝ }
     requires { ⌜ i < nurses (now w) ⌝ }
     requires { ⌜ length (dayList (now w) i p) ≤ length (now buf) ⌝ }

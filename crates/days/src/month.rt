@@ -39,7 +39,7 @@ fn with_next(set: u64, i: u64, on: bool) -> u64
 }
 
 // Whether a count of rests is within bounds.
-pub fn in_bounds(least: u64, most: u64, k: u64) -> bool
+pub(crate) fn in_bounds(least: u64, most: u64, k: u64) -> bool
     ensures { λ r. ⌜ r ≡ inBounds least most k ⌝ }
 {
     least <= k && k <= most
@@ -73,7 +73,7 @@ fn seven_days(b: &[u64]) -> [u64; 38]
 }
 
 // Her month by her block of the ward's numbers and her night pattern.
-pub fn sheet_of(b: &[u64], n: usize, longest: usize, p: u32) -> Sheet
+pub(crate) fn sheet_of(b: &[u64], n: usize, longest: usize, p: u32) -> Sheet
     requires { ⌜ Block (now b) n ⌝ }
     requires { ⌜ n ≤ 31 ⌝ }
     ensures { λ r. ⌜ IsSheet (now (b .entry)) n longest p (r .month) (r .row) ⌝ }

@@ -190,7 +190,7 @@ fn choice_holds(m: Month, q: u64) -> bool
 }
 
 // The day rule.
-pub fn rule_holds(m: Month, row: &[u64; 38], q: u64) -> bool
+pub(crate) fn rule_holds(m: Month, row: &[u64; 38], q: u64) -> bool
     requires { ⌜ Small m ⌝ }
     ensures { λ r. ⌜ r ≡ ruleOf m (now (row .entry)) q ⌝ }
 {

@@ -25,7 +25,7 @@ pub enum Next {
     Never,
 }
 
-pub fn is_closed(r: Rules, s: State) -> bool
+pub(crate) fn is_closed(r: Rules, s: State) -> bool
     requires { ⌜ Small r ⌝ }
     ensures { λ b. ⌜ b ≡ closed r (s .run) (s .dist) ⌝ }
 {

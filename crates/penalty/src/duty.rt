@@ -59,7 +59,7 @@ fn group_at(wt: Weights, masks: &[u64], row: &[u64], k: usize, column: u64, g: u
 }
 
 // The penalty of a column: k is 0 for night and 1 for day.
-pub fn on_column(wt: Weights, masks: &[u64], row: &[u64], k: usize, column: u64) -> Duty
+pub(crate) fn on_column(wt: Weights, masks: &[u64], row: &[u64], k: usize, column: u64) -> Duty
     requires { ⌜ Light wt × Row (now masks) (now row) × (k < 2) ⌝ }
     ensures { λ r. ⌜ Counts r (dutyShort wt (now (masks .entry)) (now (row .entry)) k (has column)) 81600
         (dutyOver wt (now (masks .entry)) (now (row .entry)) k (has column)) 104000 ⌝ }

@@ -29,7 +29,7 @@ pub fn steps_allowed(steps: u32, k: u32) -> bool
 }
 
 // Whether p is one of nurse i's own.
-pub fn is_own(w: &[u64], nights: &[u32; 48], daily: bool, i: usize, p: u32) -> bool
+pub(crate) fn is_own(w: &[u64], nights: &[u32; 48], daily: bool, i: usize, p: u32) -> bool
     requires { ⌜ Accepted (now w) × (i < nurses (now w)) ⌝ }
     ensures { λ r. ⌜ r ≡ among (phaseOf daily (now (w .entry)) (now (nights .entry)) .patterns i) p ⌝ }
 {
@@ -40,7 +40,14 @@ pub fn is_own(w: &[u64], nights: &[u32; 48], daily: bool, i: usize, p: u32) -> b
 }
 
 // Whether a slot holds one of nurse i's own, or none.
-pub fn slot_own(w: &[u64], nights: &[u32; 48], daily: bool, i: usize, placed: bool, p: u32) -> bool
+pub(crate) fn slot_own(
+    w: &[u64],
+    nights: &[u32; 48],
+    daily: bool,
+    i: usize,
+    placed: bool,
+    p: u32,
+) -> bool
     requires { ⌜ Accepted (now w) × (i < nurses (now w)) ⌝ }
     ensures { λ r. ⌜ r ≡ hers (phaseOf daily (now (w .entry)) (now (nights .entry))) i (slot placed p) ⌝ }
 {
@@ -51,7 +58,7 @@ pub fn slot_own(w: &[u64], nights: &[u32; 48], daily: bool, i: usize, placed: bo
 }
 
 // Whether each placed nurse holds one of her own.
-pub fn slots_own(w: &[u64], nights: &[u32; 48], daily: bool, rec: search::Record) -> bool
+pub(crate) fn slots_own(w: &[u64], nights: &[u32; 48], daily: bool, rec: search::Record) -> bool
     requires { ⌜ Accepted (now w) ⌝ }
     ensures { λ r. ⌜ r ≡ all (λ i. hers (phaseOf daily (now (w .entry)) (now (nights .entry))) i (slotAt rec i)) (upFrom 0 (phaseOf daily (now (w .entry)) (now (nights .entry)) .nurses)) ⌝ }
 {
@@ -68,7 +75,12 @@ pub fn slots_own(w: &[u64], nights: &[u32; 48], daily: bool, rec: search::Record
 }
 
 // Whether a removal names a nurse, with one of hers or with none.
-pub fn removal_names(w: &[u64], nights: &[u32; 48], daily: bool, x: removals::Removal) -> bool
+pub(crate) fn removal_names(
+    w: &[u64],
+    nights: &[u32; 48],
+    daily: bool,
+    x: removals::Removal,
+) -> bool
     requires { ⌜ Accepted (now w) ⌝ }
     ensures { λ r. ⌜ r ≡ names (phaseOf daily (now (w .entry)) (now (nights .entry))) (x .nurse) (slot (x .has) (x .pattern)) ⌝ }
 {
@@ -84,7 +96,7 @@ pub fn removal_names(w: &[u64], nights: &[u32; 48], daily: bool, x: removals::Re
 }
 
 // Whether each removal held names a nurse, with one of hers or with none.
-pub fn removals_name(w: &[u64], nights: &[u32; 48], daily: bool, rec: search::Record) -> bool
+pub(crate) fn removals_name(w: &[u64], nights: &[u32; 48], daily: bool, rec: search::Record) -> bool
     requires { ⌜ Accepted (now w) ⌝ }
     ensures { λ r. ⌜ r ≡ all (namesAt (phaseOf daily (now (w .entry)) (now (nights .entry))) (rec .removals)) (upFrom 0 (held (phaseOf daily (now (w .entry)) (now (nights .entry)) .tabu) rec)) ⌝ }
 {

@@ -62,7 +62,7 @@ impl Record {
     }
 
     // Whether the pattern is neither in use by the nurse nor given up by her in the last TL steps.
-    pub fn may_take(self, tl: usize, nurse: usize, pattern: u32) -> bool
+    pub(crate) fn may_take(self, tl: usize, nurse: usize, pattern: u32) -> bool
         requires { ⌜ (tl ≤ 64) × (nurse < 48) ⌝ }
         ensures { λ r. ⌜ ((m : ℕ) → nurse < m → r ≡ mayTake (view m tl self) nurse pattern) ⌝ }
     {
@@ -96,7 +96,7 @@ impl Record {
     }
 
     // The record after a step that gives the nurse the pattern.
-    pub fn exchanged(self, tl: usize, nurse: usize, pattern: u32) -> Record
+    pub(crate) fn exchanged(self, tl: usize, nurse: usize, pattern: u32) -> Record
         requires { ⌜ (tl ≤ 64) × (nurse < 48) × (self .steps < 1000000) ⌝ }
         ensures { λ r. ⌜ r ≡ exchangedIn tl self nurse pattern ⌝ }
     {
