@@ -2,6 +2,7 @@
  *
  * A ward is handed over as the bytes of a ward file. No call keeps anything between calls, allocates, or prints. Every call takes any
  * content: it either answers or refuses. The buffers of one call must not overlap. A pointer must not be null, also where its length is 0.
+ * A call takes less than 192 KiB of stack.
  *
  * Every call writes six words into answer:
  *

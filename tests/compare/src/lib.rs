@@ -13,6 +13,7 @@ pub mod records;
 pub mod rosters;
 pub mod rounds;
 pub mod session;
+pub mod stack;
 pub mod trial;
 pub mod wards;
 pub mod words;

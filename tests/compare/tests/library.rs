@@ -6,6 +6,7 @@ use compare::hostile;
 use compare::naive::Reference;
 use compare::rounds::*;
 use compare::session::{conclude, run, Least, Round};
+use compare::stack::SmallStack;
 use compare::trial::Trial;
 use compare::wards::*;
 
@@ -123,30 +124,43 @@ fn hostile_calls() {
     conclude("Hostile calls", &trial, &[]);
 }
 
-/// Every kind of call with all lent memory at the edge of a page: it must stay within it.
+/// Every kind of call, on wards of several sizes.
+const EVERY_CALL: [(Round, Size, u64); 12] = [
+    (reading, WIDE, 60),
+    (reading, FULL, 1),
+    (writing, WIDE, 60),
+    (writing, FULL, 1),
+    (by_nights, SMALL, 60),
+    (by_nights, WIDE, 60),
+    (by_nights, MONTH, 1),
+    (by_days, SMALL, 60),
+    (by_days, WIDE, 60),
+    (by_days, MONTH, 1),
+    (checking, WIDE, 60),
+    (checking, MONTH, 1),
+];
+
+/// Every kind of call against the reference.
+fn compare_calls(name: &str, planner: &dyn Calls) {
+    let mut trial = Trial::new(planner, &Reference);
+    for (round, size, times) in &EVERY_CALL {
+        run(&mut trial, name, *round, size, *times);
+    }
+    conclude(name, &trial, &[("check", &["yes", "no"], 50)]);
+}
+
+/// All lent memory at the edge of a page: a call must stay within it.
 #[test]
 fn memory_at_page_edges() {
-    let rounds: [(Round, Size, u64); 12] = [
-        (reading, WIDE, 60),
-        (reading, FULL, 1),
-        (writing, WIDE, 60),
-        (writing, FULL, 1),
-        (by_nights, SMALL, 60),
-        (by_nights, WIDE, 60),
-        (by_nights, MONTH, 1),
-        (by_days, SMALL, 60),
-        (by_days, WIDE, 60),
-        (by_days, MONTH, 1),
-        (checking, WIDE, 60),
-        (checking, MONTH, 1),
-    ];
     let planner = planner();
     for edge in [Edge::Begin, Edge::End] {
-        let at_edge = AtEdge { planner: &*planner, edge };
-        let mut trial = Trial::new(&at_edge, &Reference);
-        for (round, size, times) in &rounds {
-            run(&mut trial, "Page edges", *round, size, *times);
-        }
-        conclude("Memory at page edges", &trial, &[("check", &["yes", "no"], 50)]);
+        compare_calls("Memory at page edges", &AtEdge { planner: &*planner, edge });
     }
+}
+
+/// As much stack as the C header names.
+#[test]
+fn small_stack() {
+    let planner = planner();
+    compare_calls("Calls on a small stack", &SmallStack { planner: &*planner });
 }
