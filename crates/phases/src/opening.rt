@@ -1,5 +1,4 @@
 // Question 8: whether the day search opens on a choice of nights.
-use removals::Removal;
 use search::Record;
 ghost use mathlib.Core.Path.{_≡_};
 ghost use mathlib.Core.Option.{some};
@@ -32,16 +31,10 @@ fn night_penalty(w: &[u64], nights: &[u32; 48]) -> u64
     ensures { λ r. ⌜ r ≡ nightPenalty (now (w .entry)) (λ i. some (nightOf (now (nights .entry)) i)) ⌝ }
 {
     let patterns = *nights;
-    let rec = Record {
-        patterns,
-        placed: [true; 48],
-        removals: [Removal {
-            nurse: 0,
-            has: false,
-            pattern: 0,
-        }; 64],
-        steps: 0,
-    };
+    let placed = [true; 48];
+    let mut rec = Record::fresh();
+    rec.patterns = patterns;
+    rec.placed = placed;
     search::slots::penalty_of(w, rec, false)
 }
 

@@ -5,11 +5,14 @@ use borrow.Author.Needs.{needs}
 use Rattle.phases.proofs.opening.night_penalty.Statement.{statement}
 use Rattle.phases.proofs.opening.night_penalty.Tie as tie
 
+fresh-requires : tie.Need-fresh-requires
+fresh-requires c κs = search needs
+
 penalty-of-requires : tie.Need-penalty-of-requires
 penalty-of-requires c κs = search needs
 
 returns : tie.Need-returns
-returns c = c .penalty-of .ensures _ (everyone-placed (c .before .before .before .args .w .now) (c .before .before .before .args .nights .now) _ (c .before .before .before .pre) refl refl)
+returns c = c .penalty-of .ensures _ (everyone-placed (c .before .before .before .before .args .w .now) (c .before .before .before .before .args .nights .now) _ (c .before .before .before .before .pre) refl refl)
 
 pub night-penalty-spec : {M : Type 1} → statement M
-night-penalty-spec = tie.close (tie.spec penalty-of-requires returns)
+night-penalty-spec = tie.close (tie.spec fresh-requires penalty-of-requires returns)
