@@ -41,7 +41,8 @@ pub record Filled (m : Month) (row table : List ℕ) (k : ℕ) : Type 0 where
 
 -- ---- the walk
 
--- the days before d are undecided, a is the number that the others make, with r rests; for d 0 this is the rule (proofs/ReachLaws: `comes-to`)
+-- The days before d are undecided, a is the number that the others make, with r rests. With d 0, where the walk has come to a, this is the rule
+-- (proofs/ReachLaws: `comes-to`).
 unfoldable pub goesOn : Month → List ℕ → ℕ → ℕ → ℕ → Bool
 goesOn m row d a r = stepHolds m row d a && has (reach m row d (a / 2 ^ d % 64)) r
 

@@ -6,12 +6,12 @@ pub mod weights;
 use columns::Columns;
 use duty::Duty;
 ghost use mathlib.Core.Path.{_≡_};
+ghost use mathlib.Core.Bool.{true, false};
 ghost use Prim.Native.Nat.{ℕ, _<_, _≤_};
 ghost use Rattle.fields.specs.Fields.{Accepted, days};
 ghost use Rattle.history.specs.Slot.{Slot};
 ghost use Rattle.penalty.specs.Penalty.{Bounded, partsOf, total, unplacedIn, partsIn};
 ghost use Rattle.penalty.specs.Columns.{Shows};
-ghost use mathlib.Core.Bool.{true, false};
 ghost use Rattle.penalty.specs.Walk.{DayCounts};
 
 pub struct Penalty {

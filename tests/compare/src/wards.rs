@@ -239,6 +239,9 @@ fn draw(dice: &mut Dice, span: Span) -> u64 {
     dice.from(span.0, span.1)
 }
 
+/// Seven days that end in a run of four nights, longer than any of one month.
+const LONGEST_RUN: [u64; 7] = [2, 3, 2, 3, 2, 3, 2];
+
 /// Head and groups drawn, last month's duties too; no marks, no bounds, no needs.
 fn unbound(dice: &mut Dice, size: &Size) -> Draft {
     let (m, n, r) = (draw(dice, size.nurses), draw(dice, size.days), draw(dice, size.groups));
@@ -248,7 +251,11 @@ fn unbound(dice: &mut Dice, size: &Size) -> Draft {
     let heaviest = dice.pick(&[1, 5, 100]);
     head.extend((0..6).map(|_| dice.from(1, heaviest)));
     let nurse = |dice: &mut Dice| {
-        let before = if dice.one_in(3) { vec![0; 7] } else { random_before(dice) };
+        let before = match dice.upto(11) {
+            0..=3 => vec![0; 7],
+            4 => LONGEST_RUN.to_vec(),
+            _ => random_before(dice),
+        };
         [before, vec![0, 15, 0, 31], vec![0; n as usize]].concat()
     };
     let mut any_day = vec![0, 0];
