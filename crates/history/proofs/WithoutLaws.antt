@@ -8,9 +8,9 @@ use native.Mathlib.Nat.{eq-or-lt-of-le, not-suc-le-zero}
 use native.Mathlib.Omega.{arith}
 use lib.ListN.{length}
 use Rattle.numbers.specs.Range.{upFrom}
-use Rattle.history.specs.Phase.{Phase, Call, No, Answer, refused}
+use Rattle.history.specs.Phase.{Phase, Call, No, Answer, refused, refusal}
 use Rattle.history.specs.Record.{lacking}
-use Rattle.history.specs.Claim.{Without, OneOrOther, AllRefused}
+use Rattle.history.specs.Claim.{Without, OneOrOther, orTen, AllRefused, Refusing}
 
 module _ (P : Phase) (i : ℕ) (w : Without P i) where
   abbrev ten : No
@@ -60,3 +60,7 @@ pub all-refused : {R : Type 0} (start : R) (advance : Call → R → Answer × R
 all-refused start advance why one [] = refl
 all-refused {R} start advance why one (c ∷ cs) =
     rw (one c) (ap (λ (x : List Answer × R). (refused (why c) ∷ x .0, x .1)) (all-refused start advance why one cs))
+
+pub refusing : (P : Phase) {R : Type 0} (start : R) (advance : Call → R → Answer × R)
+    → ((i : ℕ) → Without P i → (c : Call) → advance c start ≡ (refused (orTen i (refusal P c 0)), start)) → Refusing P start advance
+refusing P start advance one i w cs = all-refused start advance (λ c. orTen i (refusal P c 0)) (one i w) cs

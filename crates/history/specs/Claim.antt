@@ -106,3 +106,7 @@ orTen i none = record { question = 10; place = suc i }
 -- every advance of a list is refused, with the no that its call has, and the record stays as it was at the start
 abbrev pub AllRefused : {R : Type 0} → R → (Call → R → Answer × R) → (Call → No) → List Call → Type 0
 AllRefused start advance why cs = inTurn advance cs start ≡ (map (λ c. refused (why c)) cs, start)
+
+-- a search whose fresh record is `start`: where nurse i is the lowest who has no pattern, every advance is refused, by questions 7 to 9 or else by 10
+abbrev pub Refusing : {R : Type 0} → Phase → R → (Call → R → Answer × R) → Type 0
+Refusing P start advance = (i : ℕ) → Without P i → (cs : List Call) → AllRefused start advance (λ c. orTen i (refusal P c 0)) cs

@@ -5,14 +5,14 @@ use mathlib.Core.List.{List}
 use lib.ListN.{getD, replicate}
 use Rattle.layout.specs.Grammar.{good, bad}
 use Rattle.ward.specs.Answers.{readWard}
-use Rattle.history.specs.Phase.{Phase, Call, No, Answer, refusal}
+use Rattle.history.specs.Phase.{Call, Answer}
 use Rattle.history.specs.Record.{Record}
-use Rattle.history.specs.Claim.{Demand3, Without, orTen, AllRefused}
+use Rattle.history.specs.Claim.{Demand3, Refusing}
 use Rattle.search.specs.Stored.{store}
 use Rattle.search.specs.declared.Record.{Record as Stored}
 use Rattle.phases.specs.Phases.{nightPhase, dayPhase, nightOf}
 use Rattle.planner.specs.Advances.{advanceNights, advanceDays}
-use Rattle.planner.specs.Demand.{NightPatterns, DayPatterns}
+use Rattle.planner.specs.Demand.{NightPatterns, DayPatterns, Unread}
 use Rattle.pantheryl.specs.Words.{recordOfWords, wordsOfRecord}
 use Rattle.pantheryl.specs.Answers.{wordsLeft}
 
@@ -24,23 +24,15 @@ byWords advance c words = let a = advance c (recordOfWords words) in (a .0, word
 abbrev pub keptWords : Record → List ℕ
 keptWords r = wordsOfRecord (store r)
 
--- where nurse i is the lowest who has no pattern, every advance is refused, and the words stay zeros
-abbrev pub WordsRefusing : Phase → (Call → Stored → Answer × Stored) → Type 0
-WordsRefusing P advance = (i : ℕ) → Without P i → (cs : List Call) → AllRefused (replicate 289 0) (byWords advance) (λ c. orTen i (refusal P c 0)) cs
-
 pub record WordDemand (file w : List ℕ) : Type 0 where
   pub nights : NightPatterns w → (cs : List Call) → Demand3 (nightPhase w) (replicate 289 0) (byWords (advanceNights file)) keptWords cs
-  pub no-nights : WordsRefusing (nightPhase w) (advanceNights file)
+  pub no-nights : Refusing (nightPhase w) (replicate 289 0) (byWords (advanceNights file))
   pub days : (nights : List ℕ) → DayPatterns w (nightOf nights) → (cs : List Call)
       → Demand3 (dayPhase w (nightOf nights)) (replicate 289 0) (byWords (advanceDays file nights)) keptWords cs
-  pub no-days : (nights : List ℕ) → WordsRefusing (dayPhase w (nightOf nights)) (advanceDays file nights)
-
--- a file that the reader refuses
-pub record WordsUnread (file : List ℕ) (n : No) : Type 0 where
-  pub nights : (cs : List Call) → AllRefused (replicate 289 0) (byWords (advanceNights file)) (λ c. n) cs
-  pub days : (nights : List ℕ) (cs : List Call) → AllRefused (replicate 289 0) (byWords (advanceDays file nights)) (λ c. n) cs
+  pub no-days : (nights : List ℕ) → Refusing (dayPhase w (nightOf nights)) (replicate 289 0) (byWords (advanceDays file nights))
 
 -- For every file of bytes, whether the reader accepts it or not; proofs/DemandLaws shows it.
 pub record WordsDemanded : Type 0 where
   pub accepted : (file w : List ℕ) → ((i : ℕ) → getD file i 0 < 256) → readWard file ≡ good w → WordDemand file w
-  pub unread : (file : List ℕ) (question place : ℕ) → readWard file ≡ bad question place → WordsUnread file (record { question = question; place = place })
+  pub unread : (file : List ℕ) (question place : ℕ) → readWard file ≡ bad question place
+      → Unread (replicate 289 0) (byWords (advanceNights file)) (λ nights. byWords (advanceDays file nights)) (record { question = question; place = place })

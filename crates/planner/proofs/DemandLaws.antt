@@ -24,23 +24,23 @@ use Rattle.penalty.specs.Held.{DayHeld}
 use Rattle.penalty.proofs.HeldLaws.{day-zero, day-held}
 use Rattle.history.specs.Phase.{Phase, Call, Answer, End, End·zero, End·asked, End·none, first, unless, refusal, refused, ended}
 use Rattle.history.specs.History.{History, inUse, penalty}
-use Rattle.history.specs.Claim.{Steps, Made, refuses, goes, Turns, done, turn, Demand3, orTen, AllRefused}
+use Rattle.history.specs.Claim.{Steps, Made, refuses, goes, Turns, done, turn, Demand3, Without, orTen}
 use Rattle.removals.specs.Removals.{patternOf}
 use Rattle.search.specs.Stored.{allZero, store, advanceStored}
 use Rattle.search.specs.declared.Record.{Record as Stored}
 use Rattle.history.proofs.TestLaws.{and-true}
 use Rattle.history.proofs.DemandLaws.{zero≢asked}
 use Rattle.history.proofs.TurnLaws.{steps-then, in-use-hers}
-use Rattle.history.proofs.WithoutLaws.{all-refused}
+use Rattle.history.proofs.WithoutLaws.{all-refused, refusing}
 use Rattle.search.proofs.AdvanceLaws.{stored-without, demand3-stored}
 use Rattle.phases.proofs.OutcomeLaws.{first-none, unless-none}
 use Rattle.letters.specs.Letters.{misplaced}
 use Rattle.rosters.specs.Check.{holds}
 use Rattle.rosters.proofs.GivenLaws.{duty-alike, members-alike, Patterns, placedAll, given-at-zero}
 use Rattle.phases.specs.Phases.{nightPhase, nightsOpen, listsFit, dayListOver, dayPhase, nightOf}
-use Rattle.planner.specs.Advances.{advanceOver, advanceDays}
+use Rattle.planner.specs.Advances.{advanceOver, advanceNights, advanceDays}
 use Rattle.planner.specs.Answers.{said, checkLetters, checkOver, checkSays}
-use Rattle.planner.specs.Demand.{NightPatterns, DayPatterns, Rightly, Each, NightDemand, DayDemand, Refusing, Demanded}
+use Rattle.planner.specs.Demand.{NightPatterns, DayPatterns, Rightly, Each, NightDemand, DayDemand, Demanded}
 use Rattle.phases.proofs.PhaseLaws.{night-fits, night-lawful, day-fits, day-lawful}
 
 -- ---- what is kept passes the test
@@ -159,10 +159,11 @@ module _ (file w : List ℕ) (reads : readWard file ≡ good w) (a : Accepted w)
         rosters = rw (d .follows) (each-right w (nightOf nights) a file reads (d .each) (d .steps));
       }
 
-  refusing : (phase : List ℕ → Phase) → Refusing (phase w) (advanceOver phase (readWard file))
-  refusing phase i h cs =
-      subst (λ (adv : Call → Stored → Answer × Stored). AllRefused allZero adv (λ c. orTen i (refusal (phase w) c 0)) cs) (sym (advance-read phase file w reads))
-      (all-refused allZero (advanceStored (phase w)) (λ c. orTen i (refusal (phase w) c 0)) (λ c. stored-without (phase w) c allZero i h) cs)
+-- one advance where a nurse has no pattern
+pub advance-without : (phase : List ℕ → Phase) (file w : List ℕ) → readWard file ≡ good w → (i : ℕ) → Without (phase w) i → (c : Call)
+    → advanceOver phase (readWard file) c allZero ≡ (refused (orTen i (refusal (phase w) c 0)), allZero)
+advance-without phase file w reads i h c =
+    ap (λ (adv : Call → Stored → Answer × Stored). adv c allZero) (advance-read phase file w reads) ∙ stored-without (phase w) c allZero i h
 
 -- a file that is not read
 pub advance-unread : (phase : List ℕ → Phase) (file : List ℕ) (q p : ℕ) (c : Call) (r : Stored) → readWard file ≡ bad q p
@@ -170,23 +171,21 @@ pub advance-unread : (phase : List ℕ → Phase) (file : List ℕ) (q p : ℕ) 
 unfolding advanceOver
 advance-unread phase file q p c r e = rw e
 
-unread : (phase : List ℕ → Phase) (file : List ℕ) (q p : ℕ) → readWard file ≡ bad q p → (cs : List Call)
-    → AllRefused allZero (advanceOver phase (readWard file)) (λ c. record { question = q; place = p }) cs
-unread phase file q p e cs =
-    all-refused allZero (advanceOver phase (readWard file)) (λ c. record { question = q; place = p }) (λ c. advance-unread phase file q p c allZero e) cs
-
 pub demand : Demanded
 demand = record {
   accepted = λ file w bytes e.
       let a = accepted-ward w w (ward-back file w (all-bytes file bytes) e .1) in
       record {
         nights = night-demand file w e a;
-        no-nights = refusing file w e a nightPhase;
+        no-nights = refusing (nightPhase w) allZero (advanceNights file) (advance-without nightPhase file w e);
         days = day-demand file w e a;
-        no-days = λ nights. refusing file w e a (λ v. dayPhase v (nightOf nights));
+        no-days = λ nights.
+            refusing (dayPhase w (nightOf nights)) allZero (advanceDays file nights) (advance-without (λ v. dayPhase v (nightOf nights)) file w e);
       };
   unread = λ file q p e. record {
-    nights = λ cs. unread nightPhase file q p e cs;
-    days = λ nights cs. unread (λ v. dayPhase v (nightOf nights)) file q p e cs;
+    nights = λ cs. all-refused allZero (advanceNights file) (λ c. record { question = q; place = p }) (λ c. advance-unread nightPhase file q p c allZero e) cs;
+    days = λ nights cs.
+        all-refused allZero (advanceDays file nights) (λ c. record { question = q; place = p })
+        (λ c. advance-unread (λ v. dayPhase v (nightOf nights)) file q p c allZero e) cs;
   };
 }

@@ -10,10 +10,9 @@ use Rattle.fields.specs.Fields.{nurses}
 use Rattle.layout.specs.Grammar.{good, bad}
 use Rattle.ward.specs.Answers.{readWard}
 use Rattle.nights.specs.Hers.{nightList}
-use Rattle.history.specs.Phase.{Phase, Call, No, Answer, refused, ended, End·zero, End·asked, End·none, refusal, inTurn}
-use Rattle.history.specs.Claim.{Demand3, Without, orTen, AllRefused}
+use Rattle.history.specs.Phase.{Call, No, Answer, refused, ended, End·zero, End·asked, End·none, inTurn}
+use Rattle.history.specs.Claim.{Demand3, AllRefused, Refusing}
 use Rattle.search.specs.Stored.{allZero, store}
-use Rattle.search.specs.declared.Record.{Record as Stored}
 use Rattle.phases.specs.Phases.{nightPhase, dayPhase, dayListOver, nightOf}
 use Rattle.planner.specs.Advances.{advanceNights, advanceDays}
 use Rattle.planner.specs.Answers.{said, checkSays}
@@ -47,23 +46,20 @@ pub record DayDemand (file w nights : List ℕ) (cs : List Call) : Type 0 where
   pub claim : Demand3 (dayPhase w (nightOf nights)) allZero (advanceDays file nights) store cs
   pub rosters : Each (Rightly file) (inTurn (advanceDays file nights) cs allZero .0)
 
--- where nurse i is the lowest who has no pattern, every advance is refused, by questions 7 to 9 or else by 10, and the record stays fresh
-abbrev pub Refusing : Phase → (Call → Stored → Answer × Stored) → Type 0
-Refusing P advance = (i : ℕ) → Without P i → (cs : List Call) → AllRefused allZero advance (λ c. orTen i (refusal P c 0)) cs
-
 -- both searches: where every nurse has a pattern, and where some nurse has none
 pub record Demand (file w : List ℕ) : Type 0 where
   pub nights : NightPatterns w → (cs : List Call) → NightDemand file w cs
-  pub no-nights : Refusing (nightPhase w) (advanceNights file)
+  pub no-nights : Refusing (nightPhase w) allZero (advanceNights file)
   pub days : (nights : List ℕ) → DayPatterns w (nightOf nights) → (cs : List Call) → DayDemand file w nights cs
-  pub no-days : (nights : List ℕ) → Refusing (dayPhase w (nightOf nights)) (advanceDays file nights)
+  pub no-days : (nights : List ℕ) → Refusing (dayPhase w (nightOf nights)) allZero (advanceDays file nights)
 
 -- a file that the reader refuses: so is every advance over it, with the same question and place
-pub record Unread (file : List ℕ) (n : No) : Type 0 where
-  pub nights : (cs : List Call) → AllRefused allZero (advanceNights file) (λ c. n) cs
-  pub days : (nights : List ℕ) (cs : List Call) → AllRefused allZero (advanceDays file nights) (λ c. n) cs
+pub record Unread {R : Type 0} (start : R) (by-night : Call → R → Answer × R) (by-day : List ℕ → Call → R → Answer × R) (n : No) : Type 0 where
+  pub nights : (cs : List Call) → AllRefused start by-night (λ c. n) cs
+  pub days : (nights : List ℕ) (cs : List Call) → AllRefused start (by-day nights) (λ c. n) cs
 
 -- For every file of bytes, whether the reader accepts it or not; proofs/DemandLaws shows it.
 pub record Demanded : Type 0 where
   pub accepted : (file w : List ℕ) → ((i : ℕ) → getD file i 0 < 256) → readWard file ≡ good w → Demand file w
-  pub unread : (file : List ℕ) (question place : ℕ) → readWard file ≡ bad question place → Unread file (record { question = question; place = place })
+  pub unread : (file : List ℕ) (question place : ℕ) → readWard file ≡ bad question place
+      → Unread allZero (advanceNights file) (advanceDays file) (record { question = question; place = place })
