@@ -17,7 +17,7 @@ use Rattle.numbers.proofs.RangeLaws.{range-add}
 use Rattle.history.specs.Phase.{Step, Phase, offersTo, offers, exchanges, least}
 use Rattle.history.specs.Record.{Record, mayTake, costAfter, best}
 use Rattle.history.specs.Claim.{NotAfter}
-use Rattle.best.specs.Best.{improves, considered, overList, overNurses, bestOver, found}
+use Rattle.best.specs.CodeBest.{improves, considered, overList, overNurses, bestOver, found}
 use Rattle.best.specs.declared.Best.{Best}
 use Rattle.best.specs.declared.Best.the-variants.{Nothing, Exchange}
 use Rattle.history.proofs.ChooseLaws.{First, least-none, least-first, step-path, offersTo-only, offers-only, range-only}

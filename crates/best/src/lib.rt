@@ -1,6 +1,6 @@
 // The exchange that a step takes: the first of least penalty, where nurses and their patterns come in order.
 ghost use mathlib.Core.Path.{_≡_};
-ghost use Rattle.best.specs.Best.{improves};
+ghost use Rattle.best.specs.CodeBest.{improves};
 
 // The best exchange so far, with the penalty that it results in.
 pub enum Best {

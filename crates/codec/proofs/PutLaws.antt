@@ -6,7 +6,8 @@ use native.Mathlib.Numerals.{add-one}
 use native.Mathlib.Omega.{arith}
 use lib.ListN.{length, take, drop, set, length-set, take-append-drop}
 use lib.Seq.{take-suc-set, drop-set-lt}
-use Rattle.codec.specs.Codec.{encode, pasted}
+use Rattle.codec.specs.Codec.{encode}
+use Rattle.codec.specs.CodeBytes.{pasted}
 use Rattle.codec.proofs.EncodeLaws.{encode-last, encode-more}
 
 pub one-byte : (w : ℕ) → w < 128 → length (encode w) ≡ 1

@@ -1,9 +1,8 @@
 -- A whole number in groups of seven bits, the lowest first, one group a byte, the top bit set when another group follows:
 -- at most seven groups, the shortest form only.
-use Prim.Native.Nat.{ℕ, zero, suc, _+_, _-_, _*_, _/_, _%_, _^_, _≤_, _<_}
-use mathlib.Core.List.{List, [], _∷_, _++_}
+use Prim.Native.Nat.{ℕ, zero, suc, _+_, _-_, _*_, _/_, _%_}
+use mathlib.Core.List.{List, [], _∷_}
 use mathlib.Core.Bool.{cond}
-use lib.ListN.{length, take, drop}
 use lib.Dec.{ltb}
 use Rattle.codec.specs.declared.Number.{Number}
 use Rattle.codec.specs.declared.Number.the-variants.{Value, Ended, Long}
@@ -37,13 +36,3 @@ decodeGroups (suc more) least (b ∷ bs) = cond (ltb b 128) (final least b) (und
 unfoldable pub decode : List ℕ → Number
 unfolding decodeGroups
 decode bs = decodeGroups 6 0 bs
-
--- the list with xs in it from the place `at` on
-abbrev pub pasted : List ℕ → ℕ → List ℕ → List ℕ
-pasted b at xs = take at b ++ (xs ++ drop (at + length xs) b)
-
--- a value of at most `more` groups after the first
-abbrev pub Below : ℕ → Number → Type 0
-Below more (Value v used) = (v < 128 ^ (more + 1)) × (used ≤ more + 1)
-Below more Ended = Unit
-Below more Long = Unit

@@ -12,26 +12,27 @@ use borrow.Author.Tests.{leb-true, lt-ltb, le-ltb, eq-eqb, ne-eqb, eqb-true}
 use Rattle.numbers.specs.Range.{upFrom}
 use Rattle.numbers.proofs.RangeLaws.{and-parts}
 use Rattle.fields.specs.Fields.{Accepted, nurses}
-use Rattle.daylists.specs.Lists.{upTo, firstOver, Counted}
+use Rattle.daylists.specs.Lists.{upTo, firstOver}
+use Rattle.daylists.specs.CodeLists.{Counted}
 use Rattle.daylists.proofs.ListsLaws.{up-length, up-mono, stretch-is}
 use Rattle.history.specs.Slot.{Slot}
 use Rattle.history.specs.Phase.{Phase, No, Answer, unless, first, refusal}
 use Rattle.history.specs.Record.{Record, lacking, replyOf, proceed}
 use Rattle.removals.specs.Removals.{slot, patternOf, flagOf}
 use Rattle.search.specs.Stored.{slotAt, view, viewOf, store, refusalStored, replyStored, soundStored}
-use Rattle.search.specs.Seek.{answerOf, answerWith, Lists, Seeks}
+use Rattle.search.specs.CodeSeek.{answerOf, answerWith, Lists, Seeks}
 use Rattle.search.specs.declared.Record.{Record as Stored}
 use Rattle.search.specs.declared.Advanced.{Advanced}
 use Rattle.search.specs.declared.Ending.{Ending}
 use Rattle.search.specs.declared.Ending.the-variants.{Zero, Asked, Stuck}
 use Rattle.search.proofs.StoredLaws.{getD-below}
 use Rattle.letters.specs.Letters.{letters, rowLetters}
-use Rattle.letters.specs.Written.{Written}
+use Rattle.letters.specs.CodeRoster.{Written}
 use Rattle.letters.specs.declared.written.Roster.{Roster}
 use Rattle.letters.proofs.RowLaws.{letters-length}
 use Rattle.phases.specs.declared.outcomes.Outcome.the-variants as outcome
 use Rattle.phases.specs.Phases.{nightsOpen, listsFit, dayListOver, dayPhase, nightOf}
-use Rattle.phases.specs.Asked.{phaseOf, lackedAt, beforeLists, afterLists, EndsOf, UnplacedZero}
+use Rattle.phases.specs.CodeQuestions.{phaseOf, lackedAt, beforeLists, afterLists, EndsOf, UnplacedZero}
 use Rattle.phases.specs.Outcomes.{rosterOf, dayAdvanceOf, callOf}
 use Rattle.phases.proofs.OutcomeLaws.{first-none, unless-none, list-front}
 use Rattle.phases.proofs.PhaseLaws.{day-ascending}

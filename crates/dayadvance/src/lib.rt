@@ -17,14 +17,16 @@ ghost use Prim.Native.Nat.{ℕ, _≤_};
 ghost use lib.ListN.{length};
 ghost use Rattle.numbers.specs.Range.{upFrom};
 ghost use Rattle.fields.specs.Fields.{Accepted, nurses};
-ghost use Rattle.daylists.specs.Lists.{upTo, dayLists, Counted};
+ghost use Rattle.daylists.specs.Lists.{upTo, dayLists};
+ghost use Rattle.daylists.specs.CodeLists.{Counted};
 ghost use Rattle.history.specs.Phase.{refused};
 ghost use Rattle.history.specs.Record.{lacking};
 ghost use Rattle.search.specs.Stored.{advanceStored};
-ghost use Rattle.search.specs.Seek.{answerOf};
+ghost use Rattle.search.specs.CodeSeek.{answerOf};
 ghost use Rattle.phases.specs.Phases.{dayPhase, nightOf};
-ghost use Rattle.phases.specs.Asked.{lackedAt, beforeLists, afterLists, EndsOf, UnplacedZero};
-ghost use Rattle.phases.specs.Outcomes.{dayAdvanceOf, rosterOf, leftBy, callOf, noOf};
+ghost use Rattle.phases.specs.CodeQuestions.{lackedAt, beforeLists, afterLists, EndsOf, UnplacedZero};
+ghost use Rattle.phases.specs.Outcomes.{dayAdvanceOf, rosterOf, leftBy, callOf};
+ghost use Rattle.phases.specs.CodeQuestions.{noOf};
 
 fn no_roster() -> Roster
     ensures { λ r. ⌜ r ≡ rosterOf [] ⌝ }

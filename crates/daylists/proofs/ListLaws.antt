@@ -12,8 +12,8 @@ use Rattle.numbers.specs.Range.{upFrom, keep}
 use Rattle.numbers.specs.Digits.{has}
 use Rattle.numbers.proofs.RangeLaws.{range-add, keep-append, and-parts}
 use Rattle.numbers.proofs.AgreeLaws.{keep-none, high-agree}
-use Rattle.days.specs.Month.{dutyAt, ruleOf, restOn}
-use Rattle.daylists.specs.Walk.{stepHolds, reach, goesOn, listed}
+use Rattle.days.specs.CodeMonth.{dutyAt, ruleOf, restOn}
+use Rattle.daylists.specs.CodeWalk.{stepHolds, reach, goesOn, listed}
 use Rattle.days.specs.declared.month.Month.{Month}
 use Rattle.days.proofs.RuleLaws.{restsFrom, rest-day, rests-done}
 use Rattle.daylists.proofs.LocalLaws.{step-same, rests-high}

@@ -9,7 +9,8 @@ use native.Mathlib.Decide.{decLt}
 use borrow.Author.Tests.{le-leb, lt-leb}
 use lib.ListN.{length, getD, set, take, drop, length-append, length-set}
 use lib.Seq.{getD-set-same, getD-set-other, drop-append-seam, take-append-seam}
-use Rattle.daylists.specs.Lists.{upTo, firstOver, Counted}
+use Rattle.daylists.specs.Lists.{upTo, firstOver}
+use Rattle.daylists.specs.CodeLists.{Counted}
 
 pub up-none : (f : ℕ → List ℕ) → upTo f 0 ≡ []
 unfolding upTo

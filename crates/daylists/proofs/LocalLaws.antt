@@ -10,8 +10,8 @@ use Rattle.numbers.specs.Sum.{oneIf}
 use Rattle.numbers.specs.Digits.{has}
 use Rattle.numbers.proofs.AgreeLaws.{keep-agree, high-agree}
 use Rattle.days.specs.Days.{isRest}
-use Rattle.days.specs.Month.{dutyAt, restOn}
-use Rattle.daylists.specs.Walk.{stepHolds, branch}
+use Rattle.days.specs.CodeMonth.{dutyAt, restOn}
+use Rattle.daylists.specs.CodeWalk.{stepHolds, branch}
 use Rattle.days.specs.declared.month.Month.{Month}
 use Rattle.days.proofs.RuleLaws.{restsFrom}
 use Rattle.days.proofs.WindowLaws.{windows-same, duty-same}

@@ -18,8 +18,8 @@ use Rattle.numbers.proofs.DigitLaws.{bit-above, bit-lt, bit-of-zero}
 use Rattle.numbers.proofs.AgreeLaws.{all-in, all-made, keep-le, low-agree, field-agree, has-moved-down, or-left, or-right}
 use Rattle.rows.specs.Rows.{started}
 use Rattle.days.specs.Days.{isRest, windowsHold, rests}
-use Rattle.days.specs.Month.{Small, inBounds, dutyAt, choiceOf, ruleOf, restOn}
-use Rattle.daylists.specs.Walk.{stepHolds, branch, reach, goesOn}
+use Rattle.days.specs.CodeMonth.{Small, inBounds, dutyAt, choiceOf, ruleOf, restOn}
+use Rattle.daylists.specs.CodeWalk.{stepHolds, branch, reach, goesOn}
 use Rattle.days.specs.declared.month.Month.{Month}
 use Rattle.days.proofs.RuleLaws.{restsFrom, rests-start, rest-day}
 use Rattle.days.proofs.WindowLaws.{windows-same, duty-same}

@@ -11,10 +11,10 @@ use Rattle.numbers.proofs.DigitLaws.{number-lt, number-has}
 use Rattle.fields.specs.Fields.{Accepted, days, longestDays, block, leastRestsOf, mostRestsOf}
 use Rattle.rows.specs.Rows.{fixedDay}
 use Rattle.days.specs.Days.{dayRuleOf, dayList}
-use Rattle.days.specs.Month.{IsSheet, Small, inBounds, ruleOf}
+use Rattle.days.specs.CodeMonth.{IsSheet, Small, inBounds, ruleOf}
 use Rattle.days.specs.declared.month.Month.{Month}
 use Rattle.days.proofs.SheetLaws.{rule-is, sheet-small}
-use Rattle.daylists.specs.Walk.{listed, listedAt, Inside}
+use Rattle.daylists.specs.CodeWalk.{listed, listedAt, Inside}
 use Rattle.daylists.specs.declared.walk.Point.{Point}
 use Rattle.daylists.proofs.ReachLaws.{Bounded}
 use Rattle.daylists.proofs.ListLaws.{walk-lists}

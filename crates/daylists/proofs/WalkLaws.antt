@@ -12,8 +12,8 @@ use lib.ListN.{length, getD, set, length-append}
 use Rattle.numbers.specs.Range.{upFrom, all}
 use Rattle.numbers.specs.Digits.{has}
 use Rattle.days.specs.Days.{windowsHold}
-use Rattle.days.specs.Month.{dutyAt, restOn}
-use Rattle.daylists.specs.Walk.{Filled, stepHolds, branch, reach, goesOn, listed, listedAt, Next, Inside}
+use Rattle.days.specs.CodeMonth.{dutyAt, restOn}
+use Rattle.daylists.specs.CodeWalk.{Filled, stepHolds, branch, reach, goesOn, listed, listedAt, Next, Inside}
 use Rattle.days.specs.declared.month.Month.{Month}
 use Rattle.daylists.specs.declared.walk.Point.{Point}
 use Rattle.days.proofs.MonthLaws.{place-turn}

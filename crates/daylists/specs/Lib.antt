@@ -1,2 +1,3 @@
-pub mod Walk
+pub mod CodeWalk
 pub mod Lists
+pub mod CodeLists

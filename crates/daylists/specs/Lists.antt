@@ -1,8 +1,7 @@
 -- All nurses' day lists one after the other, each in the part that begins where the last one ends.
-use mathlib.Core.Path.{_≡_}
 use mathlib.Core.Bool.{cond}
 use mathlib.Core.List.{List, [], _++_}
-use Prim.Native.Nat.{ℕ, zero, suc, _+_, _≤_, _<_}
+use Prim.Native.Nat.{ℕ, zero, suc}
 use lib.Dec.{leb}
 use lib.ListN.{length, getD}
 use Rattle.days.specs.Days.{dayList}
@@ -20,11 +19,3 @@ firstOver f places i (suc k) = cond (leb (length (upTo f (suc i))) places) (firs
 -- nurse i's day list over her night pattern
 abbrev pub dayLists : List ℕ → List ℕ → ℕ → List ℕ
 dayLists w nights i = dayList w i (getD nights i 0)
-
--- m lists against so many places: the first that does not end within them, m where all do, and where each one before it begins and ends
-pub record Counted (f : ℕ → List ℕ) (m places over : ℕ) (ends : List ℕ) : Type 0 where
-  pub over-is : over ≡ firstOver f places 0 m
-  pub over-most : over ≤ m
-  pub ends-are : (k : ℕ) → k ≤ over → getD ends k 0 ≡ length (upTo f k)
-  pub too-long : over < m → places < length (upTo f m)
-  pub all-fit : m ≤ over → length (upTo f m) ≤ places

@@ -4,7 +4,8 @@ ghost use mathlib.Core.List.{_++_};
 ghost use Prim.Native.Nat.{_≤_, _<_};
 ghost use lib.ListN.{length, drop};
 ghost use Rattle.fields.specs.Fields.{Accepted, nurses};
-ghost use Rattle.daylists.specs.Lists.{upTo, dayLists, Counted};
+ghost use Rattle.daylists.specs.Lists.{upTo, dayLists};
+ghost use Rattle.daylists.specs.CodeLists.{Counted};
 
 // The first nurse, from 0, whose list does not end within the places, or the number of nurses; and where the lists before hers
 // begin and end: nurse i's is from ends[i] to ends[i + 1].

@@ -4,8 +4,8 @@ use days::month::Month;
 use days::rule;
 ghost use mathlib.Core.Path.{_≡_};
 ghost use Prim.Native.Nat.{_+_, _*_, _/_, _%_, _^_, _≤_, _<_, min};
-ghost use Rattle.days.specs.Month.{Small};
-ghost use Rattle.daylists.specs.Walk.{stepHolds, branch, reach, Filled};
+ghost use Rattle.days.specs.CodeMonth.{Small};
+ghost use Rattle.daylists.specs.CodeWalk.{stepHolds, branch, reach, Filled};
 
 // Day d is as the choice of q asks, and the windows hold that end six days after it, if that is in the month.
 pub(crate) fn step_holds(m: Month, row: &[u64; 38], d: usize, q: u64) -> bool

@@ -6,8 +6,8 @@ ghost use mathlib.Core.Path.{_≡_};
 ghost use mathlib.Core.List.{_++_};
 ghost use Prim.Native.Nat.{_+_, _*_, _≤_, _<_, min};
 ghost use lib.ListN.{length, drop};
-ghost use Rattle.days.specs.Month.{Small};
-ghost use Rattle.daylists.specs.Walk.{Filled, goesOn, listedAt, Next, Inside};
+ghost use Rattle.days.specs.CodeMonth.{Small};
+ghost use Rattle.daylists.specs.CodeWalk.{Filled, goesOn, listedAt, Next, Inside};
 
 // Where the walk stands: the days before `left` are undecided, the others make the number `from`, with so many rests.
 pub(crate) struct Point {

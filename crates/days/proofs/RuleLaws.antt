@@ -16,7 +16,7 @@ use Rattle.numbers.specs.Digits.{has}
 use Rattle.rows.specs.Rows.{started}
 use Rattle.numbers.proofs.RangeLaws.{range-turn, range-done}
 use Rattle.days.specs.Days.{inRun, isRest, anyOf, same, window, freeOf, windowsHold, rests}
-use Rattle.days.specs.Month.{dutyAt, choiceOf, inBounds, restOn, ruleOf}
+use Rattle.days.specs.CodeMonth.{dutyAt, choiceOf, inBounds, restOn, ruleOf}
 use Rattle.days.specs.declared.month.Month.{Month}
 
 -- ---- the duty at a place

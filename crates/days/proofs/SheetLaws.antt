@@ -16,7 +16,7 @@ use Rattle.numbers.proofs.AgreeLaws.{all-agree, keep-agree, all-in}
 use Rattle.fields.specs.Fields.{Accepted, days, nurses, block, blockAt, duty, leastRestsOf, mostRestsOf, markOn}
 use Rattle.rows.specs.Rows.{started, rowState, available, availableOn, fixedDay, dutyOf, dutyOn}
 use Rattle.days.specs.Days.{choice, rowDuty, isRest, windowsHold, rests, dayRule, dayRuleOf, dayList}
-use Rattle.days.specs.Month.{IsSheet, Small, inBounds, dutyAt, choiceOf, ruleOf}
+use Rattle.days.specs.CodeMonth.{IsSheet, Small, inBounds, dutyAt, choiceOf, ruleOf}
 use Rattle.days.specs.declared.month.Month.{Month}
 use Rattle.days.proofs.WindowLaws.{windows-same}
 

@@ -11,7 +11,7 @@ use lib.ListN.{getD}
 use Rattle.numbers.specs.Digits.{has}
 use Rattle.numbers.proofs.AgreeLaws.{map-agree}
 use Rattle.days.specs.Days.{window, freeOf, windowsHold}
-use Rattle.days.specs.Month.{dutyAt}
+use Rattle.days.specs.CodeMonth.{dutyAt}
 
 -- ---- windows
 

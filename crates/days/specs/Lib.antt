@@ -1,3 +1,3 @@
 pub mod Days
 pub mod Shown
-pub mod Month
+pub mod CodeMonth

@@ -7,7 +7,7 @@ ghost use mathlib.Core.Path.{_≡_};
 ghost use Prim.Native.Nat.{_<_};
 ghost use Rattle.fields.specs.Fields.{Accepted, nurses, days, longestDays, block};
 ghost use Rattle.days.specs.Days.{dayRuleOf};
-ghost use Rattle.days.specs.Month.{IsSheet};
+ghost use Rattle.days.specs.CodeMonth.{IsSheet};
 
 // Nurse i's month under the night pattern p.
 pub fn nurse_sheet(w: &[u64], i: usize, p: u32) -> Sheet

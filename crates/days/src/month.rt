@@ -6,7 +6,7 @@ ghost use Prim.Native.Nat.{ℕ, _+_, _^_, _≤_, _<_};
 ghost use Rattle.numbers.specs.Digits.{numberOf};
 ghost use lib.ListN.{length, getD};
 ghost use Rattle.fields.specs.Fields.{Block, duty};
-ghost use Rattle.days.specs.Month.{IsSheet, inBounds};
+ghost use Rattle.days.specs.CodeMonth.{IsSheet, inBounds};
 
 // The days of the month, D, the bounds of her rests, the days that she is available on, those marked 2, and the counts of
 // rests within her bounds: the last three are sets.

@@ -8,7 +8,7 @@ ghost use Prim.Native.Nat.{suc, _≤_, _<_};
 ghost use Rattle.numbers.specs.Range.{upFrom, all};
 ghost use Rattle.numbers.specs.Digits.{has};
 ghost use Rattle.days.specs.Days.{inRun, isRest, anyOf, same, window, windowsHold, rests};
-ghost use Rattle.days.specs.Month.{Small, dutyAt, choiceOf, restOn, ruleOf};
+ghost use Rattle.days.specs.CodeMonth.{Small, dutyAt, choiceOf, restOn, ruleOf};
 
 // The sequence of duties that no row has: rest, day, rest, day, rest.
 const FORBIDDEN: [u64; 5] = [0, 1, 0, 1, 0];

@@ -6,7 +6,8 @@ use Prim.Native.Nat.{ℕ, _≤_, _<_}
 use lib.Dec.{leb, eqb}
 use Rattle.fields.specs.Fields.{Accepted, Block, nurses, days, block}
 use Rattle.fields.specs.declared.rules.Rules.{Rules}
-use Rattle.fields.specs.Rules.{rulesOf, gap, Small}
+use Rattle.fields.specs.Rules.{rulesOf, gap}
+use Rattle.fields.specs.CodeRules.{Small}
 
 -- its rules are small enough to count with
 pub small-rules : (w : List ℕ) → Accepted w → Small (rulesOf w)

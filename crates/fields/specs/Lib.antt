@@ -1,3 +1,4 @@
 pub mod Fields
 pub mod Rules
 pub mod Worked
+pub mod CodeRules

@@ -1,7 +1,7 @@
 -- The ward's rules of night duty.
 use mathlib.Core.Bool.{cond}
 use mathlib.Core.List.{List}
-use Prim.Native.Nat.{ℕ, _≤_}
+use Prim.Native.Nat.{ℕ}
 use lib.Dec.{leb, eqb}
 use Rattle.fields.specs.Fields.{mostNights, longestRun, gap1, gap2, gap3}
 use Rattle.fields.specs.declared.rules.Rules.{Rules}
@@ -13,10 +13,3 @@ rulesOf w = record { most = mostNights w; longest = longestRun w; g1 = gap1 w; g
 -- the gap after a run of so many starts; g3 beyond three
 abbrev pub gap : Rules → ℕ → ℕ
 gap r run = cond (leb run 1) (r .g1) (cond (eqb run 2) (r .g2) (r .g3))
-
--- a run has a start, and the gaps are small enough to count with
-pub record Small (r : Rules) : Type 0 where
-  pub longest : 1 ≤ r .longest
-  pub g1 : r .g1 ≤ 5
-  pub g2 : r .g2 ≤ 5
-  pub g3 : r .g3 ≤ 5

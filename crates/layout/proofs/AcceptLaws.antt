@@ -4,7 +4,8 @@ use mathlib.Core.Path.{_≡_, refl, ap, _∙_}
 use mathlib.Core.List.{List, [], _∷_}
 use native.Mathlib.Omega.{arith}
 use lib.ListN.{length, getD}
-use Rattle.layout.specs.Grammar.{Grammar, done, number, asked, Read, good, bad, prepend, unless, check, Within}
+use Rattle.layout.specs.Grammar.{Grammar, done, number, asked, Read, good, bad, prepend, unless, check}
+use Rattle.layout.specs.CodeWant.{Within}
 use Rattle.layout.proofs.GrammarLaws.{in-range}
 
 -- every number fits seven groups

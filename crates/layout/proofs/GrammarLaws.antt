@@ -12,7 +12,8 @@ use Rattle.codec.specs.declared.Number.{Number}
 use Rattle.codec.specs.declared.Number.the-variants.{Value, Ended, Long}
 use Rattle.layout.specs.declared.Want.the-variants.{Next, Nothing}
 use Rattle.codec.specs.Codec.{decode, decodeGroups, final, under}
-use Rattle.layout.specs.Grammar.{Grammar, done, number, wanted, after, asked, fits, Read, good, bad, prepend, unless, heard, read, check, Within, Small}
+use Rattle.layout.specs.Grammar.{Grammar, done, number, asked, fits, Read, good, bad, prepend, unless, heard, read, check}
+use Rattle.layout.specs.CodeWant.{wanted, after, Within, Small}
 
 -- a number that is asked nothing more is in its range
 pub in-range : (f : Field) (v : ℕ) → asked f v ≡ 0 → (f .least ≤ v) × (v ≤ f .most)

@@ -4,9 +4,10 @@ use mathlib.Core.Path.{_≡_, sym, ap}
 use native.Mathlib.Omega.{arith}
 use lib.ListN.{getD, List·getD-eq-default}
 use Rattle.layout.specs.declared.Cursor.{Cursor}
-use Rattle.layout.specs.Grammar.{Grammar, done, number, wanted, after}
+use Rattle.layout.specs.Grammar.{Grammar, done, number}
+use Rattle.layout.specs.CodeWant.{wanted, after}
 use Rattle.layout.specs.Layout
-use Rattle.layout.specs.Place.{places, tree}
+use Rattle.layout.specs.CodePlace.{places, tree}
 
 pub tree-at : (c : Cursor) {k : ℕ} → c .place ≡ k → getD (places c) k done ≡ tree c
 unfolding tree

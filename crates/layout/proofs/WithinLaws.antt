@@ -6,7 +6,8 @@ use lib.Dec.{lit<}
 use lib.Pow.{pow-mono}
 use Rattle.layout.specs.declared.Field.{Field}
 use Rattle.layout.specs.declared.Head.{Head}
-use Rattle.layout.specs.Grammar.{Grammar, done, number, Within}
+use Rattle.layout.specs.Grammar.{Grammar, done, number}
+use Rattle.layout.specs.CodeWant.{Within}
 use Rattle.layout.specs.Layout.{range, dutyAfter, one, pair, repeat, duties, bounds, day, days, group, groups, mark, nurse, nurses, weights, limits, gaps, rules, sizes, ward}
 
 within-more : (g : Grammar) (n N : ℕ) → n ≤ N → Within n g → Within N g

@@ -1,6 +1,6 @@
 -- A layout is a grammar: the fields in order, where what follows a number may depend on the number. Reading and writing are two
 -- folds over it. Each asks every question of one number before the next.
-use Prim.Native.Nat.{ℕ, zero, suc, _+_, _^_, _≤_, _<_}
+use Prim.Native.Nat.{ℕ, zero, suc, _+_}
 use mathlib.Core.Bool.{Bool, true, not, cond}
 use mathlib.Core.List.{List, [], _∷_, _++_}
 use lib.ListN.{drop}
@@ -10,22 +10,11 @@ use Rattle.codec.specs.declared.Number.the-variants.{Value, Ended, Long}
 use Rattle.layout.specs.declared.Rule.{Rule}
 use Rattle.layout.specs.declared.Rule.the-variants.{Any, After}
 use Rattle.layout.specs.declared.Field.{Field}
-use Rattle.layout.specs.declared.Want.{Want}
-use Rattle.layout.specs.declared.Want.the-variants.{Next, Nothing}
 use Rattle.codec.specs.Codec.{decode, encode}
 
 pub data Grammar : Type 0 where
   done : Grammar
   number : Field → (ℕ → Grammar) → Grammar
-
--- the field that the next number has, and what is left after the number v
-abbrev pub wanted : Grammar → Want
-wanted done = Nothing
-wanted (number f k) = Next f
-
-abbrev pub after : Grammar → ℕ → Grammar
-after done v = done
-after (number f k) v = k v
 
 -- a duty is 3 exactly after a 2
 abbrev pub fits : Rule → ℕ → Bool
@@ -71,14 +60,3 @@ check (number f k) i (w ∷ ws) = unless (asked f w) i (prepend (w ∷ []) (chec
 unfoldable pub bytesOf : List ℕ → List ℕ
 bytesOf [] = []
 bytesOf (w ∷ ws) = encode w ++ bytesOf ws
-
--- at most n numbers, each below 2 ^ 49, which seven groups hold
-abbrev pub Within : ℕ → Grammar → Type 0
-Within n done = Unit
-Within zero (number f k) = ⊥
-Within (suc n) (number f k) = (f .most < 2 ^ 49) × ((v : ℕ) → f .least ≤ v → v ≤ f .most → Within n (k v))
-
--- a field's numbers fit seven groups
-abbrev pub Small : Want → Type 0
-Small (Next f) = f .most < 2 ^ 49
-Small Nothing = Unit

@@ -1,3 +1,4 @@
 pub mod Grammar
 pub mod Layout
-pub mod Place
+pub mod CodePlace
+pub mod CodeWant

@@ -1,9 +1,10 @@
 // The layout as a walk: the field that is wanted at a place, and the place after a number.
 ghost use mathlib.Core.Path.{_≡_};
 ghost use Prim.Native.Nat.{_-_, _^_, _<_};
-ghost use Rattle.layout.specs.Grammar.{asked, wanted, after, Small};
+ghost use Rattle.layout.specs.Grammar.{asked};
+ghost use Rattle.layout.specs.CodeWant.{wanted, after, Small};
 ghost use Rattle.layout.specs.Layout;
-ghost use Rattle.layout.specs.Place.{tree, nightsOn};
+ghost use Rattle.layout.specs.CodePlace.{tree, nightsOn};
 
 // What a number must fit besides its range.
 pub enum Rule {

@@ -12,7 +12,7 @@ use lib.ListN.{length, getD, drop, drop-of-length-le}
 use lib.Seq.{drop-cons}
 use Rattle.rows.specs.Rows.{stateAfter, available, dutyOf}
 use Rattle.letters.specs.Letters.{letter, isLetter, firstBad, orCount, misplaced}
-use Rattle.letters.specs.Walk.{badFrom}
+use Rattle.letters.specs.CodeLetters.{badFrom}
 
 -- ---- the loop: W is the answer, i the index it has come to
 

@@ -11,7 +11,7 @@ use Rattle.fields.specs.Fields.{Accepted, nurses, days, block}
 use Rattle.rows.specs.Rows.{dutyOn}
 use Rattle.letters.specs.Letters.{letter, rowLettersOf, rowLetters, letters}
 use Rattle.letters.proofs.RowLaws.{row-length, row-at, row-fits, letters-length}
-use Rattle.letters.specs.Written.{Written}
+use Rattle.letters.specs.CodeRoster.{Written}
 use Rattle.letters.specs.declared.written.Roster.{Roster}
 
 -- ---- a row, put in over what stood at its places

@@ -1,3 +1,3 @@
 pub mod Letters
-pub mod Walk
-pub mod Written
+pub mod CodeLetters
+pub mod CodeRoster

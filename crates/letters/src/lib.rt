@@ -4,7 +4,7 @@ pub mod written;
 ghost use mathlib.Core.Path.{_≡_};
 ghost use Prim.Native.Nat.{_<_};
 ghost use Rattle.letters.specs.Letters.{letter, isLetter, misplaced};
-ghost use Rattle.letters.specs.Walk.{badFrom, foundOf};
+ghost use Rattle.letters.specs.CodeLetters.{badFrom, foundOf};
 
 const LETTERS: [u8; 5] = [b'/', b'-', b'N', b'n', b'+'];
 

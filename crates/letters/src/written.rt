@@ -5,7 +5,7 @@ ghost use lib.ListN.{getD};
 ghost use lib.Seq.{paste};
 ghost use Rattle.fields.specs.Fields.{Accepted, Block};
 ghost use Rattle.letters.specs.Letters.{rowLettersOf};
-ghost use Rattle.letters.specs.Written.{Written};
+ghost use Rattle.letters.specs.CodeRoster.{Written};
 
 // Its letters from the start, 0 after them, and how many there are.
 pub struct Roster {

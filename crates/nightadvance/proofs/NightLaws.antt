@@ -23,12 +23,12 @@ use Rattle.search.specs.declared.Ending.the-variants.{Zero, Asked, Stuck}
 use Rattle.history.specs.Phase.{Phase, No, refused, unless, refusal}
 use Rattle.history.specs.Record.{lacking}
 use Rattle.search.specs.Stored.{advanceStored, refusalStored, replyStored, soundStored}
-use Rattle.search.specs.Seek.{answerWith, answerOf, Lists, Seeks}
+use Rattle.search.specs.CodeSeek.{answerWith, answerOf, Lists, Seeks}
 use Rattle.search.proofs.AdvanceLaws.{asks-seven, asks-room, asks-lacking, asks-sound, asks-none}
 use Rattle.phases.specs.declared.outcomes.Advance.{Advance}
 use Rattle.phases.specs.declared.outcomes.Outcome.the-variants as outcome
 use Rattle.phases.specs.Phases.{nightPhase, commonFits}
-use Rattle.phases.specs.Asked.{phaseOf, lackedAt}
+use Rattle.phases.specs.CodeQuestions.{phaseOf, lackedAt}
 use Rattle.phases.specs.Outcomes.{advanceOf, leftBy, callOf}
 use Rattle.phases.proofs.OutcomeLaws.{list-front, front-fits, first-none, unless-none, told-refused, told-advanced}
 use Rattle.nights.proofs.ListLaws.{list-of-common}

@@ -14,9 +14,10 @@ ghost use Rattle.fields.specs.Fields.{Accepted};
 ghost use Rattle.nights.specs.Nights.{commonOf};
 ghost use Rattle.history.specs.Phase.{Phase, refused};
 ghost use Rattle.search.specs.Stored.{refusalStored, advanceStored};
-ghost use Rattle.search.specs.Seek.{answerOf};
+ghost use Rattle.search.specs.CodeSeek.{answerOf};
 ghost use Rattle.phases.specs.Phases.{nightPhase};
-ghost use Rattle.phases.specs.Outcomes.{advanceOf, leftBy, callOf, noOf};
+ghost use Rattle.phases.specs.Outcomes.{advanceOf, leftBy, callOf};
+ghost use Rattle.phases.specs.CodeQuestions.{noOf};
 
 // A refusal: the record as it was, and all else 0.
 pub fn refuse(rec: Record, question: u32, place: usize) -> Advance

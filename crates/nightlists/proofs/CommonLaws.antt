@@ -21,7 +21,7 @@ use Rattle.rows.specs.Rows.{started}
 use Rattle.fields.specs.Rules.{gap}
 use Rattle.nights.specs.Nights.{starts, follow, inCommon, common}
 use Rattle.nights.proofs.FollowLaws.{leb-same, follow-first}
-use Rattle.nightlists.specs.Walk.{closed, startAt, noneYet, onward, listed}
+use Rattle.nightlists.specs.CodeWalk.{closed, startAt, noneYet, onward, listed}
 
 -- ---- tests
 

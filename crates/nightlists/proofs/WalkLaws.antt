@@ -10,7 +10,7 @@ use native.Mathlib.Omega.{arith}
 use Rattle.fields.specs.declared.rules.Rules.{Rules}
 use Rattle.nightlists.specs.declared.State.{State}
 use Rattle.nightlists.specs.declared.Next.the-variants.{To, Never}
-use Rattle.nightlists.specs.Walk.{closed, startAt, onward, listed}
+use Rattle.nightlists.specs.CodeWalk.{closed, startAt, onward, listed}
 
 -- ---- one step of the walk
 

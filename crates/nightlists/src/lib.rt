@@ -6,9 +6,9 @@ ghost use mathlib.Core.Path.{_≡_};
 ghost use mathlib.Core.List.{_++_};
 ghost use Prim.Native.Nat.{ℕ, _+_, _^_, _≤_, _<_, min};
 ghost use lib.ListN.{length, drop};
-ghost use Rattle.fields.specs.Rules.{Small};
+ghost use Rattle.fields.specs.CodeRules.{Small};
 ghost use Rattle.nights.specs.Nights.{common};
-ghost use Rattle.nightlists.specs.Walk.{closed, startAt, noneYet, listed};
+ghost use Rattle.nightlists.specs.CodeWalk.{closed, startAt, noneYet, listed};
 
 // What the walk knows of the days that are decided: their first start (0: none), the length of the run that begins there, the
 // distance from that run's end to the start after it (0: none), and the count of starts.

@@ -10,11 +10,12 @@ ghost use lib.Dec.{ltb};
 ghost use lib.ListN.{length};
 ghost use Rattle.numbers.specs.Range.{keep};
 ghost use Rattle.fields.specs.Fields.{Accepted, nurses, days, block};
-ghost use Rattle.fields.specs.Rules.{rulesOf, Small};
-ghost use Rattle.nights.specs.Nights.{Among};
-ghost use Rattle.nightlists.specs.Walk.{listed};
+ghost use Rattle.fields.specs.Rules.{rulesOf};
+ghost use Rattle.fields.specs.CodeRules.{Small};
+ghost use Rattle.nights.specs.CodeCommon.{Among};
+ghost use Rattle.nightlists.specs.CodeWalk.{listed};
 ghost use Rattle.nights.specs.Hers.{hersOf, nightList};
-ghost use Rattle.own.specs.Masks.{masksOf, Masked};
+ghost use Rattle.own.specs.CodeMasks.{masksOf, Masked};
 
 // Whether one of the patterns below is hers.
 fn some(left: u64, from: u32, s: State, r: Rules, w: &[u64], m: Masks) -> bool

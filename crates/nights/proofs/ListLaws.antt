@@ -13,7 +13,8 @@ use Rattle.numbers.proofs.RangeLaws.{keep-append, keep-passes, kept-below, kept
 use Rattle.fields.specs.Fields.{days, block}
 use Rattle.fields.specs.declared.rules.Rules.{Rules}
 use Rattle.fields.specs.Rules.{rulesOf}
-use Rattle.nights.specs.Nights.{inCommon, common, commonOf, Among}
+use Rattle.nights.specs.Nights.{inCommon, common, commonOf}
+use Rattle.nights.specs.CodeCommon.{Among}
 use Rattle.nights.specs.Hers.{hers, hersOf, nightList}
 
 -- ---- the common list

@@ -1,2 +1,3 @@
 pub mod Nights
 pub mod Hers
+pub mod CodeCommon

@@ -1,10 +1,9 @@
 -- The night rule and the common list.
 use mathlib.Core.Bool.{Bool, true, cond, _&&_}
 use mathlib.Core.List.{List, [], _∷_}
-use mathlib.Core.Path.{_≡_}
-use Prim.Native.Nat.{ℕ, _+_, _^_, _<_}
+use Prim.Native.Nat.{ℕ, _+_, _^_}
 use lib.Dec.{leb, eqb}
-use lib.ListN.{length, getD}
+use lib.ListN.{length}
 use Rattle.numbers.specs.Range.{upFrom, keep}
 use Rattle.rows.specs.Rows.{started}
 use Rattle.fields.specs.Fields.{days}
@@ -39,7 +38,3 @@ common r n = keep (inCommon r n) (upFrom 0 (2 ^ n))
 
 abbrev pub commonOf : List ℕ → List ℕ
 commonOf w = common (rulesOf w) (days w)
-
--- each of these is in the common list
-unfoldable pub Among : Rules → ℕ → List ℕ → Type 0
-Among r n xs = (k : ℕ) → k < length xs → (getD xs k 0 < 2 ^ n) × (inCommon r n (getD xs k 0) ≡ true)

@@ -6,7 +6,7 @@ ghost use lib.ListN.{length};
 ghost use Rattle.fields.specs.Fields.{Accepted, Block, nurses};
 ghost use Rattle.rows.specs.Rows.{marksAllow};
 ghost use Rattle.nights.specs.Nights.{allowed, runWith, follow, starts};
-ghost use Rattle.fields.specs.Rules.{Small};
+ghost use Rattle.fields.specs.CodeRules.{Small};
 ghost use Rattle.nights.specs.Hers.{shifted, lastRun, hers, hersOf};
 
 // The day of the last start, and how many starts its run has; 0 and 0 for none.

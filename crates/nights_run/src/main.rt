@@ -4,7 +4,7 @@ use fields::rules::Rules;
 use ward::Answer;
 ghost use Prim.Native.Nat.{_≤_, _<_};
 ghost use Rattle.fields.specs.Fields.{Accepted, nurses};
-ghost use Rattle.fields.specs.Rules.{Small};
+ghost use Rattle.fields.specs.CodeRules.{Small};
 
 fn wide(x: u32) -> u64 {
     x as u64

@@ -25,7 +25,7 @@ use Rattle.nights.specs.declared.Run.{Run}
 use Rattle.own.specs.declared.masks.Bars.{Bars}
 use Rattle.own.specs.declared.masks.Masks.{Masks}
 use Rattle.own.specs.declared.masks.Row.{Row}
-use Rattle.own.specs.Masks.{barred, workable, never, near, barsOf, masksOf, Masked, RowOf, AvailableDays}
+use Rattle.own.specs.CodeMasks.{barred, workable, never, near, barsOf, masksOf, Masked, RowOf, AvailableDays}
 use Rattle.nights.specs.Nights.{inCommon}
 use Rattle.nights.specs.Hers.{lastRun}
 use Rattle.nights.proofs.FollowLaws.{common-apart}

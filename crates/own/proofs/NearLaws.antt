@@ -22,7 +22,7 @@ use Rattle.fields.specs.Rules.{gap}
 use Rattle.nights.specs.Nights.{starts, follow, allowed, runWith, inCommon}
 use Rattle.nights.specs.Hers.{shifted, lastRun, hers}
 use Rattle.own.specs.declared.masks.Masks.{Masks}
-use Rattle.own.specs.Masks.{near, masksOf}
+use Rattle.own.specs.CodeMasks.{near, masksOf}
 use Rattle.nights.proofs.FollowLaws.{leb-same, follow-first}
 use Rattle.own.proofs.MaskLaws.{marks-never}
 use Rattle.nights.proofs.StartLaws.{count-starts}

@@ -11,11 +11,12 @@ ghost use Rattle.numbers.specs.Digits.{numberOf};
 ghost use Rattle.numbers.specs.Sum.{oneIf};
 ghost use Rattle.fields.specs.Fields.{Accepted, Block, nurses, days, block, duty};
 ghost use Rattle.rows.specs.Rows.{marksAllow};
-ghost use Rattle.fields.specs.Rules.{rulesOf, Small};
+ghost use Rattle.fields.specs.Rules.{rulesOf};
+ghost use Rattle.fields.specs.CodeRules.{Small};
 ghost use Rattle.nights.specs.Nights.{inCommon};
 ghost use Rattle.nights.specs.Hers.{hersOf};
 ghost use Rattle.fields.specs.declared.rules.Rules.{Rules};
-ghost use Rattle.own.specs.Masks.{barred, workable, near, barsOf, masksOf, Masked, RowOf, AvailableDays};
+ghost use Rattle.own.specs.CodeMasks.{barred, workable, near, barsOf, masksOf, Masked, RowOf, AvailableDays};
 
 // The days whose marks bar O, N, n and R.
 pub struct Bars {

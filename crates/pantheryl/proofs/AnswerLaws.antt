@@ -27,7 +27,7 @@ use Rattle.phases.specs.declared.outcomes.Advance.{Advance}
 use Rattle.phases.specs.declared.outcomes.DayAdvance.{DayAdvance}
 use Rattle.pantheryl.specs.Words.{recordOfWords, wordsOfRecord}
 use Rattle.pantheryl.specs.Answers.{doneWords, countWords, readWords, numbersLeft, advanceWords, wordsLeft, lettersOf, rosterLeft, nightsFrom, daysFrom}
-use Rattle.pantheryl.specs.Walk.{outcomeWords, isRefused}
+use Rattle.pantheryl.specs.CodeWords.{outcomeWords, isRefused}
 
 -- ---- the reader
 

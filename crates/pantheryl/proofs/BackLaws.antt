@@ -12,7 +12,7 @@ use Rattle.removals.specs.declared.Removal.{Removal as StoredRemoval}
 use Rattle.removals.specs.Removals.{noRemoval}
 use Rattle.search.specs.Stored.{Sized, allZero}
 use Rattle.pantheryl.specs.Words.{flagOf, removalAt, recordOfWords, flagWord, wordsOfRecord}
-use Rattle.pantheryl.specs.Walk.{removalWord}
+use Rattle.pantheryl.specs.CodeWords.{removalWord}
 use Rattle.pantheryl.specs.Back.{ReadBack}
 use Rattle.pantheryl.proofs.WordLaws.{removals-long, removal-read, removal-place, word-steps, words-long}
 

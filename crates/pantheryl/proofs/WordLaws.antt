@@ -14,7 +14,7 @@ use Rattle.removals.specs.declared.Removal.{Removal as StoredRemoval}
 use Rattle.removals.specs.Removals.{noRemoval}
 use Rattle.search.specs.Stored.{Sized}
 use Rattle.pantheryl.specs.Words.{flagOf, removalAt, flagWord, removalWords, wordsOfRecord}
-use Rattle.pantheryl.specs.Walk.{removalWord}
+use Rattle.pantheryl.specs.CodeWords.{removalWord}
 
 -- ---- read
 

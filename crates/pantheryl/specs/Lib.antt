@@ -1,5 +1,5 @@
 pub mod Words
 pub mod Answers
-pub mod Walk
+pub mod CodeWords
 pub mod Back
 pub mod Demand

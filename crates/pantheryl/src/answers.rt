@@ -8,7 +8,7 @@ ghost use Prim.Native.Nat.{_≤_};
 ghost use lib.ListN.{take, drop};
 ghost use Rattle.planner.specs.Answers.{saidBy};
 ghost use Rattle.pantheryl.specs.Answers.{countWords, checkWords};
-ghost use Rattle.pantheryl.specs.Walk.{outcomeWords, isRefused};
+ghost use Rattle.pantheryl.specs.CodeWords.{outcomeWords, isRefused};
 
 // The reader's and the writer's.
 pub(crate) fn count_words(said: Answer, count: u64) -> [u64; 6]

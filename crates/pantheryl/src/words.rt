@@ -7,7 +7,7 @@ ghost use Prim.Native.Nat.{_<_};
 ghost use lib.ListN.{getD, take, drop};
 ghost use Rattle.numbers.specs.Range.{upFrom};
 ghost use Rattle.pantheryl.specs.Words.{flagOf, removalAt, recordOfWords, flagWord, wordsOfRecord};
-ghost use Rattle.pantheryl.specs.Walk.{removalWord};
+ghost use Rattle.pantheryl.specs.CodeWords.{removalWord};
 
 fn patterns_of(words: [u32; 289]) -> [u32; 48]
     ensures { λ r. ⌜ r ≡ take 48 words ⌝ }

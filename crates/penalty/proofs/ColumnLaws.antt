@@ -21,7 +21,7 @@ use Rattle.rows.specs.Rows.{availableOn}
 use Rattle.penalty.specs.declared.columns.Columns.{Columns}
 use Rattle.history.specs.Slot.{Slot}
 use Rattle.penalty.specs.Penalty.{startsIn, workedIn, exchanged, atNight, free, atDay}
-use Rattle.penalty.specs.Columns.{Same, ShownNight, ShownDay, Empty, PutAt, NursePut, Frees}
+use Rattle.penalty.specs.CodeColumns.{Same, ShownNight, ShownDay, Empty, PutAt, NursePut, Frees}
 
 -- ---- who is on, below m
 

@@ -11,7 +11,7 @@ use Rattle.numbers.proofs.SumLaws.{loop-start, loop-turn}
 use Rattle.fields.specs.Fields.{need, low, high}
 use Rattle.penalty.specs.declared.duty.Weights.{Weights}
 use Rattle.penalty.specs.declared.duty.Duty.{Duty}
-use Rattle.penalty.specs.Walk.{Light, Counts, membersIn, needTerm, lowTerm, highTerm, dutyShort, dutyOver}
+use Rattle.penalty.specs.CodeCounts.{Light, Counts, membersIn, needTerm, lowTerm, highTerm, dutyShort, dutyOver}
 
 -- products of small numbers
 pub w-le : {wt : Weights} {a : ℕ} → Light wt → a ≤ 48 → wt .w * a ≤ 4800

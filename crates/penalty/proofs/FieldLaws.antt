@@ -8,7 +8,7 @@ use lib.ListN.{length, drop, length-drop}
 use lib.Seq.{length-take-le}
 use Rattle.fields.specs.Fields.{Accepted, nurses, days, groups, groupsAt, masks, needsAt, needsSize, needs}
 use Rattle.penalty.specs.declared.duty.Weights.{Weights}
-use Rattle.penalty.specs.Walk.{weightsOf, noHigh, Light, Row}
+use Rattle.penalty.specs.CodeCounts.{weightsOf, noHigh, Light, Row}
 
 -- products of the header's numbers
 pub groups-product : {w : List ℕ} → Accepted w → nurses w * (11 + days w) ≤ 2016

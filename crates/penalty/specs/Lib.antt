@@ -1,4 +1,4 @@
 pub mod Penalty
-pub mod Columns
+pub mod CodeColumns
 pub mod Held
-pub mod Walk
+pub mod CodeCounts

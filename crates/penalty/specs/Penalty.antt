@@ -3,7 +3,7 @@
 use mathlib.Core.Bool.{Bool, true, false, cond, _&&_}
 use mathlib.Core.List.{List}
 use mathlib.Core.Option.{none, some}
-use Prim.Native.Nat.{ℕ, suc, _+_, _-_, _*_, _≤_}
+use Prim.Native.Nat.{ℕ, suc, _+_, _-_, _*_}
 use lib.Dec.{eqb}
 use lib.ListN.{getD}
 use Rattle.numbers.specs.Sum.{sumTo, countTo}
@@ -45,12 +45,6 @@ partsOf p = record { short = p .short; over = p .over; unplaced = p .unplaced }
 
 abbrev pub total : Parts → ℕ
 total x = x .short + x .over + unplacedCost * x .unplaced
-
--- a penalty's bounds, from which its total fits
-pub record Bounded (p : Penalty) : Type 0 where
-  pub short-most : p .short ≤ 5059200
-  pub over-most : p .over ≤ 3224000
-  pub unplaced-most : p .unplaced ≤ 48
 
 -- without the unplaced
 abbrev pub rest : Parts → ℕ

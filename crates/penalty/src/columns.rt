@@ -1,6 +1,6 @@
 // The columns of a month: who counts at night and by day, nurse i as bit i.
 ghost use Prim.Native.Nat.{_<_, _≤_};
-ghost use Rattle.penalty.specs.Columns.{Empty, NursePut};
+ghost use Rattle.penalty.specs.CodeColumns.{Empty, NursePut};
 
 pub struct Columns {
     pub night: [u64; 31],

@@ -4,7 +4,7 @@ ghost use Prim.Native.Nat.{_-_, _*_, _<_, _≤_};
 ghost use lib.ListN.{length};
 ghost use Rattle.numbers.specs.Sum.{Is};
 ghost use Rattle.numbers.specs.Digits.{has};
-ghost use Rattle.penalty.specs.Walk.{Light, Row, Counts, lowTerm, highTerm, dutyShort, dutyOver};
+ghost use Rattle.penalty.specs.CodeCounts.{Light, Row, Counts, lowTerm, highTerm, dutyShort, dutyOver};
 
 pub struct Weights {
     pub w: u64,

@@ -10,9 +10,10 @@ ghost use mathlib.Core.Bool.{true, false};
 ghost use Prim.Native.Nat.{ℕ, _<_, _≤_};
 ghost use Rattle.fields.specs.Fields.{Accepted, days};
 ghost use Rattle.history.specs.Slot.{Slot};
-ghost use Rattle.penalty.specs.Penalty.{Bounded, partsOf, total, unplacedIn, partsIn};
-ghost use Rattle.penalty.specs.Columns.{Shows};
-ghost use Rattle.penalty.specs.Walk.{DayCounts};
+ghost use Rattle.penalty.specs.Penalty.{partsOf, total, unplacedIn, partsIn};
+ghost use Rattle.penalty.specs.CodeCounts.{Bounded};
+ghost use Rattle.penalty.specs.CodeColumns.{Shows};
+ghost use Rattle.penalty.specs.CodeCounts.{DayCounts};
 
 pub struct Penalty {
     pub short: u64,

@@ -3,7 +3,7 @@ use crate::duty::Weights;
 ghost use mathlib.Core.Path.{_≡_};
 ghost use Prim.Native.Nat.{_<_};
 ghost use Rattle.fields.specs.Fields.{Accepted};
-ghost use Rattle.penalty.specs.Walk.{weightsOf, noHigh};
+ghost use Rattle.penalty.specs.CodeCounts.{weightsOf, noHigh};
 
 // The weights of a duty: k is 0 for night and 1 for day.
 pub fn weights(w: &[u64], k: usize) -> Weights

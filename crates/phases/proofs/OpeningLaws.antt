@@ -12,7 +12,7 @@ use Rattle.fields.specs.Fields.{Accepted, nurses}
 use Rattle.nights.specs.Hers.{hersOf}
 use Rattle.penalty.specs.Penalty.{nightPenalty}
 use Rattle.removals.specs.Removals.{slot}
-use Rattle.search.specs.Seek.{Agree}
+use Rattle.search.specs.CodeSeek.{Agree}
 use Rattle.search.specs.declared.Record.{Record as Stored}
 use Rattle.phases.specs.Phases.{nightsOpen, nightOf}
 

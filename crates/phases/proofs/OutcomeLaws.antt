@@ -13,7 +13,7 @@ use Rattle.search.specs.declared.Ending.{Ending}
 use Rattle.search.specs.declared.Ending.the-variants.{Zero, Asked, Stuck}
 use Rattle.history.specs.Phase.{Phase, No, Answer, refused, unless, first}
 use Rattle.search.specs.Stored.{advanceStored, refusalStored, replyStored}
-use Rattle.search.specs.Seek.{answerWith, answerOf}
+use Rattle.search.specs.CodeSeek.{answerWith, answerOf}
 use Rattle.search.proofs.AdvanceLaws.{stored-refused, stored-goes}
 use Rattle.phases.specs.declared.outcomes.Outcome.the-variants as outcome
 use Rattle.phases.specs.Outcomes.{leftBy, callOf}

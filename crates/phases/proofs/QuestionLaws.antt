@@ -25,7 +25,7 @@ use Rattle.search.specs.declared.Record.{Record as Stored}
 use Rattle.history.proofs.TestLaws.{not-both, or-right}
 use Rattle.search.proofs.QuestionLaws.{question-eleven}
 use Rattle.phases.specs.Phases.{nightPhase, dayPhase}
-use Rattle.phases.specs.Asked.{phaseOf, lackedAt}
+use Rattle.phases.specs.CodeQuestions.{phaseOf, lackedAt}
 use Rattle.phases.proofs.PhaseLaws.{night-fits, day-fits}
 
 -- ---- one of her own

@@ -1,3 +1,3 @@
 pub mod Phases
-pub mod Asked
+pub mod CodeQuestions
 pub mod Outcomes

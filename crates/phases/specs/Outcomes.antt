@@ -1,17 +1,14 @@
 -- What an advance hands back, by its answer: its outcome, its record, and what stands in the buffer.
 use Prim.Native.Nat.{ℕ, _-_}
 use mathlib.Core.List.{List, [], _++_}
-use mathlib.Core.Option.{Option, none, some}
 use lib.ListN.{length, drop, replicate}
-use Rattle.history.specs.Phase.{Call, No, Answer, refused, ended, End, End·zero, End·asked, End·none}
+use Rattle.history.specs.Phase.{Call, Answer, refused, ended, End, End·zero, End·asked, End·none}
 use Rattle.search.specs.declared.Record.{Record as Stored}
 use Rattle.letters.specs.declared.written.Roster.{Roster}
 use Rattle.phases.specs.declared.outcomes.Outcome.{Outcome}
 use Rattle.phases.specs.declared.outcomes.Outcome.the-variants.{Refused, Zero, Asked, Stuck}
 use Rattle.phases.specs.declared.outcomes.Advance.{Advance}
 use Rattle.phases.specs.declared.outcomes.DayAdvance.{DayAdvance}
-use Rattle.phases.specs.declared.questions.Question.{Question}
-use Rattle.phases.specs.declared.questions.Question.the-variants as variants
 
 -- the end of an advance as the outcome says it
 abbrev pub outcomeOf : End → Outcome
@@ -41,9 +38,3 @@ leftBy (ended e made pen roster) list buffer = list ++ drop (length list) buffer
 abbrev pub callOf : ℕ → ℕ → Call
 callOf k places = record { steps = k; places = places }
 
--- ---- the questions of an advance
-
--- a question's no, with its number and place
-abbrev pub noOf : Question → Option No
-noOf variants.Pass = none
-noOf (variants.No q p) = some (record { question = q; place = p })

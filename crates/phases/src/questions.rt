@@ -10,7 +10,7 @@ ghost use Rattle.nights.specs.Hers.{nightList};
 ghost use Rattle.history.specs.Record.{among, hers, names, lacking};
 ghost use Rattle.removals.specs.Removals.{slot};
 ghost use Rattle.search.specs.Stored.{slotAt, held, namesAt, soundStored};
-ghost use Rattle.phases.specs.Asked.{phaseOf, lackedAt};
+ghost use Rattle.phases.specs.CodeQuestions.{phaseOf, lackedAt};
 
 // A question's no, or none.
 pub enum Question {

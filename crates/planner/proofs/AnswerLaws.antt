@@ -13,8 +13,8 @@ use Rattle.ward.specs.declared.Answer.{Answer}
 use Rattle.ward.specs.declared.Answer.the-variants.{Yes, No}
 use Rattle.ward.specs.declared.Reading.{Reading}
 use Rattle.letters.specs.Letters.{misplaced}
-use Rattle.rosters.specs.Check.{holds}
-use Rattle.letters.specs.Walk.{foundOf}
+use Rattle.rosters.specs.CodeCheck.{holds}
+use Rattle.letters.specs.CodeLetters.{foundOf}
 use Rattle.letters.specs.declared.Place.{Place}
 use Rattle.letters.specs.declared.Place.the-variants.{At, Nowhere}
 use Rattle.letters.proofs.LetterLaws.{placed-long}

@@ -15,7 +15,8 @@ use Rattle.penalty.proofs.HeldLaws.{night-zero, night-held, day-zero, day-held}
 use Rattle.penalty.proofs.BoundLaws.{night-total-le, day-total-le}
 use Rattle.letters.specs.Letters.{misplaced}
 use Rattle.letters.proofs.LetterLaws.{placed-long}
-use Rattle.rosters.specs.Check.{holds, Holds}
+use Rattle.rosters.specs.Check.{Holds}
+use Rattle.rosters.specs.CodeCheck.{holds}
 use Rattle.rosters.proofs.CheckLaws.{holds-sound, holds-complete}
 use Rattle.planner.specs.Answers.{Said, refused, said, checkLetters, checkOver, checkSays}
 use Rattle.planner.specs.Demand2.{Passes, Demand2}

@@ -35,7 +35,7 @@ use Rattle.history.proofs.WithoutLaws.{all-refused, refusing}
 use Rattle.search.proofs.AdvanceLaws.{stored-without, demand3-stored}
 use Rattle.phases.proofs.OutcomeLaws.{first-none, unless-none}
 use Rattle.letters.specs.Letters.{misplaced}
-use Rattle.rosters.specs.Check.{holds}
+use Rattle.rosters.specs.CodeCheck.{holds}
 use Rattle.rosters.proofs.GivenLaws.{duty-alike, members-alike, Patterns, placedAll, given-at-zero}
 use Rattle.phases.specs.Phases.{nightPhase, nightsOpen, listsFit, dayListOver, dayPhase, nightOf}
 use Rattle.planner.specs.Advances.{advanceOver, advanceNights, advanceDays}

@@ -8,7 +8,7 @@ use Rattle.layout.specs.Grammar.{Read, good, bad}
 use Rattle.ward.specs.Answers.{readWard}
 use Rattle.history.specs.Phase.{No}
 use Rattle.letters.specs.Letters.{misplaced}
-use Rattle.rosters.specs.Check.{holds}
+use Rattle.rosters.specs.CodeCheck.{holds}
 use Rattle.planner.specs.declared.Checked.{Checked}
 use Rattle.planner.specs.declared.Checked.the-variants.{Refused, Passed, Broken}
 

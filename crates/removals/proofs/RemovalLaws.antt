@@ -12,7 +12,8 @@ use lib.ListN.{length, getD, take, drop, set, length-take, take-append-drop, Lis
 use lib.Seq.{take-suc, drop-cons, set-at, getD-take, length-take-le, append-snoc, split-at, take-take}
 use Rattle.history.specs.Phase.{holds}
 use Rattle.history.specs.Record.{barred}
-use Rattle.removals.specs.Removals.{slot, removalOf, inFront, pushed}
+use Rattle.removals.specs.Removals.{slot, removalOf}
+use Rattle.removals.specs.CodePush.{inFront, pushed}
 use Rattle.history.proofs.TestLaws.{or-assoc, or-with-true}
 use Rattle.removals.specs.declared.Removal.{Removal as StoredRemoval}
 

@@ -1,1 +1,2 @@
 pub mod Removals
+pub mod CodePush

@@ -1,10 +1,10 @@
 -- The removals as they are stored, and which fields of a stored record are not in use.
-use Prim.Native.Nat.{ℕ, _+_, _-_, min}
+use Prim.Native.Nat.{ℕ}
 use mathlib.Core.Bool.{Bool, true, false, cond, not, _&&_, _||_}
-use mathlib.Core.List.{List, _∷_, _++_}
+use mathlib.Core.List.{List}
 use mathlib.Core.Option.{none, some}
 use lib.Dec.{ltb, eqb}
-use lib.ListN.{getD, take, drop}
+use lib.ListN.{getD}
 use Rattle.history.specs.Slot.{Slot}
 use Rattle.history.specs.Record.{Removal}
 use Rattle.removals.specs.declared.Removal.{Removal as StoredRemoval}
@@ -35,15 +35,7 @@ storedRemoval x = record { nurse = x .nurse; has = flagOf (x .pattern); pattern 
 abbrev pub noRemoval : StoredRemoval
 noRemoval = record { nurse = 0; has = false; pattern = 0 }
 
--- ---- one more
 
--- x in front of the first k; what stood after them is dropped, the rest stays
-abbrev pub inFront : {A : Type 0} → ℕ → A → List A → List A
-inFront k x xs = (x ∷ take k xs) ++ drop (k + 1) xs
-
--- one removal more after so many steps, of which tl are kept
-unfoldable pub pushed : ℕ → ℕ → StoredRemoval → List StoredRemoval → List StoredRemoval
-pushed tl steps x rs = cond (eqb tl 0) rs (inFront (min steps (tl - 1)) x rs)
 
 -- ---- unused fields
 

@@ -9,7 +9,8 @@ ghost use lib.Dec.{eqb};
 ghost use lib.ListN.{take};
 ghost use Rattle.history.specs.Phase.{holds};
 ghost use Rattle.history.specs.Record.{barred};
-ghost use Rattle.removals.specs.Removals.{slot, removalOf, inFront, pushed};
+ghost use Rattle.removals.specs.Removals.{slot, removalOf};
+ghost use Rattle.removals.specs.CodePush.{inFront, pushed};
 
 // One of the TL places: a nurse's number, from 1, and the pattern that she gave up, or none where the step placed her.
 // A place not in use is all 0.

@@ -15,7 +15,8 @@ use Rattle.nights.specs.Hers.{hersOf}
 use Rattle.days.specs.Days.{dayRuleOf}
 use Rattle.penalty.specs.Penalty.{onDuty, members}
 use Rattle.letters.specs.Letters.{letter}
-use Rattle.rosters.specs.Check.{Follows, Holds, atDuty, lettersIn, lettersAt, sameRow, rowHolds, rowsHold, groupHolds, dutyHolds, dayHolds, daysHold, holds}
+use Rattle.rosters.specs.Check.{Follows, Holds, atDuty}
+use Rattle.rosters.specs.CodeCheck.{lettersIn, lettersAt, sameRow, rowHolds, rowsHold, groupHolds, dutyHolds, dayHolds, daysHold, holds}
 use Rattle.letters.proofs.RowLaws.{row-fits}
 use Rattle.rosters.proofs.RowLaws.{hers-below, worked-below, worked-available, each-of-row, row-of-each, same-each, each-same, starts-read, worked-read}
 

@@ -24,7 +24,8 @@ use Rattle.penalty.specs.Penalty.{onDuty, members, atNight, atDay, nightPenalty
 use Rattle.penalty.specs.Held.{LowsHeld, HighsHeld, NightHeld, DayHeld}
 use Rattle.penalty.proofs.HeldLaws.{night-zero, day-zero}
 use Rattle.letters.specs.Letters.{letter, rowLettersOf, rowLetters, letters, isLetter, firstBad, orCount, misplaced}
-use Rattle.rosters.specs.Check.{Follows, lettered, atDuty, Holds, holds}
+use Rattle.rosters.specs.Check.{Follows, lettered, atDuty, Holds}
+use Rattle.rosters.specs.CodeCheck.{holds}
 use Rattle.letters.proofs.RowLaws.{row-fits, in-row, row-at, letters-length}
 use Rattle.rosters.proofs.RowLaws.{duty-five, starts-letter, worked-letter, worked-available, row-of-each}
 use Rattle.rosters.proofs.CheckLaws.{holds-complete}

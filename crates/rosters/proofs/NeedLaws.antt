@@ -14,10 +14,11 @@ use Rattle.numbers.specs.Digits.{has}
 use Rattle.numbers.proofs.AgreeLaws.{all-agree}
 use Rattle.fields.specs.Fields.{Accepted, nurses, days, groups, groupsAt, needsAt, masks, needs, need}
 use Rattle.penalty.specs.Penalty.{onDuty, members}
-use Rattle.penalty.specs.Columns.{Same}
+use Rattle.penalty.specs.CodeColumns.{Same}
 use Rattle.penalty.proofs.ColumnLaws.{count-same, all-same}
-use Rattle.rosters.specs.Check.{dutyLetter, lettered, atDuty, groupHolds, dutyHolds, dayHolds}
-use Rattle.rosters.specs.Walk.{boundsHold, allBoundsHold}
+use Rattle.rosters.specs.Check.{dutyLetter, lettered, atDuty}
+use Rattle.rosters.specs.CodeCheck.{groupHolds, dutyHolds, dayHolds}
+use Rattle.rosters.specs.CodeBounds.{boundsHold, allBoundsHold}
 
 -- a test of all, as a loop from 0 finds it
 pub all-start : (t : ℕ → Bool) {n k : ℕ} → k ≡ n → all t (upFrom 0 n) ≡ all t (upFrom 0 (k - 0))

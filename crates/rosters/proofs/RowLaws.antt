@@ -21,7 +21,7 @@ use Rattle.nights.specs.Hers.{hers, hersOf}
 use Rattle.days.specs.Days.{choice, dayRule, dayRuleOf}
 use Rattle.letters.specs.Letters.{letter, rowLettersOf, isLetter}
 use Rattle.letters.proofs.RowLaws.{row-length, row-at}
-use Rattle.rosters.specs.Check.{lettersIn, sameRow}
+use Rattle.rosters.specs.CodeCheck.{lettersIn, sameRow}
 use Rattle.letters.proofs.LetterLaws.{five, night-letter, day-letter}
 
 pub duty-five : (b : List ℕ) (p q d : ℕ) → isLetter (letter (dutyOn b p q d)) ≡ true

@@ -1,3 +1,4 @@
 pub mod Check
-pub mod Walk
+pub mod CodeBounds
 pub mod Shown
+pub mod CodeCheck

@@ -15,7 +15,8 @@ use Rattle.nights.specs.Hers.{shifted, through, lastRun, hers}
 use Rattle.days.specs.Days.{choice, rowDuty, same, anyOf, freeOf, windowsHold, rests, dayRule}
 use Rattle.penalty.specs.Penalty.{onDuty, members}
 use Rattle.letters.specs.Letters.{letter, isLetter, firstBad, misplaced}
-use Rattle.rosters.specs.Check.{lettered, lettersIn, sameRow, rowHolds, rowsHold, groupHolds, dutyHolds, dayHolds, daysHold, holds}
+use Rattle.rosters.specs.Check.{lettered}
+use Rattle.rosters.specs.CodeCheck.{lettersIn, sameRow, rowHolds, rowsHold, groupHolds, dutyHolds, dayHolds, daysHold, holds}
 
 -- Nn/--/
 abbrev pub shown : List ℕ

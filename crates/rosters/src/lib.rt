@@ -6,7 +6,7 @@ ghost use mathlib.Core.Path.{_≡_};
 ghost use Prim.Native.Nat.{_*_};
 ghost use lib.ListN.{length};
 ghost use Rattle.fields.specs.Fields.{Accepted, nurses, days};
-ghost use Rattle.rosters.specs.Check.{holds};
+ghost use Rattle.rosters.specs.CodeCheck.{holds};
 
 // Whether every row follows from patterns, and every day's needs, lows and highs hold.
 pub fn roster_holds(w: &[u64], roster: &[u8]) -> bool

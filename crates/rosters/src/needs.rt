@@ -5,9 +5,10 @@ ghost use Prim.Native.Nat.{_+_, _*_, _<_, _≤_};
 ghost use lib.ListN.{length};
 ghost use Rattle.numbers.specs.Digits.{has};
 ghost use Rattle.fields.specs.Fields.{Accepted, nurses, days};
-ghost use Rattle.penalty.specs.Columns.{Same};
-ghost use Rattle.rosters.specs.Check.{dutyLetter, lettered, dutyHolds, dayHolds, daysHold};
-ghost use Rattle.rosters.specs.Walk.{boundsHold, allBoundsHold};
+ghost use Rattle.penalty.specs.CodeColumns.{Same};
+ghost use Rattle.rosters.specs.Check.{dutyLetter, lettered};
+ghost use Rattle.rosters.specs.CodeCheck.{dutyHolds, dayHolds, daysHold};
+ghost use Rattle.rosters.specs.CodeBounds.{boundsHold, allBoundsHold};
 
 // The nurses with this letter on the day of index d.
 fn column(roster: &[u8], m: usize, n: usize, d: usize, c: u8) -> u64

@@ -4,7 +4,7 @@ ghost use mathlib.Core.Bool.{cond};
 ghost use Prim.Native.Nat.{_+_, _*_, _^_, _<_, _≤_};
 ghost use lib.ListN.{length};
 ghost use Rattle.fields.specs.Fields.{Accepted, Block, nurses, days};
-ghost use Rattle.rosters.specs.Check.{lettersIn, sameRow, rowHolds, rowsHold};
+ghost use Rattle.rosters.specs.CodeCheck.{lettersIn, sameRow, rowHolds, rowsHold};
 
 // The day's own set, or none.
 fn day_if(on: bool, d: u64) -> u32

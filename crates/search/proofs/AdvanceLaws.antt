@@ -18,8 +18,8 @@ use Rattle.history.specs.History.{History, penalty, extend, reply, advance}
 use Rattle.history.specs.Record.{Record, recordOf, mayTake, costAfter, total, best, stepped, proceed, among, hers, allName, lacking, sound, replyOf}
 use Rattle.history.specs.Claim.{Lawful, Demand3, Without, orTen}
 use Rattle.search.specs.Stored.{store, view, viewOf, allZero, unusedZero, soundStored, refusalStored, replyStored, advanceStored, Sized, Fits}
-use Rattle.best.specs.Best.{bestOver, found}
-use Rattle.search.specs.Walk.{exchangedIn, steppedOf}
+use Rattle.best.specs.CodeBest.{bestOver, found}
+use Rattle.search.specs.CodeSteps.{exchangedIn, steppedOf}
 use Rattle.search.specs.declared.Record.{Record as Stored}
 use Rattle.search.specs.declared.Stepped.{Stepped}
 use Rattle.best.specs.declared.Best.{Best}

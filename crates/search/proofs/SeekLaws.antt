@@ -18,7 +18,7 @@ use Rattle.own.specs.declared.masks.Masks.{Masks}
 use Rattle.fields.specs.Rules.{rulesOf}
 use Rattle.nights.specs.Nights.{commonOf, inCommon}
 use Rattle.nights.specs.Hers.{hersOf}
-use Rattle.own.specs.Masks.{masksOf, AvailableDays}
+use Rattle.own.specs.CodeMasks.{masksOf, AvailableDays}
 use Rattle.fields.proofs.RuleLaws.{block-as}
 use Rattle.nights.proofs.ListLaws.{common-below, common-keeps}
 use Rattle.penalty.specs.declared.Penalty.{Penalty}
@@ -26,18 +26,18 @@ use Rattle.penalty.specs.declared.columns.Columns.{Columns}
 use Rattle.trials.specs.declared.costs.Costs.{Costs}
 use Rattle.history.specs.Slot.{Slot, isNone}
 use Rattle.penalty.specs.Penalty.{partsOf, total, rest, unplacedIn, exchanged, startsIn, workedIn, nightParts, dayParts, partsIn, nightPenalty, dayPenalty}
-use Rattle.penalty.specs.Columns.{Shown, Shows, Empty, NursePut}
-use Rattle.trials.specs.Costs.{Small, Chunks, trialOf}
+use Rattle.penalty.specs.CodeColumns.{Shown, Shows, Empty, NursePut}
+use Rattle.trials.specs.CodeCosts.{Small, Chunks, trialOf}
 use Rattle.penalty.proofs.ColumnLaws.{night-none, night-more, day-none, day-more}
 use Rattle.penalty.proofs.BoundLaws.{night-split, day-split, unplaced-after}
 use Rattle.history.specs.Phase.{Phase}
 use Rattle.history.specs.Record.{Record, mayTake}
 use Rattle.removals.specs.Removals.{slot}
 use Rattle.search.specs.Stored.{slotAt, view, viewOf, Fits}
-use Rattle.best.specs.Best.{overList, costIn, bestOver, considered, improves}
-use Rattle.search.specs.Walk.{exchangedIn, steppedOf}
-use Rattle.search.specs.Seek.{costOf, patternFor, Agree, stretch, Seeks}
-use Rattle.trials.specs.Tables.{tableTrial, DayTrials, NightTrials, Tables}
+use Rattle.best.specs.CodeBest.{overList, costIn, bestOver, considered, improves}
+use Rattle.search.specs.CodeSteps.{exchangedIn, steppedOf}
+use Rattle.search.specs.CodeSeek.{costOf, patternFor, Agree, stretch, Seeks}
+use Rattle.trials.specs.CodeTables.{tableTrial, DayTrials, NightTrials, Tables}
 use Rattle.search.proofs.AdvanceLaws.{takes-none, takes-some, takes-nurse}
 use Rattle.best.proofs.BestLaws.{turn-barred, turn-worse, turn-considered, over-keep, nurses-none, nurses-turn}
 use Rattle.search.specs.declared.Record.{Record as Stored}

@@ -18,9 +18,10 @@ use Rattle.numbers.proofs.AllLaws.{all-each, all-if}
 use Rattle.history.specs.Slot.{Slot}
 use Rattle.history.specs.Phase.{Step, exchanged}
 use Rattle.history.specs.Record.{Removal, Record, fresh, stepped}
-use Rattle.removals.specs.Removals.{slot, removalOf, patternOf, flagOf, storedRemoval, noRemoval, slotZero, removalZero, inFront, pushed}
+use Rattle.removals.specs.Removals.{slot, removalOf, patternOf, flagOf, storedRemoval, noRemoval, slotZero, removalZero}
+use Rattle.removals.specs.CodePush.{inFront, pushed}
 use Rattle.search.specs.Stored.{slotAt, held, view, padded, store, allZero, unusedZero, Sized}
-use Rattle.search.specs.Walk.{removalBy, exchangedIn}
+use Rattle.search.specs.CodeSteps.{removalBy, exchangedIn}
 use Rattle.search.specs.declared.Record.{Record as Stored}
 use Rattle.removals.specs.declared.Removal.{Removal as StoredRemoval}
 

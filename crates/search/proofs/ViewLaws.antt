@@ -9,9 +9,10 @@ use borrow.Author.Tests.{lt-ltb}
 use Rattle.numbers.specs.Range.{upFrom, all}
 use Rattle.history.specs.Phase.{holds}
 use Rattle.history.specs.Record.{barred, mayTake}
-use Rattle.removals.specs.Removals.{removalOf, slotZero, removalZero, pushed}
+use Rattle.removals.specs.Removals.{removalOf, slotZero, removalZero}
+use Rattle.removals.specs.CodePush.{pushed}
 use Rattle.search.specs.Stored.{slotAt, view, unusedZero}
-use Rattle.search.specs.Walk.{removalBy, exchangedIn}
+use Rattle.search.specs.CodeSteps.{removalBy, exchangedIn}
 use Rattle.search.specs.declared.Record.{Record as Stored}
 use Rattle.removals.specs.declared.Removal.{Removal as StoredRemoval}
 

@@ -1,3 +1,3 @@
 pub mod Stored
-pub mod Walk
-pub mod Seek
+pub mod CodeSteps
+pub mod CodeSeek

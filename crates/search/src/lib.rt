@@ -10,10 +10,10 @@ ghost use mathlib.Core.Bool.{true};
 ghost use Prim.Native.Nat.{ℕ, _+_, _<_, _≤_};
 ghost use Rattle.fields.specs.Fields.{Accepted};
 ghost use Rattle.history.specs.Phase.{Phase};
-ghost use Rattle.search.specs.Seek.{Lists, Seeks, Served, ServedSound, answerOf};
+ghost use Rattle.search.specs.CodeSeek.{Lists, Seeks, Served, ServedSound, answerOf};
 ghost use Rattle.history.specs.Record.{mayTake};
 ghost use Rattle.search.specs.Stored.{view, allZero, unusedZero, Sized, soundStored, replyStored};
-ghost use Rattle.search.specs.Walk.{removalBy, exchangedIn, steppedOf};
+ghost use Rattle.search.specs.CodeSteps.{removalBy, exchangedIn, steppedOf};
 
 // Everyone's pattern or none, the last TL removals, the last one first, and all steps so far.
 // The removals in use are as many as the steps, but not above TL.

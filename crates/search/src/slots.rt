@@ -11,8 +11,8 @@ ghost use Rattle.numbers.specs.Digits.{numberOf};
 ghost use Rattle.fields.specs.Fields.{Accepted, Block, nurses, markOn};
 ghost use Rattle.history.specs.Slot.{Slot};
 ghost use Rattle.search.specs.Stored.{slotAt};
-ghost use Rattle.penalty.specs.Columns.{Shown};
-ghost use Rattle.search.specs.Seek.{costOf, patternFor, Agree};
+ghost use Rattle.penalty.specs.CodeColumns.{Shown};
+ghost use Rattle.search.specs.CodeSeek.{costOf, patternFor, Agree};
 
 // The days with this mark, as a set.
 fn marked_days(b: &[u64], n: usize, mark: u64) -> u32

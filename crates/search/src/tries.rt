@@ -14,16 +14,16 @@ ghost use Rattle.fields.specs.Fields.{Accepted, nurses, days, tabu, block};
 ghost use Rattle.fields.specs.Rules.{rulesOf};
 ghost use Rattle.nights.specs.Nights.{commonOf};
 ghost use Rattle.nights.specs.Hers.{hersOf};
-ghost use Rattle.own.specs.Masks.{masksOf, Masked};
+ghost use Rattle.own.specs.CodeMasks.{masksOf, Masked};
 ghost use Rattle.history.specs.Slot.{Slot};
-ghost use Rattle.trials.specs.Costs.{ChunksSmall};
-ghost use Rattle.trials.specs.Tables.{DayTrials, NightTrials};
+ghost use Rattle.trials.specs.CodeCosts.{ChunksSmall};
+ghost use Rattle.trials.specs.CodeTables.{DayTrials, NightTrials};
 ghost use Rattle.history.specs.Phase.{Phase};
 ghost use Rattle.history.specs.Record.{mayTake};
 ghost use Rattle.search.specs.Stored.{view, viewOf};
-ghost use Rattle.best.specs.Best.{considered, overList, costIn, bestOver};
-ghost use Rattle.penalty.specs.Columns.{Shown};
-ghost use Rattle.search.specs.Seek.{Agree, Lists, Seeks};
+ghost use Rattle.best.specs.CodeBest.{considered, overList, costIn, bestOver};
+ghost use Rattle.penalty.specs.CodeColumns.{Shown};
+ghost use Rattle.search.specs.CodeSeek.{Agree, Lists, Seeks};
 
 // Which search it is, and by day where each nurse's stretch of the lists ends.
 pub struct Plan {

@@ -14,7 +14,7 @@ use Rattle.numbers.specs.Digits.{has}
 use Rattle.numbers.proofs.SumLaws.{sum-ext, sum-cut, loop-start, loop-turn}
 use Rattle.numbers.proofs.DigitLaws.{part-digit}
 use Rattle.trials.specs.declared.costs.Costs.{Costs}
-use Rattle.trials.specs.Costs.{Small, trialAt, trialOf, stateAt, chunkOf, chunkPlace, Chunks, ChunksSmall}
+use Rattle.trials.specs.CodeCosts.{Small, trialAt, trialOf, stateAt, chunkOf, chunkPlace, Chunks, ChunksSmall}
 
 -- ---- filling
 

@@ -24,10 +24,10 @@ use Rattle.trials.specs.declared.costs.Costs.{Costs}
 use Rattle.trials.specs.declared.costs.Three.{Three}
 use Rattle.history.specs.Slot.{Slot}
 use Rattle.penalty.specs.Penalty.{shortOn, overOn, exchanged, atNight, free, atDay, nightParts, dayParts}
-use Rattle.penalty.specs.Columns.{Shows}
-use Rattle.trials.specs.Costs.{trialAt, trialOf, Small, TrialsNight, TrialsDay, Trials}
-use Rattle.penalty.specs.Walk.{weightsOf, noHigh, dutyCost}
-use Rattle.trials.specs.Walk.{Tells, dayWith, Entries, Filled}
+use Rattle.penalty.specs.CodeColumns.{Shows}
+use Rattle.trials.specs.CodeCosts.{trialAt, trialOf, Small, TrialsNight, TrialsDay, Trials}
+use Rattle.penalty.specs.CodeCounts.{weightsOf, noHigh, dutyCost}
+use Rattle.trials.specs.CodeEntries.{Tells, dayWith, Entries, Filled}
 use Rattle.penalty.proofs.ColumnLaws.{zeros, night-after, free-after, day-after}
 use Rattle.penalty.proofs.CountLaws.{short-same, over-same, cost-both, cost-low}
 

@@ -12,9 +12,9 @@ use Rattle.numbers.proofs.DigitLaws.{count-put, count-put-all}
 use Rattle.fields.specs.Fields.{low, high}
 use Rattle.penalty.specs.declared.duty.Weights.{Weights}
 use Rattle.penalty.specs.declared.duty.Duty.{Duty}
-use Rattle.penalty.specs.Walk.{Counts, membersIn, needTerm, lowTerm, highTerm, groupTerm, dutyCost}
+use Rattle.penalty.specs.CodeCounts.{Counts, membersIn, needTerm, lowTerm, highTerm, groupTerm, dutyCost}
 use Rattle.trials.specs.declared.pairs.Pair.{Pair}
-use Rattle.trials.specs.Walk.{Tells}
+use Rattle.trials.specs.CodeEntries.{Tells}
 
 pub need-tells : (wt : Weights) (row : List ℕ) (k i others : ℕ) (f : ℕ → Bool) {count need : ℕ} {r : Pair} → i < 64 → need ≡ getD row k 0 → has others ≡ put f i false
     → count ≡ countTo 64 (has others) → Is (r .off) (wt .w * (need - count)) 4800 → Is (r .on) (wt .w * (need - (count + 1))) 4800

@@ -5,10 +5,10 @@ use Prim.Native.Nat.{ℕ}
 use Rattle.history.specs.Slot.{Slot}
 use Rattle.fields.specs.Fields.{days}
 use Rattle.penalty.specs.declared.columns.Columns.{Columns}
-use Rattle.penalty.specs.Columns.{Shows}
+use Rattle.penalty.specs.CodeColumns.{Shows}
 use Rattle.trials.specs.declared.costs.Costs.{Costs}
-use Rattle.trials.specs.Costs.{Trials, Small, Chunks}
-use Rattle.trials.specs.Tables.{Tables}
+use Rattle.trials.specs.CodeCosts.{Trials, Small, Chunks}
+use Rattle.trials.specs.CodeTables.{Tables}
 
 module _ (w : List ℕ) (cols : Columns) (i : ℕ) {c : Costs} {t : List ℕ} (small : Small c (days w)) (sums : Chunks c t) where
   pub tables : (daily : Bool) → ((l : ℕ → Slot) → Shows daily w l cols → Trials daily w l i c) → Tables daily w cols i t

@@ -1,3 +1,3 @@
-pub mod Walk
-pub mod Costs
-pub mod Tables
+pub mod CodeEntries
+pub mod CodeCosts
+pub mod CodeTables

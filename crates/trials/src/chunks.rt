@@ -5,7 +5,7 @@ ghost use mathlib.Core.Bool.{cond};
 ghost use Prim.Native.Nat.{ℕ, _<_, _≤_};
 ghost use Rattle.trials.specs.declared.costs.Costs.{Costs};
 ghost use Rattle.numbers.specs.Digits.{has};
-ghost use Rattle.trials.specs.Costs.{Small, trialOf, Chunks, ChunksSmall};
+ghost use Rattle.trials.specs.CodeCosts.{Small, trialOf, Chunks, ChunksSmall};
 
 // A day's cost in the state that bit j of the two sets says.
 fn by_bit(nights: u32, spare: u32, j: u64, night: u64, free: u64, none: u64) -> u64

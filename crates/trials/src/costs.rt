@@ -6,9 +6,9 @@ ghost use mathlib.Core.Bool.{true, false};
 ghost use Prim.Native.Nat.{ℕ, _<_};
 ghost use Rattle.fields.specs.Fields.{Accepted, nurses, days};
 ghost use Rattle.history.specs.Slot.{Slot};
-ghost use Rattle.penalty.specs.Columns.{Shows};
-ghost use Rattle.trials.specs.Costs.{Small, Trials};
-ghost use Rattle.trials.specs.Walk.{Entries};
+ghost use Rattle.penalty.specs.CodeColumns.{Shows};
+ghost use Rattle.trials.specs.CodeCosts.{Small, Trials};
+ghost use Rattle.trials.specs.CodeEntries.{Entries};
 
 // Each day's cost, short and over together: with her at night, available, or neither. By day: free is worked.
 // Eleven groups of three days; 0 past the month.

@@ -6,8 +6,8 @@ mod pairs;
 use penalty::columns::Columns;
 ghost use Prim.Native.Nat.{_<_};
 ghost use Rattle.fields.specs.Fields.{Accepted, nurses};
-ghost use Rattle.trials.specs.Costs.{ChunksSmall};
-ghost use Rattle.trials.specs.Tables.{Tables};
+ghost use Rattle.trials.specs.CodeCosts.{ChunksSmall};
+ghost use Rattle.trials.specs.CodeTables.{Tables};
 
 // Nurse i's table, and its sums over three days each.
 pub fn table(w: &[u64], cols: Columns, i: usize, daily: bool) -> [u64; 704]

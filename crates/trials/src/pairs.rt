@@ -8,8 +8,8 @@ ghost use Prim.Native.Nat.{ℕ, _<_, _≤_};
 ghost use lib.ListN.{length, getD};
 ghost use Rattle.numbers.specs.Sum.{oneIf, Is};
 ghost use Rattle.numbers.specs.Digits.{has, put};
-ghost use Rattle.penalty.specs.Walk.{Light, Row, needTerm, groupTerm, dutyCost};
-ghost use Rattle.trials.specs.Walk.{Tells};
+ghost use Rattle.penalty.specs.CodeCounts.{Light, Row, needTerm, groupTerm, dutyCost};
+ghost use Rattle.trials.specs.CodeEntries.{Tells};
 
 // What is short and over together, without a nurse and with her.
 pub struct Pair {

@@ -12,7 +12,8 @@ use Rattle.codec.specs.declared.Number.the-variants.{Value, Ended, Long}
 use Rattle.layout.specs.declared.Want.the-variants.{Next, Nothing}
 use Rattle.ward.specs.declared.Reading.{Reading}
 use Rattle.codec.specs.Codec.{decode}
-use Rattle.layout.specs.Grammar.{Grammar, wanted, after, asked, Read, good, bad, prepend, read, Within}
+use Rattle.layout.specs.Grammar.{Grammar, asked, Read, good, bad, prepend, read}
+use Rattle.layout.specs.CodeWant.{wanted, after, Within}
 use Rattle.layout.specs.Layout.{ward}
 use Rattle.ward.specs.Answers.{readWard, readingOf, refusedOf}
 use Rattle.layout.proofs.GrammarLaws.{within-step, prepend-more, read-good, read-ended, read-long, read-failed, read-over, read-extra, inside}

@@ -14,7 +14,8 @@ use Rattle.layout.specs.declared.Field.{Field}
 use Rattle.codec.specs.declared.Number.{Number}
 use Rattle.codec.specs.declared.Number.the-variants.{Value, Ended, Long}
 use Rattle.codec.specs.Codec.{encodeGroups, encode, under, final, decodeGroups, decode}
-use Rattle.layout.specs.Grammar.{Grammar, done, number, asked, good, prepend, heard, read, check, bytesOf, Within}
+use Rattle.layout.specs.Grammar.{Grammar, done, number, asked, good, prepend, heard, read, check, bytesOf}
+use Rattle.layout.specs.CodeWant.{Within}
 use Rattle.layout.specs.Layout.{ward}
 use Rattle.ward.specs.Answers.{readWard, checkWard}
 use Rattle.layout.proofs.GrammarLaws.{in-range}

@@ -12,9 +12,11 @@ use Rattle.ward.specs.declared.Checked.{Checked}
 use Rattle.ward.specs.declared.Answer.the-variants.{Yes, No}
 use Rattle.layout.specs.declared.Want.the-variants.{Next, Nothing}
 use Rattle.codec.specs.Codec.{encode}
-use Rattle.layout.specs.Grammar.{Grammar, wanted, after, asked, Read, good, bad, prepend, check, bytesOf, Within, Small}
+use Rattle.layout.specs.Grammar.{Grammar, asked, Read, good, bad, prepend, check, bytesOf}
+use Rattle.layout.specs.CodeWant.{wanted, after, Within, Small}
 use Rattle.layout.specs.Layout.{ward}
-use Rattle.ward.specs.Answers.{counted, checkWard, checkedOf}
+use Rattle.ward.specs.Answers.{counted, checkWard}
+use Rattle.ward.specs.CodeChecked.{checkedOf}
 use Rattle.layout.proofs.GrammarLaws.{in-range, small, within-some, within-step, prepend-more, check-good, check-failed, check-missing, check-over, check-extra}
 use Rattle.layout.proofs.WithinLaws.{within-ward}
 use Rattle.codec.proofs.EncodeLaws.{encode-most}

@@ -7,7 +7,6 @@ use lib.Dec.{ltb}
 use Rattle.ward.specs.declared.Answer.the-variants.{Yes, No}
 use Rattle.ward.specs.declared.Reading.{Reading}
 use Rattle.ward.specs.declared.Ward.{Ward}
-use Rattle.ward.specs.declared.Checked.{Checked}
 use Rattle.ward.specs.declared.Writing.{Writing}
 use Rattle.layout.specs.Grammar.{Read, good, bad, read, check, bytesOf}
 use Rattle.layout.specs.Layout.{ward}
@@ -35,12 +34,6 @@ counted w = take (w .count) (w .numbers ++ replicate (w .count - 4094) 0)
 unfoldable pub checkWard : List ℕ → Read
 unfolding check ward
 checkWard ws = check ward 0 ws
-
--- the answer to 1, 3, 4 and 5, and how many bytes the numbers take
-unfoldable pub checkedOf : Read → Checked
-unfolding bytesOf
-checkedOf (good ws) = record { answer = Yes; bytes = length (bytesOf ws) }
-checkedOf (bad q p) = record { answer = No q p; bytes = 0 }
 
 -- what the writer answers where the buffer has this many places, and what it leaves there
 unfoldable pub writingOf : ℕ → Read → Writing

@@ -4,7 +4,8 @@ use codec::Number;
 use layout::Want;
 ghost use mathlib.Core.Path.{_≡_};
 ghost use lib.ListN.{length};
-ghost use Rattle.ward.specs.Answers.{refusedOf, readingOf, readWard, counted, checkWard, checkedOf, writingOf, leftOf};
+ghost use Rattle.ward.specs.Answers.{refusedOf, readingOf, readWard, counted, checkWard, writingOf, leftOf};
+ghost use Rattle.ward.specs.CodeChecked.{checkedOf};
 
 pub enum Answer {
     Yes,

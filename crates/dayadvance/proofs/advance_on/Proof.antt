@@ -3,7 +3,8 @@ use mathlib.Core.Path.{sym, ap, _∙_}
 use Rattle.fields.specs.Fields.{nurses}
 use Rattle.daylists.specs.Lists.{upTo}
 use Rattle.phases.specs.Phases.{dayListOver, dayPhase, nightOf}
-use Rattle.phases.specs.Outcomes.{dayAdvanceOf, noOf}
+use Rattle.phases.specs.Outcomes.{dayAdvanceOf}
+use Rattle.phases.specs.CodeQuestions.{noOf}
 use Rattle.phases.proofs.OutcomeLaws.{told-refused}
 use Rattle.dayadvance.proofs.DayLaws.{two-before}
 use borrow.Author.Needs.{needs}

@@ -6,7 +6,7 @@ use mathlib.Core.List.{List}
 use native.Mathlib.Omega.{arith}
 use Rattle.numbers.specs.Range.{upFrom}
 use Rattle.history.specs.Record.{lacking}
-use Rattle.phases.specs.Asked.{EndsOf}
+use Rattle.phases.specs.CodeQuestions.{EndsOf}
 use Rattle.phases.proofs.QuestionLaws.{lacking-begin, lacking-more, lacking-stop, lacking-end}
 use Rattle.dayadvance.proofs.DayLaws.{stretch-some, stretch-none}
 use Rattle.dayadvance.proofs.first_without.Statement.{statement}

@@ -5,7 +5,8 @@ use lib.Seq.{length-take-le}
 use Rattle.fields.specs.Fields.{nurses}
 use Rattle.daylists.specs.Lists.{upTo, dayLists}
 use Rattle.phases.specs.Phases.{dayListOver, dayPhase, nightOf}
-use Rattle.phases.specs.Outcomes.{dayAdvanceOf, noOf}
+use Rattle.phases.specs.Outcomes.{dayAdvanceOf}
+use Rattle.phases.specs.CodeQuestions.{noOf}
 use Rattle.dayadvance.proofs.DayLaws.{day-lists, day-seeks, two-after, opened, lists-front, stored-zero}
 use Rattle.phases.proofs.OutcomeLaws.{front-fits, told-refused, told-advanced}
 use borrow.Author.Needs.{needs}

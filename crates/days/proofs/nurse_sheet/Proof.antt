@@ -4,7 +4,7 @@ use mathlib.Core.List.{List}
 use Prim.Native.Nat.{ℕ}
 use native.Mathlib.Omega.{arith}
 use Rattle.fields.specs.Fields.{Block, days, longestDays}
-use Rattle.days.specs.Month.{IsSheet}
+use Rattle.days.specs.CodeMonth.{IsSheet}
 use Rattle.days.proofs.SheetLaws.{block-ends, block-part}
 use borrow.Author.Needs.{needs}
 use Rattle.days.proofs.nurse_sheet.Statement.{statement}

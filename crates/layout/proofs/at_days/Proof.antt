@@ -1,5 +1,5 @@
 -- `layout::at_days` meets its contract.
-use Rattle.layout.specs.Place.{tree}
+use Rattle.layout.specs.CodePlace.{tree}
 use Rattle.layout.proofs.PlaceLaws.{again, over}
 use borrow.Author.Needs.{needs}
 use Rattle.layout.proofs.at_days.Statement.{statement}

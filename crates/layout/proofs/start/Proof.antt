@@ -1,6 +1,6 @@
 -- `layout::start` meets its contract.
 use mathlib.Core.Path.{refl}
-use Rattle.layout.specs.Place.{tree}
+use Rattle.layout.specs.CodePlace.{tree}
 use Rattle.layout.proofs.start.Statement.{statement}
 use Rattle.layout.proofs.start.Tie as tie
 use Rattle.layout.proofs.start.Reads as reads

@@ -1,8 +1,8 @@
 -- `layout::step` meets its contract: at each place, the rest of the layout after one number.
 use mathlib.Core.Path.{_∙_, sym, ap}
-use Rattle.layout.specs.Grammar.{after}
+use Rattle.layout.specs.CodeWant.{after}
 use Rattle.layout.specs.Layout.{ward}
-use Rattle.layout.specs.Place.{tree}
+use Rattle.layout.specs.CodePlace.{tree}
 use Rattle.layout.proofs.PlaceLaws.{after-at, ended, past}
 use borrow.Author.Needs.{needs}
 use Rattle.layout.proofs.step.Statement.{statement}

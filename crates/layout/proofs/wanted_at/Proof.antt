@@ -1,6 +1,6 @@
 -- `layout::wanted_at` meets its contract.
 use mathlib.Core.Path.{_∙_, ap, subst⁻¹}
-use Rattle.layout.specs.Grammar.{wanted, Small}
+use Rattle.layout.specs.CodeWant.{wanted, Small}
 use Rattle.layout.specs.Layout.{ward, range}
 use Rattle.layout.specs.declared.Want.the-variants.{Next}
 use Rattle.layout.proofs.PlaceLaws.{wanted-at, ended, past}

@@ -3,7 +3,7 @@ use Prim.Native.Nat.{_≤_, _-_}
 use mathlib.Core.Path.{_≡_, refl, sym, _∙_}
 use native.Mathlib.Omega.{arith}
 use lib.ListN.{length, drop}
-use Rattle.letters.specs.Walk.{badFrom}
+use Rattle.letters.specs.CodeLetters.{badFrom}
 use Rattle.letters.proofs.LetterLaws.{bad-more, bad-stop, bad-end}
 use borrow.Author.Needs.{needs}
 use Rattle.letters.proofs.first_bad.Statement.{statement}

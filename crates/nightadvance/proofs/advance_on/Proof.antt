@@ -5,7 +5,7 @@ use native.Mathlib.Omega.{arith}
 use mathlib.Core.Path.{sym, _∙_, ap}
 use Rattle.fields.proofs.RuleLaws.{rules-small}
 use Rattle.phases.specs.Phases.{nightPhase}
-use Rattle.phases.specs.Outcomes.{noOf}
+use Rattle.phases.specs.CodeQuestions.{noOf}
 use borrow.Author.Needs.{needs}
 use Rattle.nightadvance.proofs.advance_on.Statement.{statement}
 use Rattle.nightadvance.proofs.advance_on.Tie as tie

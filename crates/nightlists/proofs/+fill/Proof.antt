@@ -5,7 +5,7 @@ use mathlib.Core.Path.{sym, ap, _∙_}
 use Prim.Native.Nat.{_+_, _-_, ℕ, _<_}
 use mathlib.Core.List.{_++_}
 use lib.ListN.{length, length-append, length-set, length-drop}
-use Rattle.nightlists.specs.Walk.{listed}
+use Rattle.nightlists.specs.CodeWalk.{listed}
 use Rattle.numbers.proofs.BufferLaws.{one-written, none-written, as-long, both-written, part-is}
 use Rattle.nightlists.proofs.WalkLaws.{leaf-yes, leaf-no, node-with, node-never, pow-half, half-fits}
 use borrow.Fn.Kinds.{In}

@@ -1,7 +1,7 @@
 -- `trials::table` meets its contract.
 use mathlib.Core.Path.{sym, subst}
 use Prim.Native.Nat.{ℕ}
-use Rattle.trials.specs.Costs.{Small}
+use Rattle.trials.specs.CodeCosts.{Small}
 use Rattle.trials.proofs.ChunkLaws.{chunks-small}
 use Rattle.trials.proofs.TableLaws.{tables}
 use borrow.Author.Needs.{needs}

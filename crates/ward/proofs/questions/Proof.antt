@@ -2,7 +2,7 @@
 use mathlib.Core.Path.{_≡_, sym, _∙_, ap, subst}
 use native.Mathlib.Omega.{arith}
 use lib.ListN.{length, getD}
-use Rattle.layout.specs.Place.{tree}
+use Rattle.layout.specs.CodePlace.{tree}
 use Rattle.ward.specs.declared.Answer.the-variants.{No}
 use Rattle.layout.proofs.GrammarLaws.{small}
 use Rattle.codec.proofs.EncodeLaws.{encode-most}

@@ -5,7 +5,7 @@ use Prim.Native.Nat.{_-_}
 use native.Mathlib.Omega.{arith}
 use borrow.Author.Needs.{needs}
 use lib.ListN.{length}
-use Rattle.layout.specs.Place.{tree}
+use Rattle.layout.specs.CodePlace.{tree}
 use Rattle.ward.proofs.ReadLaws.{So, begin, past-end, moves, failed, space, turn, ended, long-form, extra, whole}
 use Rattle.layout.proofs.GrammarLaws.{small}
 use Rattle.ward.proofs.read.Statement.{statement}

@@ -3,7 +3,7 @@ use mathlib.Core.Path.{_≡_, refl, _∙_}
 use Prim.Native.Nat.{_+_, _-_, _*_, _≤_}
 use native.Mathlib.Omega.{arith}
 use lib.ListN.{length, length-set}
-use Rattle.daylists.specs.Walk.{Filled}
+use Rattle.daylists.specs.CodeWalk.{Filled}
 use Rattle.daylists.proofs.WalkLaws.{filled-turn, filled-less}
 use borrow.Author.Needs.{needs}
 use Rattle.daylists.proofs.reach.table_of.Statement.{statement}

@@ -4,7 +4,7 @@ use Prim.Native.Nat.{_-_, _≤_}
 use native.Mathlib.Omega.{arith}
 use Rattle.numbers.specs.Digits.{numberOf}
 use Rattle.numbers.proofs.DigitLaws.{number-zero}
-use Rattle.days.specs.Month.{inBounds}
+use Rattle.days.specs.CodeMonth.{inBounds}
 use Rattle.days.proofs.MonthLaws.{next-fits, next-is}
 use borrow.Author.Needs.{needs}
 use Rattle.days.proofs.month.bounds.Statement.{statement}

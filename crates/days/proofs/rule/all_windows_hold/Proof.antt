@@ -4,7 +4,7 @@ use Prim.Native.Nat.{_-_, _≤_}
 use native.Mathlib.Omega.{arith}
 use Rattle.numbers.specs.Range.{upFrom, all}
 use Rattle.days.specs.Days.{windowsHold}
-use Rattle.days.specs.Month.{dutyAt}
+use Rattle.days.specs.CodeMonth.{dutyAt}
 use Rattle.days.proofs.RuleLaws.{placesFrom, all-start, all-yes, all-no, all-done}
 use borrow.Author.Needs.{needs}
 use Rattle.days.proofs.rule.all_windows_hold.Statement.{statement}

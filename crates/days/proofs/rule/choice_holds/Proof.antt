@@ -2,7 +2,7 @@
 use mathlib.Core.Path.{_≡_, sym, _∙_}
 use Prim.Native.Nat.{_-_, _≤_}
 use native.Mathlib.Omega.{arith}
-use Rattle.days.specs.Month.{choiceOf}
+use Rattle.days.specs.CodeMonth.{choiceOf}
 use Rattle.days.proofs.RuleLaws.{choiceFrom, choice-over, choice-start, choice-yes, choice-no, choice-done}
 use borrow.Author.Needs.{needs}
 use Rattle.days.proofs.rule.choice_holds.Statement.{statement}

@@ -4,7 +4,7 @@ use mathlib.Core.List.{[], _∷_}
 use Prim.Native.Nat.{_-_, _≤_}
 use native.Mathlib.Omega.{arith}
 use Rattle.days.specs.Days.{same, window}
-use Rattle.days.specs.Month.{dutyAt}
+use Rattle.days.specs.CodeMonth.{dutyAt}
 use Rattle.days.proofs.RuleLaws.{sameFrom, same-start, same-yes, same-no, same-done}
 use borrow.Author.Needs.{needs}
 use Rattle.days.proofs.rule.is_forbidden.Statement.{statement}

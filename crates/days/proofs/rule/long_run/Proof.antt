@@ -4,7 +4,7 @@ use Prim.Native.Nat.{suc, _-_, _≤_}
 use native.Mathlib.Omega.{arith}
 use Rattle.numbers.specs.Range.{all}
 use Rattle.days.specs.Days.{inRun, window}
-use Rattle.days.specs.Month.{dutyAt}
+use Rattle.days.specs.CodeMonth.{dutyAt}
 use Rattle.days.proofs.RuleLaws.{runFrom, run-start, run-yes, run-no, run-done}
 use borrow.Author.Needs.{needs}
 use Rattle.days.proofs.rule.long_run.Statement.{statement}

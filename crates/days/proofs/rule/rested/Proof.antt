@@ -3,7 +3,7 @@ use mathlib.Core.Path.{_≡_, sym, _∙_}
 use Prim.Native.Nat.{suc, _-_, _≤_}
 use native.Mathlib.Omega.{arith}
 use Rattle.days.specs.Days.{isRest, anyOf, window}
-use Rattle.days.specs.Month.{dutyAt}
+use Rattle.days.specs.CodeMonth.{dutyAt}
 use Rattle.days.proofs.RuleLaws.{restFrom, rest-start, rest-yes, rest-no, rest-done}
 use borrow.Author.Needs.{needs}
 use Rattle.days.proofs.rule.rested.Statement.{statement}

@@ -3,7 +3,7 @@ use mathlib.Core.Path.{_≡_}
 use Prim.Native.Nat.{_+_, _-_, _≤_}
 use native.Mathlib.Omega.{arith}
 use Rattle.days.specs.Days.{rests}
-use Rattle.days.specs.Month.{dutyAt}
+use Rattle.days.specs.CodeMonth.{dutyAt}
 use Rattle.days.proofs.RuleLaws.{restsFrom, rests-start, rest-day, rests-done}
 use borrow.Author.Needs.{needs}
 use Rattle.days.proofs.rule.rests_of.Statement.{statement}

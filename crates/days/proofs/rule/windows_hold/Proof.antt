@@ -1,5 +1,5 @@
 -- `days::rule::windows_hold` meets its contract.
-use Rattle.days.specs.Month.{dutyAt}
+use Rattle.days.specs.CodeMonth.{dutyAt}
 use Rattle.days.proofs.RuleLaws.{hold-run, hold-unrested, hold-rested}
 use borrow.Author.Needs.{needs}
 use Rattle.days.proofs.rule.windows_hold.Statement.{statement}

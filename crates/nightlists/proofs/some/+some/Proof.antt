@@ -6,7 +6,7 @@ use Prim.Native.Nat.{_+_, _-_, ℕ, _<_}
 use native.Mathlib.Omega.{arith}
 use Rattle.fields.specs.Fields.{days}
 use Rattle.fields.specs.Rules.{rulesOf}
-use Rattle.nightlists.specs.Walk.{listed}
+use Rattle.nightlists.specs.CodeWalk.{listed}
 use Rattle.nights.specs.Hers.{hersOf}
 use Rattle.nightlists.proofs.WalkLaws.{leaf-yes, leaf-no, node-with, listed-node, node-never, pow-half}
 use Rattle.nights.proofs.ListLaws.{some-leaf, some-empty, some-low, some-high, some-only}

@@ -5,7 +5,7 @@ use lib.Pow.{pow-mono}
 use Rattle.fields.specs.Fields.{days}
 use Rattle.fields.specs.declared.rules.Rules.{Rules}
 use Rattle.fields.specs.Rules.{rulesOf}
-use Rattle.nightlists.specs.Walk.{listed}
+use Rattle.nightlists.specs.CodeWalk.{listed}
 use Rattle.fields.proofs.RuleLaws.{rules-small}
 use Rattle.nightlists.proofs.CommonLaws.{walk-from}
 use Rattle.nights.proofs.ListLaws.{some-of-list}

@@ -7,7 +7,7 @@ use Rattle.rows.specs.Rows.{allows}
 use borrow.Author.Needs.{needs}
 use native.Mathlib.Omega.{arith}
 use Rattle.numbers.specs.Digits.{numberOf}
-use Rattle.own.specs.Masks.{barred}
+use Rattle.own.specs.CodeMasks.{barred}
 use Rattle.own.proofs.MaskLaws.{set-start, set-turn, set-next, set-done}
 use Rattle.own.proofs.masks.barred_days.Statement.{statement}
 use Rattle.own.proofs.masks.barred_days.Tie as tie

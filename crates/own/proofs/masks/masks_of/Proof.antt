@@ -4,7 +4,7 @@ use mathlib.Core.Path.{refl, ap₂, _∙_}
 use mathlib.Core.List.{List}
 use Rattle.fields.specs.Fields.{days}
 use Rattle.fields.specs.declared.rules.Rules.{Rules}
-use Rattle.own.specs.Masks.{masksOf}
+use Rattle.own.specs.CodeMasks.{masksOf}
 use Rattle.fields.proofs.RuleLaws.{rules-small, block-as}
 use borrow.Author.Needs.{needs}
 use Rattle.own.proofs.masks.masks_of.Statement.{statement}

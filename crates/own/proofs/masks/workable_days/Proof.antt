@@ -7,7 +7,7 @@ use Rattle.rows.specs.Rows.{available}
 use borrow.Author.Needs.{needs}
 use native.Mathlib.Omega.{arith}
 use Rattle.numbers.specs.Digits.{numberOf}
-use Rattle.own.specs.Masks.{workable}
+use Rattle.own.specs.CodeMasks.{workable}
 use Rattle.own.proofs.MaskLaws.{set-start, set-turn, set-next, set-done}
 use Rattle.own.proofs.masks.workable_days.Statement.{statement}
 use Rattle.own.proofs.masks.workable_days.Tie as tie

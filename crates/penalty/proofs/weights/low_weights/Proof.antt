@@ -1,7 +1,7 @@
 -- `penalty::weights::low_weights` meets its contract.
 use borrow.Author.Needs.{needs}
 use mathlib.Core.Path.{ap}
-use Rattle.penalty.specs.Walk.{noHigh}
+use Rattle.penalty.specs.CodeCounts.{noHigh}
 use Rattle.penalty.proofs.weights.low_weights.Statement.{statement}
 use Rattle.penalty.proofs.weights.low_weights.Tie as tie
 

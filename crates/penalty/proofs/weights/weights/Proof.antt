@@ -1,6 +1,6 @@
 -- `penalty::weights::weights` meets its contract.
 use mathlib.Core.Path.{refl}
-use Rattle.penalty.specs.Walk.{weightsOf}
+use Rattle.penalty.specs.CodeCounts.{weightsOf}
 use borrow.Author.Needs.{needs}
 use Rattle.penalty.proofs.weights.weights.Statement.{statement}
 use Rattle.penalty.proofs.weights.weights.Tie as tie

@@ -6,7 +6,7 @@ use native.Mathlib.Omega.{arith}
 use Rattle.numbers.specs.Range.{upFrom, all}
 use Rattle.numbers.proofs.RangeLaws.{all-more, all-stop, all-end}
 use Rattle.search.specs.Stored.{namesAt}
-use Rattle.phases.specs.Asked.{phaseOf}
+use Rattle.phases.specs.CodeQuestions.{phaseOf}
 use Rattle.phases.proofs.QuestionLaws.{all-from, held-all}
 use Rattle.phases.proofs.questions.removals_name.Statement.{statement}
 use Rattle.phases.proofs.questions.removals_name.Tie as tie

@@ -7,7 +7,7 @@ use Rattle.numbers.specs.Range.{upFrom, all}
 use Rattle.numbers.proofs.RangeLaws.{all-more, all-stop, all-end}
 use Rattle.history.specs.Record.{hers}
 use Rattle.search.specs.Stored.{slotAt}
-use Rattle.phases.specs.Asked.{phaseOf}
+use Rattle.phases.specs.CodeQuestions.{phaseOf}
 use Rattle.phases.proofs.QuestionLaws.{nurses-begin}
 use Rattle.phases.proofs.questions.slots_own.Statement.{statement}
 use Rattle.phases.proofs.questions.slots_own.Tie as tie

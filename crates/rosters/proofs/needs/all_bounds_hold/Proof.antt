@@ -5,7 +5,7 @@ use native.Mathlib.Omega.{arith}
 use lib.ListN.{length}
 use Rattle.numbers.specs.Range.{upFrom, all}
 use Rattle.numbers.proofs.RangeLaws.{all-more, all-stop, all-end}
-use Rattle.rosters.specs.Walk.{boundsHold, allBoundsHold}
+use Rattle.rosters.specs.CodeBounds.{boundsHold, allBoundsHold}
 use Rattle.rosters.proofs.NeedLaws.{all-start}
 use borrow.Author.Needs.{needs}
 use Rattle.rosters.proofs.needs.all_bounds_hold.Statement.{statement}

@@ -1,6 +1,6 @@
 -- `rosters::needs::bounds_hold` meets its contract.
 use borrow.Author.Tests.{le-leb, lt-leb}
-use Rattle.rosters.specs.Walk.{boundsHold}
+use Rattle.rosters.specs.CodeBounds.{boundsHold}
 use borrow.Author.Needs.{needs}
 use Rattle.rosters.proofs.needs.bounds_hold.Statement.{statement}
 use Rattle.rosters.proofs.needs.bounds_hold.Tie as tie

@@ -6,7 +6,7 @@ use mathlib.Core.Path.{refl}
 use native.Mathlib.Nat.{mul-le-mul}
 use native.Mathlib.Omega.{arith}
 use Rattle.numbers.specs.Digits.{has}
-use Rattle.penalty.specs.Columns.{Same}
+use Rattle.penalty.specs.CodeColumns.{Same}
 use Rattle.penalty.proofs.ColumnLaws.{same-none, same-more}
 use Rattle.rosters.specs.Check.{lettered}
 use Rattle.letters.proofs.RowLaws.{in-row}

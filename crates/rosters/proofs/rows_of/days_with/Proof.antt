@@ -3,7 +3,7 @@ use borrow.Author.Needs.{needs}
 use Prim.Native.Nat.{_≤_, _<_, _-_}
 use mathlib.Core.Path.{_≡_}
 use native.Mathlib.Omega.{arith}
-use Rattle.rosters.specs.Check.{lettersIn}
+use Rattle.rosters.specs.CodeCheck.{lettersIn}
 use Rattle.rosters.proofs.RowLaws.{read-start, read-more, read-fits, read-end}
 use Rattle.rosters.proofs.rows_of.days_with.Statement.{statement}
 use Rattle.rosters.proofs.rows_of.days_with.Tie as tie

@@ -5,7 +5,7 @@ use mathlib.Core.Path.{_≡_, sym, _∙_}
 use native.Mathlib.Omega.{arith}
 use Rattle.numbers.specs.Range.{upFrom, all}
 use Rattle.numbers.proofs.RangeLaws.{all-more, all-stop, all-end}
-use Rattle.rosters.specs.Check.{rowHolds, rowsHold}
+use Rattle.rosters.specs.CodeCheck.{rowHolds, rowsHold}
 use Rattle.rosters.proofs.NeedLaws.{all-start}
 use Rattle.rosters.proofs.rows_of.rows_hold.Statement.{statement}
 use Rattle.rosters.proofs.rows_of.rows_hold.Tie as tie

@@ -4,7 +4,7 @@ use mathlib.Core.Path.{_≡_, sym, _∙_}
 use native.Mathlib.Omega.{arith}
 use Rattle.rows.specs.Rows.{rowState}
 use Rattle.rows.proofs.RowLaws.{row-zero}
-use Rattle.rosters.specs.Check.{sameRow}
+use Rattle.rosters.specs.CodeCheck.{sameRow}
 use Rattle.rosters.proofs.RowLaws.{rowFrom, row-start, row-more, row-stop, row-end}
 use Rattle.letters.proofs.RowLaws.{state-step, duty-step}
 use borrow.Author.Needs.{needs}

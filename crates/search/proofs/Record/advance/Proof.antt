@@ -8,7 +8,7 @@ use lib.ListN.{length-map}
 use borrow.Author.Needs.{needs}
 use Rattle.history.specs.Phase.{Phase}
 use Rattle.search.specs.Stored.{Sized, soundStored}
-use Rattle.search.specs.Seek.{Seeks}
+use Rattle.search.specs.CodeSeek.{Seeks}
 use Rattle.search.proofs.AdvanceLaws.{Running, running-start, ends-zero, ends-asked, stays-none, moves-on}
 use Rattle.search.proofs.SeekLaws.{seeks-fits, seeks-cost}
 use Rattle.search.proofs.Record.advance.Statement.{statement}

@@ -4,8 +4,8 @@ use borrow.Author.Needs.{needs}
 use Prim.Native.Nat.{ℕ, _-_, _≤_}
 use native.Mathlib.Omega.{arith}
 use Rattle.history.specs.Slot.{Slot}
-use Rattle.penalty.specs.Columns.{Shown}
-use Rattle.search.specs.Seek.{Agree}
+use Rattle.penalty.specs.CodeColumns.{Shown}
+use Rattle.search.specs.CodeSeek.{Agree}
 use Rattle.search.proofs.slots.columns.Statement.{statement}
 use Rattle.search.proofs.slots.columns.Tie as tie
 use Rattle.search.proofs.slots.columns.Reads as reads

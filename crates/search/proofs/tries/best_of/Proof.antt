@@ -8,8 +8,8 @@ use mathlib.Core.Path.{_≡_, subst}
 use native.Mathlib.Omega.{arith}
 use Rattle.history.specs.Phase.{Phase}
 use Rattle.search.specs.Stored.{viewOf}
-use Rattle.best.specs.Best.{bestOver}
-use Rattle.search.specs.Seek.{Seeks}
+use Rattle.best.specs.CodeBest.{bestOver}
+use Rattle.search.specs.CodeSeek.{Seeks}
 use Rattle.search.proofs.SeekLaws.{best-start, best-turn, best-end}
 use Rattle.search.proofs.tries.best_of.Statement.{statement}
 use Rattle.search.proofs.tries.best_of.Tie as tie

@@ -7,8 +7,8 @@ use native.Mathlib.Omega.{arith}
 use lib.ListN.{length, take}
 use Rattle.history.specs.Record.{mayTake}
 use Rattle.search.specs.Stored.{view}
-use Rattle.best.specs.Best.{overList}
-use Rattle.trials.specs.Tables.{DayTrials}
+use Rattle.best.specs.CodeBest.{overList}
+use Rattle.trials.specs.CodeTables.{DayTrials}
 use Rattle.best.proofs.BestLaws.{over-nil, over-done, turn-worse, turn-considered}
 use Rattle.search.proofs.SeekLaws.{trial-costs}
 use Rattle.search.proofs.tries.over_days.Statement.{statement}

@@ -10,8 +10,8 @@ use Rattle.fields.specs.Rules.{rulesOf}
 use Rattle.nights.specs.Hers.{hersOf}
 use Rattle.history.specs.Record.{mayTake}
 use Rattle.search.specs.Stored.{view}
-use Rattle.best.specs.Best.{overList}
-use Rattle.trials.specs.Tables.{NightTrials}
+use Rattle.best.specs.CodeBest.{overList}
+use Rattle.trials.specs.CodeTables.{NightTrials}
 use Rattle.best.proofs.BestLaws.{over-nil, over-done}
 use Rattle.search.proofs.SeekLaws.{common-at, night-costs, not-hers, no-better, hers-considered}
 use Rattle.search.proofs.tries.over_nights.Statement.{statement}

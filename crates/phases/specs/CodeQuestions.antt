@@ -14,6 +14,8 @@ use Rattle.history.specs.Record.{lacking}
 use Rattle.search.specs.Stored.{soundStored}
 use Rattle.search.specs.declared.Record.{Record as Stored}
 use Rattle.phases.specs.Phases.{nightPhase, dayPhase, nightsOpen, listsFit, dayListOver}
+use Rattle.phases.specs.declared.questions.Question.{Question}
+use Rattle.phases.specs.declared.questions.Question.the-variants as variants
 
 -- by night (false) the nights; by day (true) the days over these night patterns, one for each nurse
 unfoldable pub phaseOf : Bool → List ℕ → List ℕ → Phase
@@ -41,3 +43,8 @@ EndsOf lists m ends = (k : ℕ) → k ≤ m → getD ends k 0 ≡ length (upTo l
 -- an unplaced nurse's pattern is 0
 unfoldable pub UnplacedZero : List ℕ → Stored → Type 0
 UnplacedZero w r = (i : ℕ) → i < nurses w → getD (r .placed) i false ≡ false → getD (r .patterns) i 0 ≡ 0
+
+-- a question's no, with its number and place
+abbrev pub noOf : Question → Option No
+noOf variants.Pass = none
+noOf (variants.No q p) = some (record { question = q; place = p })

@@ -9,6 +9,7 @@ use Rattle.numbers.specs.Digits.{has}
 use Rattle.fields.specs.Fields.{weight, masks, needs, need, low, high}
 use Rattle.penalty.specs.declared.duty.Weights.{Weights}
 use Rattle.penalty.specs.declared.duty.Duty.{Duty}
+use Rattle.penalty.specs.declared.Penalty.{Penalty}
 
 -- the weights of a duty, and the same with highs ignored
 unfoldable pub weightsOf : List ℕ → ℕ → Weights
@@ -86,3 +87,9 @@ shortAt daily w night day d = shortWith daily w d (getD night d 0) (getD day d 0
 
 unfoldable pub overAt : Bool → List ℕ → List ℕ → List ℕ → ℕ → ℕ
 overAt daily w night day d = overWith daily w d (getD night d 0) (getD day d 0)
+
+-- a penalty's bounds, from which its total fits
+pub record Bounded (p : Penalty) : Type 0 where
+  pub short-most : p .short ≤ 5059200
+  pub over-most : p .over ≤ 3224000
+  pub unplaced-most : p .unplaced ≤ 48

@@ -10,7 +10,7 @@ use lib.Bits.{bitOr}
 use Rattle.numbers.specs.Range.{upFrom, all}
 use Rattle.numbers.specs.Digits.{has}
 use Rattle.days.specs.Days.{windowsHold}
-use Rattle.days.specs.Month.{dutyAt, restOn}
+use Rattle.days.specs.CodeMonth.{dutyAt, restOn}
 use Rattle.days.specs.declared.month.Month.{Month}
 use Rattle.daylists.specs.declared.walk.Point.{Point}
 

@@ -6,9 +6,9 @@ use Prim.Native.Nat.{ℕ}
 use Rattle.history.specs.Slot.{Slot}
 use Rattle.penalty.specs.declared.columns.Columns.{Columns}
 use Rattle.penalty.specs.Penalty.{rest, exchanged, partsIn}
-use Rattle.penalty.specs.Columns.{Shows, Frees}
+use Rattle.penalty.specs.CodeColumns.{Shows, Frees}
 use Rattle.trials.specs.declared.costs.Costs.{Costs}
-use Rattle.trials.specs.Costs.{Small, Chunks, trialOf}
+use Rattle.trials.specs.CodeCosts.{Small, Chunks, trialOf}
 
 -- a trial by the sums of a nurse's table comes to x
 abbrev pub tableTrial : List ℕ → ℕ → ℕ → ℕ → Type 0

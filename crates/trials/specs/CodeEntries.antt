@@ -7,7 +7,7 @@ use lib.ListN.{length, getD}
 use Rattle.numbers.specs.Sum.{Is}
 use Rattle.numbers.specs.Digits.{has, put}
 use Rattle.fields.specs.Fields.{masks, needs}
-use Rattle.penalty.specs.Walk.{weightsOf, noHigh, dutyCost}
+use Rattle.penalty.specs.CodeCounts.{weightsOf, noHigh, dutyCost}
 use Rattle.trials.specs.declared.pairs.Pair.{Pair}
 use Rattle.trials.specs.declared.costs.Three.{Three}
 

@@ -5,7 +5,8 @@ use mathlib.Core.Option.{none, some}
 use lib.ListN.{set}
 use Rattle.history.specs.Phase.{Phase}
 use Rattle.history.specs.Record.{best}
-use Rattle.removals.specs.Removals.{storedRemoval, pushed}
+use Rattle.removals.specs.Removals.{storedRemoval}
+use Rattle.removals.specs.CodePush.{pushed}
 use Rattle.search.specs.Stored.{slotAt, viewOf}
 use Rattle.search.specs.declared.Record.{Record as Stored}
 use Rattle.removals.specs.declared.Removal.{Removal as StoredRemoval}

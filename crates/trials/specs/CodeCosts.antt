@@ -10,7 +10,7 @@ use Rattle.fields.specs.Fields.{days}
 use Rattle.trials.specs.declared.costs.Costs.{Costs}
 use Rattle.history.specs.Slot.{Slot}
 use Rattle.penalty.specs.Penalty.{rest, exchanged, nightParts, dayParts}
-use Rattle.penalty.specs.Columns.{Frees}
+use Rattle.penalty.specs.CodeColumns.{Frees}
 
 -- a day of a trial: N if in nights, else available if in free, else neither
 unfoldable pub trialAt : Costs → ℕ → ℕ → ℕ → ℕ
