@@ -24,7 +24,7 @@ use Rattle.search.specs.CodeSeek.{answerOf, answerWith, Lists, Seeks}
 use Rattle.search.specs.declared.Record.{Record as Stored}
 use Rattle.search.specs.declared.Advanced.{Advanced}
 use Rattle.search.specs.declared.Ending.{Ending}
-use Rattle.search.specs.declared.Ending.the-variants.{Zero, Asked, Stuck}
+use Rattle.search.specs.declared.Ending.the-variants.{Zero, Asked, None}
 use Rattle.search.proofs.StoredLaws.{getD-below}
 use Rattle.letters.specs.Letters.{letters, rowLetters}
 use Rattle.letters.specs.CodeRoster.{Written}
@@ -167,9 +167,9 @@ module _ (w : List ℕ) (nights : ℕ → ℕ) (x : Advanced) where
   unfolding dayAdvanceOf
   finished-asked e = sym (ap (λ (y : Ending). dayAdvanceOf (answerWith (dayPhase w nights) (x .after) (x .steps) (x .penalty) y) (x .after)) e)
 
-  pub finished-stuck : x .ending ≡ Stuck → record { kept = x .after; penalty = x .penalty; steps = x .steps; outcome = outcome.Stuck; roster = rosterOf [] } ≡ dayAdvanceOf (answerOf (dayPhase w nights) x) (x .after)
+  pub finished-none : x .ending ≡ None → record { kept = x .after; penalty = x .penalty; steps = x .steps; outcome = outcome.None; roster = rosterOf [] } ≡ dayAdvanceOf (answerOf (dayPhase w nights) x) (x .after)
   unfolding dayAdvanceOf
-  finished-stuck e = sym (ap (λ (y : Ending). dayAdvanceOf (answerWith (dayPhase w nights) (x .after) (x .steps) (x .penalty) y) (x .after)) e)
+  finished-none e = sym (ap (λ (y : Ending). dayAdvanceOf (answerWith (dayPhase w nights) (x .after) (x .steps) (x .penalty) y) (x .after)) e)
 
 -- ---- what an advance that is not refused hands back
 

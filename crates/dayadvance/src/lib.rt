@@ -84,7 +84,7 @@ fn finished(w: &[u64], nights: &[u32; 48], x: Advanced) -> DayAdvance
             }
         }
         Ending::Asked => without_roster(x, Outcome::Asked),
-        Ending::Stuck => without_roster(x, Outcome::Stuck),
+        Ending::None => without_roster(x, Outcome::None),
     }
 }
 

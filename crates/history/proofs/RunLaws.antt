@@ -29,9 +29,9 @@ module _ {S : Type 0} (total : S → ℕ) (best : S → Option Step) (make : Ste
   run-step k s e n b = rw (ne-eqb (total s) 0 n, b, run)
 
   -- the last two where a loop counts the steps that are due
-  pub run-stuck : (k : ℕ) (s : S) → 0 < k → total s ≢ 0 → best s ≡ none → run total best make k s ≡ (s, End·none)
-  run-stuck zero s l n e = absurd (not-suc-le-zero l)
-  run-stuck (suc k) s l n e = run-none k s n e
+  pub run-none-left : (k : ℕ) (s : S) → 0 < k → total s ≢ 0 → best s ≡ none → run total best make k s ≡ (s, End·none)
+  run-none-left zero s l n e = absurd (not-suc-le-zero l)
+  run-none-left (suc k) s l n e = run-none k s n e
 
   pub run-on : (k : ℕ) (s : S) (e : Step) → 0 < k → total s ≢ 0 → best s ≡ some e → run total best make k s ≡ run total best make (k - 1) (make e s)
   run-on zero s e l n b = absurd (not-suc-le-zero l)

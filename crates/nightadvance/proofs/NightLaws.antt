@@ -19,7 +19,7 @@ use Rattle.nights.specs.Hers.{nightList}
 use Rattle.search.specs.declared.Record.{Record as Stored}
 use Rattle.search.specs.declared.Advanced.{Advanced}
 use Rattle.search.specs.declared.Ending.{Ending}
-use Rattle.search.specs.declared.Ending.the-variants.{Zero, Asked, Stuck}
+use Rattle.search.specs.declared.Ending.the-variants.{Zero, Asked, None}
 use Rattle.history.specs.Phase.{Phase, No, refused, unless, refusal}
 use Rattle.history.specs.Record.{lacking}
 use Rattle.search.specs.Stored.{advanceStored, refusalStored, replyStored, soundStored}
@@ -43,9 +43,9 @@ module _ (P : Phase) (r : Stored) (made pen : ℕ) {e : Ending} where
   unfolding advanceOf
   ended-asked q = sym (ap (λ (x : Ending). advanceOf (answerWith P r made pen x) r) q)
 
-  pub ended-stuck : e ≡ Stuck → record { kept = r; penalty = pen; steps = made; outcome = outcome.Stuck } ≡ advanceOf (answerWith P r made pen e) r
+  pub ended-none : e ≡ None → record { kept = r; penalty = pen; steps = made; outcome = outcome.None } ≡ advanceOf (answerWith P r made pen e) r
   unfolding advanceOf
-  ended-stuck q = sym (ap (λ (x : Ending). advanceOf (answerWith P r made pen x) r) q)
+  ended-none q = sym (ap (λ (x : Ending). advanceOf (answerWith P r made pen x) r) q)
 
 -- ---- the questions by night, in order
 

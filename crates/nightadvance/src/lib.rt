@@ -42,7 +42,7 @@ fn finished(x: Advanced) -> Advance
     let outcome = match ending {
         Ending::Zero => Outcome::Zero,
         Ending::Asked => Outcome::Asked,
-        Ending::Stuck => Outcome::Stuck,
+        Ending::None => Outcome::None,
     };
     Advance {
         kept,

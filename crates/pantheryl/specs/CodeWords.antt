@@ -5,7 +5,7 @@ use mathlib.Core.List.{List}
 use lib.Dec.{eqb}
 use Rattle.removals.specs.declared.Removal.{Removal as StoredRemoval}
 use Rattle.phases.specs.declared.outcomes.Outcome.{Outcome}
-use Rattle.phases.specs.declared.outcomes.Outcome.the-variants.{Refused, Zero, Asked, Stuck}
+use Rattle.phases.specs.declared.outcomes.Outcome.the-variants.{Refused, Zero, Asked, None}
 use Rattle.pantheryl.specs.Words.{flagWord}
 use Rattle.pantheryl.specs.Answers.{refusalWords, doneWords}
 
@@ -14,13 +14,13 @@ abbrev pub outcomeWords : Outcome → ℕ → ℕ → ℕ → List ℕ
 outcomeWords (Refused question place) steps penalty count = refusalWords question place
 outcomeWords Zero steps penalty count = doneWords 1 steps penalty count
 outcomeWords Asked steps penalty count = doneWords 2 steps penalty count
-outcomeWords Stuck steps penalty count = doneWords 3 steps penalty count
+outcomeWords None steps penalty count = doneWords 3 steps penalty count
 
 abbrev pub isRefused : Outcome → Bool
 isRefused (Refused question place) = true
 isRefused Zero = false
 isRefused Asked = false
-isRefused Stuck = false
+isRefused None = false
 
 -- word t of a removal's three
 abbrev pub removalWord : StoredRemoval → ℕ → ℕ

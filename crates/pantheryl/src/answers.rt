@@ -28,7 +28,7 @@ pub(crate) fn outcome_words(outcome: Outcome, steps: u32, penalty: u64, count: u
         Outcome::Refused { question, place } => [question as u64, place as u64, 0, 0, 0, 0],
         Outcome::Zero => [0, 0, 1, steps as u64, penalty, count],
         Outcome::Asked => [0, 0, 2, steps as u64, penalty, count],
-        Outcome::Stuck => [0, 0, 3, steps as u64, penalty, count],
+        Outcome::None => [0, 0, 3, steps as u64, penalty, count],
     }
 }
 
@@ -42,7 +42,7 @@ pub(crate) fn is_refused(outcome: Outcome) -> bool
         } => true,
         Outcome::Zero => false,
         Outcome::Asked => false,
-        Outcome::Stuck => false,
+        Outcome::None => false,
     }
 }
 

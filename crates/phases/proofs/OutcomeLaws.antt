@@ -10,7 +10,7 @@ use lib.Seq.{take-at}
 use Rattle.search.specs.declared.Record.{Record as Stored}
 use Rattle.search.specs.declared.Advanced.{Advanced}
 use Rattle.search.specs.declared.Ending.{Ending}
-use Rattle.search.specs.declared.Ending.the-variants.{Zero, Asked, Stuck}
+use Rattle.search.specs.declared.Ending.the-variants.{Zero, Asked, None}
 use Rattle.history.specs.Phase.{Phase, No, Answer, refused, unless, first}
 use Rattle.search.specs.Stored.{advanceStored, refusalStored, replyStored}
 use Rattle.search.specs.CodeSeek.{answerWith, answerOf}
@@ -26,7 +26,7 @@ answered-writes : (P : Phase) (r : Stored) (made pen : ℕ) (e : Ending) (L buf 
 unfolding leftBy
 answered-writes P r made pen Zero L buf = refl
 answered-writes P r made pen Asked L buf = refl
-answered-writes P r made pen Stuck L buf = refl
+answered-writes P r made pen None L buf = refl
 
 pub writes : (P : Phase) (x : Advanced) (L buf : List ℕ) → leftBy (answerOf P x) L buf ≡ L ++ drop (length L) buf
 writes P x L buf = answered-writes P (x .after) (x .steps) (x .penalty) (x .ending) L buf

@@ -6,7 +6,7 @@ use Rattle.history.specs.Phase.{Call, Answer, refused, ended, End, End·zero, E
 use Rattle.search.specs.declared.Record.{Record as Stored}
 use Rattle.letters.specs.declared.written.Roster.{Roster}
 use Rattle.phases.specs.declared.outcomes.Outcome.{Outcome}
-use Rattle.phases.specs.declared.outcomes.Outcome.the-variants.{Refused, Zero, Asked, Stuck}
+use Rattle.phases.specs.declared.outcomes.Outcome.the-variants.{Refused, Zero, Asked, None}
 use Rattle.phases.specs.declared.outcomes.Advance.{Advance}
 use Rattle.phases.specs.declared.outcomes.DayAdvance.{DayAdvance}
 
@@ -14,7 +14,7 @@ use Rattle.phases.specs.declared.outcomes.DayAdvance.{DayAdvance}
 abbrev pub outcomeOf : End → Outcome
 outcomeOf End·zero = Zero
 outcomeOf End·asked = Asked
-outcomeOf End·none = Stuck
+outcomeOf End·none = None
 
 -- The answer and the record as the call gives them. A no gives the question's number and its place; the record comes back as it was, and all else is 0.
 unfoldable pub advanceOf : Answer → Stored → Advance

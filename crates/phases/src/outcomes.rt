@@ -4,7 +4,7 @@ pub enum Outcome {
     Refused { question: u32, place: usize },
     Zero,
     Asked,
-    Stuck,
+    None,
 }
 
 // The record, its penalty, and the steps made by the advance.

@@ -75,7 +75,7 @@ fn plan_days(file: &[u8], nights: &[u32; 48], made: u32, buffer: &mut [u32]) {
         Outcome::Asked => {
             show_left(2, x.penalty, x.steps);
         }
-        Outcome::Stuck => {
+        Outcome::None => {
             show_left(2, x.penalty, x.steps);
         }
     }
@@ -96,7 +96,7 @@ fn plan(file: &[u8]) {
         Outcome::Asked => {
             show_left(1, x.penalty, x.steps);
         }
-        Outcome::Stuck => {
+        Outcome::None => {
             show_left(1, x.penalty, x.steps);
         }
     }

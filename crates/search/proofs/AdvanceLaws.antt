@@ -26,7 +26,7 @@ use Rattle.best.specs.declared.Best.{Best}
 use Rattle.best.specs.declared.Best.the-variants.{Nothing, Exchange}
 use Rattle.history.proofs.TestLaws.{and-true}
 use Rattle.history.proofs.ChooseLaws.{least-first, offers-only, range-only}
-use Rattle.history.proofs.RunLaws.{run-zero, run-asked, run-stuck, run-on}
+use Rattle.history.proofs.RunLaws.{run-zero, run-asked, run-none-left, run-on}
 use Rattle.history.proofs.FollowLaws.{Grown, first-none, among-member, fresh-record, removals-held, none-past, lacking-none, sound-record, advance-refused, advance-goes, proceed-extend}
 use Rattle.history.proofs.DemandLaws.{demand3-of}
 use Rattle.history.proofs.WithoutLaws.{lacking-lowest}
@@ -129,7 +129,7 @@ module _ (P : Phase) (k : ℕ) (r₀ : Stored) where
     unfolding proceed total
     ends-none f e n l b =
         let c : P .cost slotsOf ≢ 0 = λ z. n (e ∙ z) in
-        ends f End·none (run-stuck (total P) (best P) (stepped (P .tabu)) (k - made) (viewOf P r) (omega arith) c b)
+        ends f End·none (run-none-left (total P) (best P) (stepped (P .tabu)) (k - made) (viewOf P r) (omega arith) c b)
         ∙ ap₂ (λ (n : ℕ) (l : List ℕ). (ended End·none made n l, r)) (sym e) (letters-none c)
 
     -- else one step more

@@ -13,7 +13,7 @@ use Rattle.penalty.specs.Penalty.{startsIn, workedIn, nightPenalty, dayPenalty}
 use Rattle.history.specs.Phase.{Phase, Answer, ended, End·zero, End·asked, End·none}
 use Rattle.search.specs.Stored.{slotAt, viewOf, soundStored}
 use Rattle.search.specs.declared.Ending.{Ending}
-use Rattle.search.specs.declared.Ending.the-variants.{Zero, Asked, Stuck}
+use Rattle.search.specs.declared.Ending.the-variants.{Zero, Asked, None}
 use Rattle.search.specs.declared.Advanced.{Advanced}
 use Rattle.search.specs.declared.Record.{Record as Stored}
 
@@ -66,7 +66,7 @@ ServedSound daily w lists ends r = (P : Phase) × Seeks daily w lists ends P × 
 abbrev pub answerWith : Phase → Stored → ℕ → ℕ → Ending → Answer
 answerWith P r made pen Zero = ended End·zero made pen (P .letters ((viewOf P r) .slots))
 answerWith P r made pen Asked = ended End·asked made pen []
-answerWith P r made pen Stuck = ended End·none made pen []
+answerWith P r made pen None = ended End·none made pen []
 
 abbrev pub answerOf : Phase → Advanced → Answer
 answerOf P x = answerWith P (x .after) (x .steps) (x .penalty) (x .ending)

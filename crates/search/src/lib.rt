@@ -34,7 +34,7 @@ pub struct Stepped {
 pub enum Ending {
     Zero,
     Asked,
-    Stuck,
+    None,
 }
 
 // The record after an advance, its penalty, and the steps that the advance made.
@@ -183,7 +183,7 @@ impl Record {
                     after: kept,
                     penalty: penalty,
                     steps: made,
-                    ending: Ending::Stuck,
+                    ending: Ending::None,
                 };
             }
             let after = next.after;

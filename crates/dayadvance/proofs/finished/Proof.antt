@@ -1,6 +1,6 @@
 -- `dayadvance::finished` meets its contract: the roster at zero, none otherwise.
 use mathlib.Core.Path.{_∙_}
-use Rattle.dayadvance.proofs.DayLaws.{finished-zero, finished-asked, finished-stuck}
+use Rattle.dayadvance.proofs.DayLaws.{finished-zero, finished-asked, finished-none}
 use borrow.Author.Needs.{needs}
 use Rattle.dayadvance.proofs.finished.Statement.{statement}
 use Rattle.dayadvance.proofs.finished.Tie as tie
@@ -30,7 +30,7 @@ returns-2 : tie.Need-returns-2
 returns-2 c = c .without-roster .ensures ∙ finished-asked (c .before .before .before .before .before .args .w .now) _ (c .before .before .before .before .before .args .x) (c .before .enum-told2 .given .1)
 
 returns-3 : tie.Need-returns-3
-returns-3 c = c .without-roster2 .ensures ∙ finished-stuck (c .before .before .before .before .before .args .w .now) _ (c .before .before .before .before .before .args .x) (c .before .enum-told3 .given .1)
+returns-3 c = c .without-roster2 .ensures ∙ finished-none (c .before .before .before .before .before .args .w .now) _ (c .before .before .before .before .before .args .x) (c .before .enum-told3 .given .1)
 
 pub finished-spec : {M : Type 1} → statement M
 finished-spec =

@@ -1,5 +1,5 @@
 -- `nightadvance::finished` meets its contract.
-use Rattle.nightadvance.proofs.NightLaws.{ended-zero, ended-asked, ended-stuck}
+use Rattle.nightadvance.proofs.NightLaws.{ended-zero, ended-asked, ended-none}
 use borrow.Author.Needs.{needs}
 use Rattle.nightadvance.proofs.finished.Statement.{statement}
 use Rattle.nightadvance.proofs.finished.Tie as tie
@@ -28,7 +28,7 @@ returns-2 c =
 returns-3 : tie.Need-returns-3
 returns-3 c =
     let x = c .before .before .before .args .x in
-    λ P. ended-stuck P (x .after) (x .steps) (x .penalty) (c .enum-told3 .given .1)
+    λ P. ended-none P (x .after) (x .steps) (x .penalty) (c .enum-told3 .given .1)
 
 pub finished-spec : {M : Type 1} → statement M
 finished-spec = tie.close (tie.spec enum-told enum-told-2 enum-told-3 returns returns-2 returns-3)
