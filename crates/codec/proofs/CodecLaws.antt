@@ -15,7 +15,7 @@ use Rattle.codec.specs.Codec.{decodeGroups, final, under}
 use Rattle.codec.specs.CodeBytes.{Below}
 
 -- the last group's case does not depend on how many may follow
-last-group : (more least b : ℕ) (bs : List ℕ) → b < 128 → decodeGroups more least (b ∷ bs) ≡ final least b
+pub last-group : (more least b : ℕ) (bs : List ℕ) → b < 128 → decodeGroups more least (b ∷ bs) ≡ final least b
 unfolding decodeGroups
 last-group zero least b bs h = simp (lt-ltb b 128 h)
 last-group (suc k) least b bs h = simp (lt-ltb b 128 h)
@@ -51,12 +51,12 @@ module _ (file : List ℕ) (at more least : ℕ) where
 pub below-further : (b v more k : ℕ) → b < 256 → more ≡ suc k → v < 128 ^ (k + 1) → b - 128 + 128 * v < 128 ^ (more + 1)
 below-further b v more k hb e hv = rw (e, add-one, pow-succ', ← add-one k) (omega arith)
 
+pub pow-at-least : (k : ℕ) → 128 ≤ 128 ^ (k + 1)
+pow-at-least zero = omega arith
+pow-at-least (suc k) = rw (add-one, pow-succ', ← add-one k) (omega (arith, pow-at-least k))
+
 pub below-first : (more : ℕ) {b : ℕ} → b < 128 → Below more (Value b 1)
-below-first more {b} h = (omega (arith, pow-up more), omega arith)
-  where
-    pow-up : (k : ℕ) → 128 ≤ 128 ^ (k + 1)
-    pow-up zero = omega arith
-    pow-up (suc k) = rw (add-one, pow-succ', ← add-one k) (omega (arith, pow-up k))
+below-first more {b} h = (omega (arith, pow-at-least more), omega arith)
 
 pub pow-most : (k : ℕ) → k ≤ 5 → 128 ^ (k + 1) ≤ 2 ^ 42
 pow-most k h =

@@ -15,7 +15,7 @@ pub encode-last : (v : ℕ) → v < 128 → encode v ≡ v ∷ []
 unfolding encode
 encode-last v h = simp (lt-ltb v 128 h)
 
-fewer : (k v : ℕ) → v < 128 ^ (suc k + 1) → v / 128 < 128 ^ (k + 1)
+pub fewer : (k v : ℕ) → v < 128 ^ (suc k + 1) → v / 128 < 128 ^ (k + 1)
 fewer k v h =
     let p : v < 128 * 128 ^ (k + 1) = rw (add-one (suc k), pow-succ' 128 (suc k), ← add-one k) at h in
     omega arith

@@ -1,5 +1,5 @@
--- A nurse's month as the code keeps it, and the day rule over it: `m` is her month, `row` the duties where she works no day, as place t of
--- a row is day t - 6; days have indexes from 0 here, so day d has place d + 7.
+-- A nurse's month as the code keeps it, and the day rule over it: `m` is her month, `row` her duties where she works no day. Place t of a row is
+-- day t - 6. `has` takes a day's index, from 0, which has place d + 7; `started` takes the day, from 1.
 use mathlib.Core.Path.{_≡_}
 use mathlib.Core.Bool.{Bool, cond, not, _&&_}
 use mathlib.Core.List.{List}
@@ -51,6 +51,6 @@ ruleOf m row q =
     && (all (windowsHold (dutyAt row q) (m .longest)) (upFrom 7 (m .days))
     && inBounds (m .least) (m .most) (rests (dutyAt row q) (m .days)))
 
--- 1 if day d is a rest
+-- 1 if the day of index d is a rest
 unfoldable pub restOn : List ℕ → ℕ → ℕ → ℕ
 restOn row q d = oneIf (isRest (dutyAt row q (d + 7)))

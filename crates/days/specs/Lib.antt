@@ -1,3 +1,4 @@
 pub mod Days
 pub mod Shown
 pub mod CodeMonth
+pub mod DayRule

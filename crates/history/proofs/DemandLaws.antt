@@ -1,5 +1,5 @@
 -- Demand 3 holds of every list of advances.
-use Prim.Native.Nat.{ℕ, zero, _+_, _-_, _≤_, _<_}
+use Prim.Native.Nat.{ℕ, _+_, _-_, _≤_, _<_}
 use mathlib.Core.Path.{_≡_, refl, sym, ap, _∙_}
 use mathlib.Core.Logic.{_≢_, _↔_}
 use mathlib.Core.List.{List, [], _∷_, _++_}
@@ -11,11 +11,12 @@ use borrow.Author.Tests.{eq-eqb, ne-eqb}
 use Rattle.history.specs.Slot.{Slot}
 use Rattle.history.specs.Phase.{Step, Phase, Call, No, Answer, End, End·zero, End·asked, End·none, refusal, given, inTurn}
 use Rattle.history.specs.History.{History, inUse, penalty, next, extend, reply, advance, answers, history}
-use Rattle.history.specs.Record.{Record, fresh, recordOf, advanceRecord}
-use Rattle.history.specs.Claim.{Allowed, Least, Lawful, Made, Went, refuses, goes, Turns, done, turn, Demand3}
+use Rattle.history.specs.Record.{Record, recordOf}
+use Rattle.history.specs.Claim.{Allowed, Least, Made, Went, refuses, goes, Turns, done, turn, Demand3}
+use Rattle.history.proofs.Lawful.{Lawful}
 use Rattle.history.proofs.AllowedLaws.{next-none, next-some}
 use Rattle.history.proofs.RunLaws.{by-turns}
-use Rattle.history.proofs.FollowLaws.{Grown, start as started, more, fresh-record, advance-refused, advance-goes, advance-record, grown-after, all-follow}
+use Rattle.history.proofs.FollowLaws.{Grown, start as started, more, advance-refused, advance-goes, grown-after, all-follow}
 use Rattle.history.proofs.PlacedLaws.{all-placed}
 
 pub zero≢asked : End·zero ≢ End·asked
@@ -130,6 +131,10 @@ module _ (P : Phase) where
   each-least [] s h g = grown-head g
   each-least (t ∷ later) s h g = each-least later s h (grown-tail g)
 
+  grown-part : (later earlier : History) → Grown P (later ++ earlier) → Grown P earlier
+  grown-part [] earlier g = g
+  grown-part (t ∷ later) earlier g = grown-part later earlier (grown-tail g)
+
 -- of any search whose advances each follow the history
 pub demand3-of : (P : Phase) → Lawful P → {R : Type 0} (start : R) (adv : Call → R → Answer × R) (kept : Record → R)
     → start ≡ kept (recordOf P [])
@@ -142,9 +147,5 @@ demand3-of P w start adv kept e one cs =
       follows = rw e (all-follow P adv (λ h. kept (recordOf P h)) one cs [] started);
       each = turns P cs [];
       steps = λ later s h e. each-least P later s h (rw e at g);
-      placed = all-placed P w g;
+      placed = λ later earlier e. all-placed P w (grown-part P later earlier (rw e at g));
     }
-
--- of the search that keeps only its record
-pub demand3 : (P : Phase) → Lawful P → (cs : List Call) → Demand3 P fresh (advanceRecord P) (λ r. r) cs
-demand3 P w = demand3-of P w fresh (advanceRecord P) (λ r. r) (fresh-record P) (λ h g c. advance-record P w g c)

@@ -1,7 +1,7 @@
 -- A search that keeps only its record follows the history, advance by advance.
-use Prim.Native.Nat.{ℕ, zero, suc, _-_, _≤_, min}
+use Prim.Native.Nat.{ℕ, zero, suc, _-_, _≤_, _<_, min}
 use mathlib.Core.Path.{_≡_, refl, sym, ap, ap₂, _∙_, fun-ext}
-use mathlib.Core.Bool.{Bool, true, false, cond, _&&_, _||_}
+use mathlib.Core.Bool.{Bool, true, false, cond, _&&_, _||_, false≢true}
 use mathlib.Core.Logic.{_≢_, _⊎_, ⊎-elim}
 use mathlib.Core.List.{List, [], _∷_, List·Memᴰ, List·Memᴰ·head, List·Memᴰ·tail, List·Memᴰ·cases-cons, List·Memᴰ·not-nil}
 use mathlib.Core.Option.{Option, none, some}
@@ -13,9 +13,10 @@ use borrow.Author.Tests.{eqb-true, eq-eqb, ne-eqb, lt-ltb}
 use Rattle.numbers.specs.Range.{upFrom, all}
 use Rattle.history.specs.Phase.{Step, Phase, Call, No, Answer, refused, holds, exchanged, exchanges, least, refusal, first, inTurn}
 use Rattle.history.specs.History.{History, inUse, givenUp, penalty, allowed, next, extend, reply, advance}
-use Rattle.history.specs.Record.{Record, removals, recordOf, fresh, barred, mayTake, total, best, stepped, proceed, among, hers, allName, lacking, sound, refusalOf, replyOf, advanceRecord}
-use Rattle.history.specs.Claim.{Least, Lawful}
-use Rattle.history.proofs.TestLaws.{or-left, or-right}
+use Rattle.history.specs.Record.{removals, recordOf, fresh, barred, mayTake, total, best, stepped, proceed, among, hers, allName, lacking, sound}
+use Rattle.history.specs.Claim.{Least}
+use Rattle.history.proofs.Lawful.{Lawful}
+use Rattle.history.proofs.TestLaws.{or-true, or-left, or-right}
 use Rattle.history.proofs.ChooseLaws.{range-only}
 use Rattle.history.proofs.AllowedLaws.{next-some}
 use Rattle.history.proofs.RunLaws.{alike, by-turns}
@@ -80,6 +81,11 @@ among-member [] p m = absurd (List·Memᴰ·not-nil m)
 among-member (q ∷ l) p m =
     ⊎-elim (λ e. or-left (eqb q p) (among l p) (eq-eqb q p (sym e))) (λ m. or-right (eqb q p) (among l p) (among-member l p m)) (List·Memᴰ·cases-cons m)
 
+pub member-among : (l : List ℕ) (p : ℕ) → among l p ≡ true → List·Memᴰ p l
+member-among [] p e = absurd (false≢true e)
+member-among (q ∷ l) p e =
+    ⊎-elim (λ a. List·Memᴰ·head (sym (eqb-true q p a))) (λ a. List·Memᴰ·tail (member-among l p a)) (or-true (eqb q p) (among l p) e)
+
 pub all-members : (t : ℕ → Bool) (xs : List ℕ) → ((i : ℕ) → List·Memᴰ i xs → t i ≡ true) → all t xs ≡ true
 unfolding all
 all-members t [] e = refl
@@ -124,8 +130,11 @@ module _ (P : Phase) where
       go [] e ih = absurd (w i (List·Memᴰ·head refl) e)
       go (p ∷ ps) e ih = rw (e, lacking) ih
 
+  pub lacking-each : ((i : ℕ) → i < P .nurses → P .patterns i ≢ []) → lacking (P .patterns) (upFrom 0 (P .nurses)) ≡ none
+  lacking-each has = lacking-none′ (upFrom 0 (P .nurses)) (λ i m. has i (omega (arith, range-only 0 (P .nurses) i m)))
+
   pub lacking-none : Lawful P → lacking (P .patterns) (upFrom 0 (P .nurses)) ≡ none
-  lacking-none w = lacking-none′ (upFrom 0 (P .nurses)) (λ i m. w .some-pattern i (omega (arith, range-only 0 (P .nurses) i m)))
+  lacking-none w = lacking-each (w .some-pattern)
 
   -- nobody but the ward's nurses is placed
   pub none-past : {h : History} → Grown P h → (i : ℕ) → P .nurses ≤ i → inUse h i ≡ none
@@ -144,23 +153,11 @@ module _ (P : Phase) (c : Call) where
   unfolding advance
   advance-goes h e = rw (e, advance)
 
-  pub advanceRecord-refused : (r : Record) (n : No) → refusalOf P c r ≡ some n → advanceRecord P c r ≡ (refused n, r)
-  unfolding advanceRecord
-  advanceRecord-refused r n e = rw (e, advanceRecord)
-
-  pub advanceRecord-goes : (r : Record) → refusalOf P c r ≡ none → advanceRecord P c r ≡ replyOf P r (proceed P (c .steps) r)
-  unfolding advanceRecord
-  advanceRecord-goes r e = rw (e, advanceRecord)
-
 pub first-none : (o : Option No) → first o none ≡ o
 first-none none = refl
 first-none (some n) = refl
 
 module _ (P : Phase) (w : Lawful P) where
-  pub refusal-record : {h : History} → Grown P h → (c : Call) → refusalOf P c (recordOf P h) ≡ refusal P c (length h)
-  unfolding refusalOf recordOf
-  refusal-record {h} g c = rw (lacking-none P w, sound-record P g) (first-none (refusal P c (length h)))
-
   pub proceed-extend : {h : History} → Grown P h → (k : ℕ) → proceed P k (recordOf P h) ≡ (recordOf P ((extend P k h) .0), (extend P k h) .1)
   unfolding proceed extend
   proceed-extend {h} g k =
@@ -170,15 +167,6 @@ module _ (P : Phase) (w : Lawful P) where
       (λ h s g e. stepped-next P s h)
       (λ h s g n e. more g n (next-some P h s e))
       k h g
-
-  pub advance-record : {h : History} → Grown P h → (c : Call) → advanceRecord P c (recordOf P h) ≡ ((advance P c h) .0, recordOf P ((advance P c h) .1))
-  unfolding replyOf reply recordOf total penalty
-  advance-record {h} g c = go (refusal P c (length h)) refl
-    where
-      go : (o : Option No) → refusal P c (length h) ≡ o → advanceRecord P c (recordOf P h) ≡ ((advance P c h) .0, recordOf P ((advance P c h) .1))
-      go none e =
-          rw (advanceRecord-goes P c (recordOf P h) (refusal-record g c ∙ e), advance-goes P c h e, proceed-extend g (c .steps))
-      go (some n) e = rw (advanceRecord-refused P c (recordOf P h) n (refusal-record g c ∙ e), advance-refused P c h n e)
 
 -- ---- every step is the one to take
 

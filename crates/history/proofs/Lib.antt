@@ -1,3 +1,4 @@
+pub mod Lawful
 pub mod TestLaws
 pub mod ChooseLaws
 pub mod AllowedLaws
@@ -7,5 +8,5 @@ pub mod PlacedLaws
 pub mod DemandLaws
 pub mod TurnLaws
 pub mod WithoutLaws
+pub mod FirstLaws
 pub mod Unique
-pub mod Worked

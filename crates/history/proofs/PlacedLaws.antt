@@ -15,7 +15,8 @@ use Rattle.numbers.proofs.SumLaws.{count-le}
 use Rattle.history.specs.Slot.{Slot, isNone}
 use Rattle.history.specs.Phase.{Step, Phase, exchanged}
 use Rattle.history.specs.History.{History, inUse, penalty}
-use Rattle.history.specs.Claim.{Allowed, Least, Lawful, unplaced}
+use Rattle.history.specs.Claim.{Allowed, Least}
+use Rattle.history.proofs.Lawful.{Lawful, unplaced}
 use Rattle.history.proofs.FollowLaws.{Grown, start, more}
 
 -- how many of the first n slots are empty

@@ -1,7 +1,7 @@
 -- Laws of Boolean tests, read as equations.
 use mathlib.Core.Path.{_≡_, refl, sym, ap, _∙_}
 use mathlib.Core.Bool.{Bool, true, false, not, _&&_, _||_, true≢false, false≢true}
-use mathlib.Core.Logic.{_⊎_, inl, inr, _≢_}
+use mathlib.Core.Logic.{_↔_, _⊎_, inl, inr, _≢_}
 use mathlib.Core.Option.{none, some}
 use Prim.Native.Nat.{ℕ}
 use borrow.Author.Tests.{eqb-true, eq-eqb}
@@ -38,6 +38,10 @@ not-of-false b e = rw e
 pub false-of : (b : Bool) → (b ≡ true → ⊥) → b ≡ false
 false-of true n = absurd (n refl)
 false-of false n = refl
+
+-- a test fails exactly where what it tests does not hold
+pub false-when : (b : Bool) {Right : Type 0} → ((b ≡ true) ↔ Right) → (b ≡ false) ↔ (Right → ⊥)
+false-when b when = (λ e x. not-both (when .1 x) e, λ n. false-of b (λ e. n (when .0 e)))
 
 -- a slot's pattern, where there is one
 pub some-same : {a b : ℕ} → some a ≡ some b → a ≡ b

@@ -1,26 +1,13 @@
 -- Demand 3: one claim about a whole list of advances.
-use Prim.Native.Nat.{ℕ, suc, _+_, _*_, _≤_, _<_}
+use Prim.Native.Nat.{ℕ, suc, _+_, _≤_, _<_}
 use mathlib.Core.Path.{_≡_}
 use mathlib.Core.Logic.{_≢_, _↔_, _⊎_}
 use mathlib.Core.List.{List, [], _∷_, _++_, map, List·Memᴰ}
 use mathlib.Core.Option.{Option, none, some}
 use lib.ListN.{length}
-use Rattle.numbers.specs.Sum.{countTo}
-use Rattle.history.specs.Slot.{Slot, isNone, unplacedCost}
 use Rattle.history.specs.Phase.{Step, Phase, Call, No, Answer, refused, ended, End, End·zero, End·asked, End·none, refusal, inTurn}
 use Rattle.history.specs.History.{History, inUse, penalty, answers, history}
 use Rattle.history.specs.Record.{Record, recordOf}
-
--- how many nurses are unplaced
-abbrev pub unplaced : Phase → (ℕ → Slot) → ℕ
-unplaced P slots = countTo (P .nurses) (λ i. isNone (slots i))
-
--- what demand 3 takes of a phase: every nurse has a pattern, and an unplaced nurse adds 10,000,000, flat, to a rest that is below that
-pub record Lawful (P : Phase) : Type 0 where
-  pub some-pattern : (i : ℕ) → i < P .nurses → P .patterns i ≢ []
-  pub rest : (ℕ → Slot) → ℕ
-  pub rest-below : (slots : ℕ → Slot) → rest slots < unplacedCost
-  pub flat : (slots : ℕ → Slot) → P .cost slots ≡ unplacedCost * unplaced P slots + rest slots
 
 -- after h: an exchange gives one nurse, placed or not, a pattern of hers that is neither in use by her nor given up by her in the last TL steps
 pub record Allowed (P : Phase) (h : History) (s : Step) : Type 0 where
@@ -78,8 +65,9 @@ pub record Demand3 (P : Phase) {R : Type 0} (start : R) (advance : Call → R �
   pub each : Turns P cs (answers P cs) [] (history P cs)
   -- each step
   pub steps : Steps P (history P cs)
-  -- once as many steps were made as there are nurses, nobody is unplaced
-  pub placed : P .nurses ≤ length (history P cs) → (i : ℕ) → i < P .nurses → inUse (history P cs) i ≢ none
+  -- at every point of the history with as many steps as there are nurses, nobody is unplaced
+  pub placed : (later earlier : History) → history P cs ≡ later ++ earlier → P .nurses ≤ length earlier
+      → (i : ℕ) → i < P .nurses → inUse earlier i ≢ none
 
 -- The claim's own words are enough: whatever takes these calls from fresh as they say has these answers and this history, so nobody need believe
 -- how the history is computed. proofs/Unique shows it.

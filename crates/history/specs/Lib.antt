@@ -3,3 +3,4 @@ pub mod Phase
 pub mod History
 pub mod Record
 pub mod Claim
+pub mod Questions

@@ -7,7 +7,7 @@ use lib.Dec.{ltb, eqb}
 use lib.ListN.{length, take}
 use Rattle.numbers.specs.Range.{upFrom, all}
 use Rattle.history.specs.Slot.{Slot}
-use Rattle.history.specs.Phase.{Step, Phase, Call, No, Answer, refused, ended, End, holds, exchanged, exchanges, least, run, refusal, given, first, unless}
+use Rattle.history.specs.Phase.{Step, Phase, No, Answer, ended, End, holds, exchanged, exchanges, least, run, given}
 use Rattle.history.specs.History.{History, inUse}
 
 -- one of the TL places: a nurse's number, from 1, with the pattern that she gave up, or with none where the step placed her
@@ -105,15 +105,6 @@ sound P r =
 unfoldable pub proceed : Phase → ℕ → Record → Record × End
 proceed P k r = run (total P) (best P) (stepped (P .tabu)) k r
 
--- questions 7 to 11
-unfoldable pub refusalOf : Phase → Call → Record → Option No
-refusalOf P c r =
-    first (refusal P c (r .steps)) (first (lacking (P .patterns) (upFrom 0 (P .nurses))) (unless (sound P r) 11 0))
-
 -- the answers of an advance that took the record r to where it ended
 unfoldable pub replyOf : Phase → Record → Record × End → Answer × Record
 replyOf P r q = (ended (q .1) (q .0 .steps - r .steps) (total P (q .0)) (given P (q .0 .slots)), q .0)
-
--- what an advance answers, and the record that it hands back. A refused one hands back the record as it was
-unfoldable pub advanceRecord : Phase → Call → Record → Answer × Record
-advanceRecord P c r = elim (refusalOf P c r) [ some n ↦ (refused n, r) | none ↦ replyOf P r (proceed P (c .steps) r) ]

@@ -56,9 +56,13 @@ within-step n g f v h e a = go n (subst (Within n) (is-number g e) h)
         let q : m ≡ suc m - 1 = omega arith in
         (omega arith, subst (λ (i : ℕ). Within i (after g v)) q (w .1 v (r .0) (r .1)))
 
-pub prepend-more : (ws : List ℕ) (v : ℕ) (r : Read) → prepend ws (prepend (v ∷ []) r) ≡ prepend (ws ++ (v ∷ [])) r
-prepend-more ws v (good vs) = ap good (sym (append-assoc ws (v ∷ []) vs))
-prepend-more ws v (bad q p) = refl
+pub prepend-nil : (r : Read) → r ≡ prepend [] r
+prepend-nil (good vs) = refl
+prepend-nil (bad q p) = refl
+
+pub prepend-more : (us vs : List ℕ) (r : Read) → prepend us (prepend vs r) ≡ prepend (us ++ vs) r
+prepend-more us vs (good ws) = ap good (sym (append-assoc us vs ws))
+prepend-more us vs (bad q p) = refl
 
 unless-no : (q at : ℕ) (r : Read) → (q ≡ 0 → ⊥) → unless q at r ≡ bad q at
 unless-no zero at r h = absurd (h refl)

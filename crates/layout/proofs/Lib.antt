@@ -5,3 +5,7 @@ pub mod GrammarLaws
 pub mod WithinLaws
 pub mod AcceptLaws
 pub mod AccessLaws
+pub mod AskedLaws
+pub mod ListFaultLaws
+pub mod LongestLaws
+pub mod ReadFaultLaws

@@ -1,6 +1,6 @@
--- A ward has at most 4,094 numbers, each of at most seven groups.
+-- What a ward's numbers come to at most, by any measure of its fields: 4,094 numbers where each counts 1; proofs/LongestLaws counts bytes.
 use Prim.Native.Nat.{ℕ, zero, suc, _+_, _-_, _*_, _^_, _≤_, _<_}
-use native.Mathlib.Nat.{le-refl, mul-le-mul-right}
+use native.Mathlib.Nat.{le-refl, le-trans, mul-le-mul-right}
 use native.Mathlib.Omega.{arith}
 use lib.Dec.{lit<}
 use lib.Pow.{pow-mono}
@@ -8,93 +8,86 @@ use Rattle.layout.specs.declared.Field.{Field}
 use Rattle.layout.specs.declared.Head.{Head}
 use Rattle.layout.specs.Grammar.{Grammar, done, number}
 use Rattle.layout.specs.CodeWant.{Within}
-use Rattle.layout.specs.Layout.{range, dutyAfter, one, pair, repeat, duties, bounds, day, days, group, groups, mark, nurse, nurses, weights, limits, gaps, rules, sizes, ward}
+use Rattle.layout.specs.Layout.{range, one, pair, repeat, duties, bounds, day, group, mark, nurse, rules, ward}
 
-within-more : (g : Grammar) (n N : ℕ) → n ≤ N → Within n g → Within N g
-within-more done n N h w = tt
-within-more (number f k) zero N h w = absurd w
-within-more (number f k) (suc n) zero h w = absurd (omega arith)
-within-more (number f k) (suc n) (suc N) h w = (w .0, λ v lo hi. within-more (k v) n N (omega arith) (w .1 v lo hi))
+-- numbers below 2 ^ 49 that come to at most N, where a number of a field up to m counts `size m`
+pub data WithinBy (size : ℕ → ℕ) : ℕ → Grammar → Type 0 where
+  no-more : {N : ℕ} → WithinBy size N done
+  and-then : {f : Field} {k : ℕ → Grammar} {n N : ℕ} → f .most < 2 ^ 49 → n + size (f .most) ≤ N
+      → ((v : ℕ) → f .least ≤ v → v ≤ f .most → WithinBy size n (k v)) → WithinBy size N (number f k)
 
-within-number :
-    (f : Field) (k : ℕ → Grammar) (n N : ℕ) → n < N → f .most < 2 ^ 49 →
-    ((v : ℕ) → f .least ≤ v → v ≤ f .most → Within n (k v)) → Within N (number f k)
-within-number f k n zero h s w = absurd (omega arith)
-within-number f k n (suc N) h s w = (s, λ v lo hi. within-more (k v) n N (omega arith) (w v lo hi))
+-- a number that fits one byte counts 1, and one of more bytes at most `big`
+module _ (size : ℕ → ℕ) (big : ℕ) (one-byte : (m : ℕ) → m < 128 → size m ≤ 1) (more-bytes : (m : ℕ) → size m ≤ big) where
+  at-most : {g : Grammar} {n N : ℕ} → n ≤ N → WithinBy size n g → WithinBy size N g
+  at-most h no-more = no-more
+  at-most h (and-then s r on) = and-then s (le-trans r h) on
 
-within-one : (f : Field) (g : Grammar) (n : ℕ) → f .most < 2 ^ 49 → Within n g → Within (n + 1) (one f g)
-within-one f g n s w = within-number f (λ _. g) n (n + 1) (omega arith) s (λ v lo hi. w)
+  by-field : {f : Field} {k : ℕ → Grammar} {n s : ℕ} → f .most < 2 ^ 49 → size (f .most) ≤ s
+      → ((v : ℕ) → f .least ≤ v → v ≤ f .most → WithinBy size n (k v)) → WithinBy size (n + s) (number f k)
+  by-field {f} {n} {s} small h on = and-then {f = f} {n = n} {N = n + s} small (omega arith) on
 
-within-pair : (hi : ℕ) (g : Grammar) (n : ℕ) → hi < 2 ^ 49 → Within n g → Within (n + 2) (pair hi g)
-within-pair hi g n s w =
-    within-number (range 0 hi) (λ low. one (range low hi) g) (n + 1) (n + 2) (omega arith) s
-    (λ v _ _. within-one (range v hi) g n s w)
+  by-number : {f : Field} {k : ℕ → Grammar} {n : ℕ} → f .most < 128
+      → ((v : ℕ) → f .least ≤ v → v ≤ f .most → WithinBy size n (k v)) → WithinBy size (n + 1) (number f k)
+  by-number {f} h on = by-field (omega arith) (one-byte (f .most) h) on
 
-within-duties : (k d : ℕ) (g : Grammar) (n : ℕ) → Within n g → Within (n + k) (duties k d g)
-within-duties zero d g n w = within-more g n (n + 0) (omega arith) w
-within-duties (suc k) d g n w =
-    within-number (dutyAfter d) (λ e. duties k e g) (n + k) (n + suc k) (omega arith) (lit< tt) (λ v _ _. within-duties k v g n w)
+  by-one : {f : Field} {g : Grammar} {n : ℕ} → f .most < 128 → WithinBy size n g → WithinBy size (n + 1) (one f g)
+  by-one s w = by-number s (λ v _ _. w)
 
-module _ (body : Grammar → Grammar) (s : ℕ) (step : (g : Grammar) (n : ℕ) → Within n g → Within (n + s) (body g)) where
-  within-times : (k : ℕ) (g : Grammar) (n : ℕ) → Within n g → Within (n + k * s) (repeat k body g)
-  within-times zero g n w = within-more g n (n + 0 * s) (omega arith) w
-  within-times (suc k) g n w =
-      within-more (repeat (suc k) body g) (n + k * s + s) (n + suc k * s) (omega arith)
-      (step (repeat k body g) (n + k * s) (within-times k g n w))
+  by-pair : {hi : ℕ} {g : Grammar} {n : ℕ} → hi < 128 → WithinBy size n g → WithinBy size (n + 2) (pair hi g)
+  by-pair s w = at-most (omega arith) (by-number s (λ v _ _. by-one s w))
 
-  within-repeat : (k K : ℕ) → k ≤ K → (g : Grammar) (n : ℕ) → Within n g → Within (n + K * s) (repeat k body g)
-  within-repeat k K h g n w =
-      within-more (repeat k body g) (n + k * s) (n + K * s) (omega (arith, mul-le-mul-right s h)) (within-times k g n w)
+  by-duties : (k d : ℕ) {g : Grammar} {n : ℕ} → WithinBy size n g → WithinBy size (n + k) (duties k d g)
+  by-duties zero d w = at-most (omega arith) w
+  by-duties (suc k) d w = at-most (omega arith) (by-number (lit< tt) (λ v _ _. by-duties k v w))
 
-within-bounds : (g : Grammar) (n : ℕ) → Within n g → Within (n + 4) (bounds g)
-within-bounds g n w =
-    within-more (bounds g) (n + 2 + 2) (n + 4) (omega arith) (within-pair 48 (pair 48 g) (n + 2) (lit< tt) (within-pair 48 g n (lit< tt) w))
+  module _ (body : Grammar → Grammar) (s : ℕ) (step : (g : Grammar) (n : ℕ) → WithinBy size n g → WithinBy size (n + s) (body g)) where
+    by-times : (k : ℕ) {g : Grammar} {n : ℕ} → WithinBy size n g → WithinBy size (n + k * s) (repeat k body g)
+    by-times zero w = at-most (omega arith) w
+    by-times (suc k) w = at-most (omega arith) (step _ _ (by-times k w))
 
-within-day : (r : ℕ) → r ≤ 16 → (g : Grammar) (n : ℕ) → Within n g → Within (n + 66) (day r g)
-within-day r h g n w =
-    within-more (day r g) (n + 16 * 4 + 1 + 1) (n + 66) (omega arith)
-    (within-one (range 0 48) (one (range 0 48) (repeat r bounds g)) (n + 16 * 4 + 1) (lit< tt)
-    (within-one (range 0 48) (repeat r bounds g) (n + 16 * 4) (lit< tt)
-    (within-repeat bounds 4 within-bounds r 16 h g n w)))
+    by-repeat : {k K : ℕ} {g : Grammar} {n : ℕ} → k ≤ K → WithinBy size n g → WithinBy size (n + K * s) (repeat k body g)
+    by-repeat {k} {K} h w = at-most (omega (arith, mul-le-mul-right s h)) (by-times k w)
 
-within-nurse : (d : ℕ) → d ≤ 31 → (g : Grammar) (n : ℕ) → Within n g → Within (n + 42) (nurse d g)
-within-nurse d h g n w =
-    let marks = repeat d mark g in
-    let bounded = pair 15 (pair 31 marks) in
-    within-number (range 0 4) (λ e. duties 6 e bounded) (n + 31 * 1 + 2 + 2 + 6) (n + 42) (omega arith) (lit< tt)
-    (λ v _ _. within-duties 6 v bounded (n + 31 * 1 + 2 + 2)
-    (within-pair 15 (pair 31 marks) (n + 31 * 1 + 2) (lit< tt)
-    (within-pair 31 marks (n + 31 * 1) (lit< tt)
-    (within-repeat mark 1 (λ g′ n′ w′. within-one (range 0 6) g′ n′ (lit< tt) w′) d 31 h g n w))))
+  by-bounds : (g : Grammar) (n : ℕ) → WithinBy size n g → WithinBy size (n + 4) (bounds g)
+  by-bounds g n w = at-most (omega arith) (by-pair (lit< tt) (by-pair (lit< tt) w))
 
-within-group : (m : ℕ) → m ≤ 48 → (g : Grammar) (n : ℕ) → Within n g → Within (n + 1) (group m g)
-within-group m h g n w = within-one (range 1 (2 ^ m - 1)) g n (let q : 2 ^ m ≤ 2 ^ 48 = pow-mono h in omega arith) w
+  by-day : {r : ℕ} → r ≤ 16 → (g : Grammar) (n : ℕ) → WithinBy size n g → WithinBy size (n + 66) (day r g)
+  by-day h g n w = at-most (omega arith) (by-one (lit< tt) (by-one (lit< tt) (by-repeat bounds 4 by-bounds h w)))
 
-module _ (h : Head) (hm : h .m ≤ 48) (hn : h .n ≤ 31) (hr : h .r ≤ 16) where
-  within-days : Within (0 + 31 * 66) (days h (h .n))
-  within-days = within-repeat (day (h .r)) 66 (within-day (h .r) hr) (h .n) 31 hn done 0 tt
+  by-nurse : {d : ℕ} → d ≤ 31 → (g : Grammar) (n : ℕ) → WithinBy size n g → WithinBy size (n + 42) (nurse d g)
+  by-nurse h g n w =
+      at-most (omega arith)
+      (by-number (lit< tt) (λ v _ _. by-duties 6 v
+      (by-pair (lit< tt) (by-pair (lit< tt)
+      (by-repeat mark 1 (λ _ _. by-one (lit< tt)) h w)))))
 
-  within-groups : Within (0 + 31 * 66 + 16 * 1) (groups h (h .r))
-  within-groups = within-repeat (group (h .m)) 1 (within-group (h .m) hm) (h .r) 16 hr (days h (h .n)) (0 + 31 * 66) within-days
+  by-group : {m : ℕ} → m ≤ 48 → (g : Grammar) (n : ℕ) → WithinBy size n g → WithinBy size (n + big) (group m g)
+  by-group {m} h g n w = let q : 2 ^ m ≤ 2 ^ 48 = pow-mono h in by-field (omega arith) (more-bytes (2 ^ m - 1)) (λ v _ _. w)
 
-  within-nurses : Within (0 + 31 * 66 + 16 * 1 + 48 * 42) (nurses h (h .m))
-  within-nurses = within-repeat (nurse (h .n)) 42 (within-nurse (h .n) hn) (h .m) 48 hm (groups h (h .r)) (0 + 31 * 66 + 16 * 1) within-groups
+  module _ (h : Head) (hm : h .m ≤ 48) (hn : h .n ≤ 31) (hr : h .r ≤ 16) where
+    by-rules : WithinBy size (4075 + 16 * big) (rules h)
+    by-rules =
+        at-most (omega arith)
+        (by-one (lit< tt) (by-one (lit< tt)
+        (by-repeat (one (range 1 5)) 1 (λ _ _. by-one (lit< tt)) (le-refl 3)
+        (by-one (lit< tt) (by-one (lit< tt)
+        (by-repeat (one (range 1 100)) 1 (λ _ _. by-one (lit< tt)) (le-refl 6)
+        (by-repeat (nurse (h .n)) 42 (by-nurse hn) hm
+        (by-repeat (group (h .m)) big (by-group hm) hr
+        (by-repeat (day (h .r)) 66 (by-day hr) hn (no-more {N = 0}))))))))))
 
-  within-rules : Within 4091 (rules h)
-  within-rules =
-      within-one (range 0 15) (one (range 1 3) (gaps h 3)) 4090 (lit< tt)
-      (within-one (range 1 3) (gaps h 3) 4089 (lit< tt)
-      (within-repeat (one (range 1 5)) 1 (λ g k w. within-one (range 1 5) g k (lit< tt) w) 3 3 (le-refl _) (limits h) 4086
-      (within-one (range 0 64) (one (range 1 6) (weights h 6)) 4085 (lit< tt)
-      (within-one (range 1 6) (weights h 6) 4084 (lit< tt)
-      (within-repeat (one (range 1 100)) 1 (λ g k w. within-one (range 1 100) g k (lit< tt) w) 6 6 (le-refl _) (nurses h (h .m)) 4078 within-nurses)))))
+  -- all but the groups' members fit one byte
+  pub ward-by : WithinBy size (4078 + 16 * big) ward
+  unfolding ward
+  ward-by =
+      at-most (omega arith)
+      (by-number (lit< tt) (λ m _ hm. by-number (lit< tt) (λ n _ hn. by-number (lit< tt) (λ r _ hr.
+      by-rules (record { m = m; n = n; r = r; edition = 1 }) hm hn hr))))
 
-within-sizes : (e m : ℕ) → m ≤ 48 → Within 4093 (sizes e m)
-within-sizes e m hm =
-    within-number (range 1 31) (λ n. number (range 0 16) (λ r. rules (record { m = m; n = n; r = r; edition = e }))) 4092 4093 (lit< tt) (lit< tt) (λ n _ hn.
-    within-number (range 0 16) (λ r. rules (record { m = m; n = n; r = r; edition = e })) 4091 4092 (lit< tt) (lit< tt)
-    (λ r _ hr. within-rules (record { m = m; n = n; r = r; edition = e }) hm hn hr))
+counted : {n : ℕ} {g : Grammar} → WithinBy (λ _. 1) n g → (N : ℕ) → n ≤ N → Within N g
+counted no-more N h = tt
+counted (and-then s r on) zero h = absurd (omega arith)
+counted (and-then s r on) (suc N) h = (s, λ v lo hi. counted (on v lo hi) N (omega arith))
 
 pub within-ward : Within 4094 ward
-unfolding ward
-within-ward = within-number (range 1 48) (λ m. sizes 1 m) 4093 4094 (lit< tt) (lit< tt) (λ m _ hm. within-sizes 1 m hm)
+within-ward = counted (ward-by (λ _. 1) 1 (λ m s. le-refl 1) (λ m. le-refl 1)) 4094 (le-refl 4094)

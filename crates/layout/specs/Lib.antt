@@ -1,4 +1,5 @@
 pub mod Grammar
 pub mod Layout
 pub mod CodePlace
+pub mod Faults
 pub mod CodeWant

@@ -27,7 +27,7 @@ leb-same a b m n f g = go (leb a b) (leb m n) refl refl
     go false true e h = absurd (omega (arith, g (leb-true m n h), leb-false a b e))
 
 -- the rule at the first start
-cond-same : (b : Bool) (x : ℕ) → cond b x x ≡ x
+pub cond-same : (b : Bool) (x : ℕ) → cond b x x ≡ x
 cond-same true x = refl
 cond-same false x = refl
 
@@ -41,7 +41,7 @@ too-near : (r : Rules) (a m : ℕ) → (m ≡ 0 → ⊥) → allowed r a m (suc 
 too-near r a m f =
     rw (ne-eqb m 0 f, ne-eqb (suc a) (a + 2) (λ (e : suc a ≡ a + 2). omega arith), lt-leb (a + 2 + gap r m) (suc a) (omega arith))
 
-run-some : (prev run s : ℕ) → runWith prev run s ≡ 0 → ⊥
+pub run-some : (prev run s : ℕ) → runWith prev run s ≡ 0 → ⊥
 run-some prev run s = go (eqb s (prev + 2))
   where
     go : (t : Bool) → cond t (run + 1) 1 ≡ 0 → ⊥

@@ -2,3 +2,4 @@ pub mod FollowLaws
 pub mod StartLaws
 pub mod HersLaws
 pub mod ListLaws
+pub mod RuleLaws

@@ -26,20 +26,30 @@ abbrev pub lastDuty : List ℕ → ℕ → ℕ
 lastDuty b zero = 0
 lastDuty b (suc k) = duty b k
 
--- the last start among her seven days' 2s, and the length of its run; 0 and 0 where there is none
-unfoldable pub lastRun : List ℕ → ℕ × ℕ
-lastRun b = through 0 0 (keep (λ d. eqb (lastDuty b d) 2) (upFrom 1 7))
+-- the 2s of her seven days
+abbrev pub twos : List ℕ → List ℕ
+twos b = keep (λ d. eqb (lastDuty b d) 2) (upFrom 1 7)
 
--- In the common list; its starts, with the 2s of her seven days, keep the rule wherever the later start is in the month;
--- her marks allow it; and its count is within her bounds.
-unfoldable pub hers : Rules → ℕ → List ℕ → ℕ → Bool
-hers r n b p =
-    ltb p (2 ^ n) && (inCommon r n p
-    && (follow r (lastRun b .0) (lastRun b .1) (shifted 7 (starts n p))
+-- the last of them, and the length of its run; 0 and 0 where there is none
+unfoldable pub lastRun : List ℕ → ℕ × ℕ
+lastRun b = through 0 0 (twos b)
+
+-- It meets what is hers: its starts, with the 2s of her seven days, keep the rule wherever the later start is in the month; her marks allow it;
+-- and its count is within her bounds.
+abbrev pub meetsHers : Rules → ℕ → List ℕ → ℕ → Bool
+meetsHers r n b p =
+    follow r (lastRun b .0) (lastRun b .1) (shifted 7 (starts n p))
     && (marksAllow b n p
-    && (leb (leastNightsOf b) (length (starts n p)) && leb (length (starts n p)) (mostNightsOf b)))))
+    && (leb (leastNightsOf b) (length (starts n p)) && leb (length (starts n p)) (mostNightsOf b)))
+
+-- in the common list, and meets what is hers
+unfoldable pub hers : Rules → ℕ → List ℕ → ℕ → Bool
+hers r n b p = ltb p (2 ^ n) && (inCommon r n p && meetsHers r n b p)
 
 -- nurse i's, from 0
+abbrev pub meetsHersOf : List ℕ → ℕ → ℕ → Bool
+meetsHersOf w i p = meetsHers (rulesOf w) (days w) (block w i) p
+
 abbrev pub hersOf : List ℕ → ℕ → ℕ → Bool
 hersOf w i p = hers (rulesOf w) (days w) (block w i) p
 

@@ -1,3 +1,4 @@
 pub mod Nights
 pub mod Hers
+pub mod NightRule
 pub mod CodeCommon

@@ -11,7 +11,7 @@ use lib.Pow.{shr-shr, shl-shr, field, mod-mod-pow}
 use borrow.Author.Tests.{eqb-true}
 use Rattle.numbers.specs.Range.{upFrom, keep, all}
 use Rattle.numbers.specs.Digits.{bit, has}
-use Rattle.numbers.proofs.RangeLaws.{length-range, range-at, all-at}
+use Rattle.numbers.proofs.RangeLaws.{length-range, range-at, range-below, keep-each, all-at}
 use Rattle.numbers.proofs.DigitLaws.{bit-lt, bit-or}
 
 -- ---- on a range
@@ -22,9 +22,7 @@ map-agree f g a zero h = refl
 map-agree f g a (suc n) h = rw (h a (omega arith) (omega arith), map-agree f g (suc a) n (λ x l k. h x (omega arith) (omega arith)))
 
 pub keep-agree : (t u : ℕ → Bool) (a n : ℕ) → ((x : ℕ) → a ≤ x → x < a + n → t x ≡ u x) → keep t (upFrom a n) ≡ keep u (upFrom a n)
-unfolding upFrom keep
-keep-agree t u a zero h = refl
-keep-agree t u a (suc n) h = rw (h a (omega arith) (omega arith), keep-agree t u (suc a) n (λ x l k. h x (omega arith) (omega arith)))
+keep-agree t u a n h = keep-each t u (upFrom a n) (λ i l. h (getD (upFrom a n) i 0) (range-below a n i l .0) (range-below a n i l .1))
 
 pub all-agree : (t u : ℕ → Bool) (a n : ℕ) → ((x : ℕ) → a ≤ x → x < a + n → t x ≡ u x) → all t (upFrom a n) ≡ all u (upFrom a n)
 unfolding upFrom all

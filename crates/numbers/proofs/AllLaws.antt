@@ -1,6 +1,6 @@
 -- A test of all the numbers below n: its turns as a loop, and what it says of each of them.
 use mathlib.Core.Path.{_≡_, refl, sym, ap, ap₂, _∙_}
-use mathlib.Core.Bool.{Bool, true, false, _&&_}
+use mathlib.Core.Bool.{Bool, true, false, _&&_, false≢true}
 use mathlib.Core.List.{List, [], _∷_, _++_}
 use Prim.Native.Nat.{ℕ, zero, suc, _+_, _<_}
 use native.Mathlib.Nat.{zero-add, le-suc, le-trans, lt-suc-self}
@@ -47,6 +47,17 @@ all-stop t n i l f = go (all t (upFrom 0 n)) refl
     go : (b : Bool) → all t (upFrom 0 n) ≡ b → all t (upFrom 0 n) ≡ false
     go true e = let d : t i ≡ true = all-each t n i e l in e ∙ sym d ∙ f
     go false e = e
+
+-- where not all pass, one fails
+pub all-fails : (t : ℕ → Bool) (n : ℕ) → all t (upFrom 0 n) ≡ false → (i : ℕ) × ((i < n) × (t i ≡ false))
+all-fails t zero e = absurd (false≢true (sym e ∙ all-none t))
+all-fails t (suc n) e = go (t n) refl (all-fails t n)
+  where
+    go : (b : Bool) → t n ≡ b → (all t (upFrom 0 n) ≡ false → (i : ℕ) × ((i < n) × (t i ≡ false))) → (i : ℕ) × ((i < suc n) × (t i ≡ false))
+    go false q f = (n, (lt-suc-self n, q))
+    go true q f =
+        let r = f (sym (and-true (all t (upFrom 0 n))) ∙ sym (all-more t n ∙ ap (λ (b : Bool). all t (upFrom 0 n) && b) q) ∙ ap (λ (k : ℕ). all t (upFrom 0 k)) (add-one n) ∙ e) in
+        (r .0, (le-trans (r .1 .0) (le-suc n), r .1 .1))
 
 -- all, from each of them
 pub all-if : (t : ℕ → Bool) (n : ℕ) → ((i : ℕ) → i < n → t i ≡ true) → all t (upFrom 0 n) ≡ true

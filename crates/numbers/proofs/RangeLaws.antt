@@ -46,10 +46,14 @@ range-done n d h =
 
 -- ---- what a test keeps
 
-pub keep-same : (t u : ℕ → Bool) → ((x : ℕ) → t x ≡ u x) → (xs : List ℕ) → keep t xs ≡ keep u xs
+-- tests that agree on each of a list keep the same of it
+pub keep-each : (t u : ℕ → Bool) (xs : List ℕ) → ((i : ℕ) → i < length xs → t (getD xs i 0) ≡ u (getD xs i 0)) → keep t xs ≡ keep u xs
 unfolding keep
-keep-same t u e [] = refl
-keep-same t u e (x ∷ xs) = rw (e x, keep-same t u e xs)
+keep-each t u [] h = refl
+keep-each t u (x ∷ xs) h = rw (h 0 (omega arith), keep-each t u xs (λ i l. h (suc i) (suc-le-suc l)))
+
+pub keep-same : (t u : ℕ → Bool) → ((x : ℕ) → t x ≡ u x) → (xs : List ℕ) → keep t xs ≡ keep u xs
+keep-same t u e xs = keep-each t u xs (λ i l. e (getD xs i 0))
 
 cond-append : (b : Bool) (x : ℕ) (xs ys : List ℕ) → cond b (x ∷ (xs ++ ys)) (xs ++ ys) ≡ cond b (x ∷ xs) xs ++ ys
 cond-append true x xs ys = refl

@@ -7,13 +7,12 @@ use native.Mathlib.Omega.{arith}
 use lib.ListN.{length, replicate, length-take}
 use Rattle.layout.specs.Grammar.{good, bad}
 use Rattle.ward.specs.Answers.{readWard}
-use Rattle.ward.proofs.RoundTrip.{ward-back}
-use Rattle.ward.proofs.BothWaysLaws.{all-bytes}
-use Rattle.ward.proofs.AcceptedLaws.{accepted-ward}
+use Rattle.ward.proofs.ReadingLaws.{read-accepted}
 use Rattle.history.specs.Phase.{Phase, Step, Call, No, Answer, refused, refusal, inTurn}
 use Rattle.history.specs.Record.{Record, total, best, stepped, proceed, replyOf}
 use Rattle.history.specs.Claim.{Demand3, orTen, AllRefused, Refusing}
-use Rattle.search.specs.Stored.{viewOf, store, allZero, refusalStored, replyStored, advanceStored, Sized, Fits}
+use Rattle.search.specs.Stored.{viewOf, store, allZero, refusalStored, replyStored, advanceStored, Sized}
+use Rattle.search.proofs.Fits.{Fits}
 use Rattle.search.specs.declared.Record.{Record as Stored}
 use Rattle.history.proofs.RunLaws.{by-turns}
 use Rattle.history.proofs.WithoutLaws.{all-refused, refusing}
@@ -23,9 +22,10 @@ use Rattle.phases.specs.Phases.{nightPhase, dayPhase, nightOf}
 use Rattle.planner.specs.Advances.{advanceOver}
 use Rattle.phases.proofs.PhaseLaws.{night-fits, day-fits}
 use Rattle.planner.proofs.DemandLaws.{advance-read, advance-without, advance-unread, demand}
+use Rattle.planner.specs.Demand3.{Rightly, Settled, UnlessRefused, Each}
 use Rattle.pantheryl.specs.Words.{wordsOfRecord}
 use Rattle.pantheryl.specs.Answers.{wordsLeft}
-use Rattle.pantheryl.specs.Demand.{byWords, keptWords, WordsDemanded}
+use Rattle.pantheryl.specs.Demand3.{byWords, keptWords, WordsDemanded}
 use Rattle.pantheryl.proofs.BackLaws.{read-back}
 
 -- ---- a record handed back has its declared sizes
@@ -130,12 +130,20 @@ words-unread phase file q p e cs =
 pub words-demand : WordsDemanded
 words-demand = record {
   accepted = λ file w bytes e.
-      let a = accepted-ward w w (ward-back file w (all-bytes file bytes) e .1) in
+      let a = read-accepted file w bytes e in
       let d = demand .accepted file w bytes e in
       record {
         nights = λ has cs. from-file nightPhase file w e (night-fits w a) cs (d .nights has cs);
         no-nights = words-without nightPhase file w e;
-        days = λ nights has cs. from-file (λ v. dayPhase v (nightOf nights)) file w e (day-fits w (nightOf nights) a) cs (d .days nights has cs .claim);
+        days = λ nights has cs.
+            let b = d .days nights has cs in
+            let c = from-file (λ v. dayPhase v (nightOf nights)) file w e (day-fits w (nightOf nights) a) cs (b .claim) in
+            let same = ap (λ (x : List Answer × Stored). x .0) (b .claim .follows) ∙ sym (ap (λ (x : List Answer × List ℕ). x .0) (c .follows)) in
+            record {
+              claim = c;
+              rosters = subst (Each (Rightly file)) same (b .rosters);
+              settled = subst (Each (UnlessRefused (Settled w (nightOf nights)))) same (b .settled);
+            };
         no-days = λ nights. words-without (λ v. dayPhase v (nightOf nights)) file w e;
       };
   unread = λ file q p e. record {

@@ -1,3 +1,4 @@
+pub mod Demand1Laws
 pub mod CopyLaws
 pub mod WordLaws
 pub mod AnswerLaws

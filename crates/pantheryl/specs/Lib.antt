@@ -2,4 +2,5 @@ pub mod Words
 pub mod Answers
 pub mod CodeWords
 pub mod Back
-pub mod Demand
+pub mod Demand1
+pub mod Demand3

@@ -16,9 +16,8 @@ use Rattle.penalty.specs.declared.duty.Duty.{Duty}
 use Rattle.penalty.specs.declared.Penalty.{Penalty}
 use Rattle.history.specs.Slot.{Slot}
 use Rattle.penalty.specs.Penalty.{partsOf, onDuty, members, shortOn, overOn, unplacedIn, nightParts, dayParts, partsIn}
-use Rattle.penalty.specs.CodeCounts.{Bounded}
+use Rattle.penalty.specs.CodeCounts.{Bounded, weightsOf, noHigh, Counts, membersIn, needTerm, lowTerm, highTerm, groupTerm, dutyShort, dutyOver, dutyCost, shortIn, overIn, DayCounts, shortAt, overAt}
 use Rattle.penalty.specs.CodeColumns.{Same, Shows}
-use Rattle.penalty.specs.CodeCounts.{weightsOf, noHigh, Counts, membersIn, needTerm, lowTerm, highTerm, groupTerm, dutyShort, dutyOver, dutyCost, shortIn, overIn, DayCounts, shortAt, overAt}
 use Rattle.penalty.proofs.FieldLaws.{length-masks}
 use Rattle.penalty.proofs.ColumnLaws.{count-same, all-same}
 

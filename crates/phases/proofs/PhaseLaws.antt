@@ -9,8 +9,8 @@ use Rattle.nights.proofs.ListLaws as night-laws
 use Rattle.days.proofs.SheetLaws as day-laws
 use Rattle.penalty.specs.Penalty.{rest, nightParts, dayParts, unplacedIn}
 use Rattle.penalty.proofs.BoundLaws.{night-split, day-split}
-use Rattle.history.specs.Claim.{Lawful}
-use Rattle.search.specs.Stored.{Fits}
+use Rattle.history.proofs.Lawful.{Lawful}
+use Rattle.search.proofs.Fits.{Fits}
 use Rattle.phases.specs.Phases.{nightPhase, dayPhase, dayListOver}
 
 -- ---- nights

@@ -20,7 +20,8 @@ use Rattle.history.specs.Slot.{Slot}
 use Rattle.history.specs.Phase.{Phase, No}
 use Rattle.history.specs.Record.{among, hers, names, lacking}
 use Rattle.removals.specs.Removals.{slot}
-use Rattle.search.specs.Stored.{slotAt, held, namesAt, unusedZero, soundStored, Sized, Fits}
+use Rattle.search.specs.Stored.{slotAt, held, namesAt, unusedZero, soundStored, Sized}
+use Rattle.search.proofs.Fits.{Fits}
 use Rattle.search.specs.declared.Record.{Record as Stored}
 use Rattle.history.proofs.TestLaws.{not-both, or-right}
 use Rattle.search.proofs.QuestionLaws.{question-eleven}

@@ -37,4 +37,3 @@ leftBy (ended e made pen roster) list buffer = list ++ drop (length list) buffer
 
 abbrev pub callOf : ℕ → ℕ → Call
 callOf k places = record { steps = k; places = places }
-

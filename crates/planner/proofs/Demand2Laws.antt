@@ -4,13 +4,16 @@ use mathlib.Core.Path.{_≡_, refl, sym, ap, _∙_}
 use mathlib.Core.Bool.{Bool, true, false, false≢true}
 use mathlib.Core.List.{List}
 use mathlib.Core.Option.{Option, none, some}
-use Rattle.fields.specs.Fields.{nurses, days}
+use Rattle.fields.specs.Fields.{nurses, days, longestDays, block}
 use Rattle.fields.specs.Rules.{rulesOf}
 use Rattle.layout.specs.Grammar.{Read, good, bad}
 use Rattle.ward.specs.Answers.{readWard}
+use Rattle.ward.proofs.ReadingLaws.{read-accepted}
 use Rattle.ward.proofs.BothWaysLaws.{both-ways}
 use Rattle.nights.proofs.ListLaws as night-laws
+use Rattle.nights.proofs.RuleLaws.{common-list-when, meets-when, hers-when, list-filtered}
 use Rattle.days.proofs.SheetLaws as day-laws
+use Rattle.days.proofs.WordsLaws.{rule-when}
 use Rattle.penalty.proofs.HeldLaws.{night-zero, night-held, day-zero, day-held}
 use Rattle.penalty.proofs.BoundLaws.{night-total-le, day-total-le}
 use Rattle.letters.specs.Letters.{misplaced}
@@ -69,7 +72,16 @@ demand2 = record {
   common-listed = λ w. night-laws.common-exactly (rulesOf w) (days w);
   nights-listed = night-laws.list-exactly;
   days-listed = day-laws.list-exactly;
-  by-night = λ w a. record { zero-when = λ slots. (night-zero w slots a, night-held w slots); most = λ slots. night-total-le w slots a };
-  by-day = λ w a. record { zero-when = λ slots. (day-zero w slots a, day-held w slots); most = λ slots. day-total-le w slots a };
+  nights-of-common = list-filtered;
+  means = λ file w bytes e.
+      let a = read-accepted file w bytes e in
+      record {
+        common-rule = λ p. common-list-when w p (a .run-some);
+        hers-rule = λ i p. meets-when w p (a .run-some) i;
+        night-rule = λ i p. hers-when w p (a .run-some) i;
+        day-rule = λ i p q. rule-when (block w i) (days w) (longestDays w) p q (a .day-run-most);
+        by-night = record { zero-when = λ slots. (night-zero w slots a, night-held w slots); most = λ slots. night-total-le w slots a };
+        by-day = record { zero-when = λ slots. (day-zero w slots a, day-held w slots); most = λ slots. day-total-le w slots a };
+      };
   check-yes = λ file roster. (yes-passes file roster, passes-yes file roster);
 }

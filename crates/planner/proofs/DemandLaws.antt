@@ -13,9 +13,7 @@ use Rattle.numbers.proofs.AllLaws.{all-each}
 use Rattle.fields.specs.Fields.{Accepted, nurses, days}
 use Rattle.layout.specs.Grammar.{Read, good, bad}
 use Rattle.ward.specs.Answers.{readWard}
-use Rattle.ward.proofs.RoundTrip.{ward-back}
-use Rattle.ward.proofs.BothWaysLaws.{all-bytes}
-use Rattle.ward.proofs.AcceptedLaws.{accepted-ward}
+use Rattle.ward.proofs.ReadingLaws.{read-accepted}
 use Rattle.nights.specs.Hers.{hersOf}
 use Rattle.days.specs.Days.{dayRuleOf, dayList}
 use Rattle.history.specs.Slot.{Slot, isNone}
@@ -40,7 +38,7 @@ use Rattle.rosters.proofs.GivenLaws.{duty-alike, members-alike, Patterns, place
 use Rattle.phases.specs.Phases.{nightPhase, nightsOpen, listsFit, dayListOver, dayPhase, nightOf}
 use Rattle.planner.specs.Advances.{advanceOver, advanceNights, advanceDays}
 use Rattle.planner.specs.Answers.{said, checkLetters, checkOver, checkSays}
-use Rattle.planner.specs.Demand.{NightPatterns, DayPatterns, Rightly, Each, NightDemand, DayDemand, Demanded}
+use Rattle.planner.specs.Demand3.{NightPatterns, DayPatterns, Rightly, Settled, UnlessRefused, Each, DayDemand, Demanded}
 use Rattle.phases.proofs.PhaseLaws.{night-fits, night-lawful, day-fits, day-lawful}
 
 -- ---- what is kept passes the test
@@ -68,6 +66,17 @@ module _ (w : List ℕ) (nights : ℕ → ℕ) where
       let nine = listsFit (dayListOver w nights) (nurses w) (c .places) in
       let seven = unless (leb (c .steps) 10000 && leb (steps + c .steps) 1000000) 7 0 in
       unless-none (nightsOpen w nights) 8 0 (first-none eight nine (first-none seven (first eight nine) e .1) .0)
+
+  settled : nightsOpen w nights ≡ true → Settled w nights
+  unfolding nightsOpen
+  settled o =
+      let parts = and-true (all (λ i. hersOf w i (nights i)) (upFrom 0 (nurses w))) (eqb (nightPenalty w (λ i. some (nights i))) 0) o in
+      record { hers = λ i l. all-each (λ j. hersOf w j (nights j)) (nurses w) i (parts .0) l; at-zero = eqb-true _ 0 (parts .1) }
+
+  pub each-settled : {cs : List Call} {l : List Answer} {h h″ : History} → Turns (dayPhase w nights) cs l h h″ → Each (UnlessRefused (Settled w nights)) l
+  each-settled done = tt
+  each-settled (turn (refuses e) ts) = (tt, each-settled ts)
+  each-settled (turn {c} {h} (goes e m) ts) = (settled (nights-open c _ e), each-settled ts)
 
   module _ (a : Accepted w) where
     -- everyone's slot at penalty zero is placed, so the penalty is that of the patterns alone
@@ -143,12 +152,12 @@ unfolding advanceOver
 advance-read phase file w e = ap (advanceOver phase) e
 
 module _ (file w : List ℕ) (reads : readWard file ≡ good w) (a : Accepted w) where
-  pub night-demand : NightPatterns w → (cs : List Call) → NightDemand file w cs
+  pub night-demand : NightPatterns w → (cs : List Call) → Demand3 (nightPhase w) allZero (advanceNights file) store cs
   night-demand has cs =
       subst (λ (adv : Call → Stored → Answer × Stored). Demand3 (nightPhase w) allZero adv store cs) (sym (advance-read nightPhase file w reads))
       (demand3-stored (nightPhase w) (night-lawful w a has) (night-fits w a) cs)
 
-  pub day-demand : (nights : List ℕ) → DayPatterns w (nightOf nights) → (cs : List Call) → DayDemand file w nights cs
+  pub day-demand : (nights : List ℕ) → DayPatterns w (nightOf nights) → (cs : List Call) → DayDemand file w nights allZero (advanceDays file nights) store cs
   day-demand nights has cs =
       let P = dayPhase w (nightOf nights) in
       let d : Demand3 P allZero (advanceDays file nights) store cs
@@ -157,6 +166,7 @@ module _ (file w : List ℕ) (reads : readWard file ≡ good w) (a : Accepted w)
       record {
         claim = d;
         rosters = rw (d .follows) (each-right w (nightOf nights) a file reads (d .each) (d .steps));
+        settled = rw (d .follows) (each-settled w (nightOf nights) (d .each));
       }
 
 -- one advance where a nurse has no pattern
@@ -174,7 +184,7 @@ advance-unread phase file q p c r e = rw e
 pub demand : Demanded
 demand = record {
   accepted = λ file w bytes e.
-      let a = accepted-ward w w (ward-back file w (all-bytes file bytes) e .1) in
+      let a = read-accepted file w bytes e in
       record {
         nights = night-demand file w e a;
         no-nights = refusing (nightPhase w) allZero (advanceNights file) (advance-without nightPhase file w e);

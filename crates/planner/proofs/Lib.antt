@@ -1,3 +1,5 @@
+pub mod Demand1Laws
+pub mod LetterFaultLaws
 pub mod DemandLaws
 pub mod Demand2Laws
 pub mod AnswerLaws

@@ -1,21 +1,24 @@
 -- Demand 2 in one record. What `read`, `write`, the lists, the penalties and `check` are is said by the definitions that their contracts cite;
 -- this is what holds of those definitions.
-use Prim.Native.Nat.{ℕ, _*_, _^_, _≤_}
+use Prim.Native.Nat.{ℕ, _*_, _^_, _≤_, _<_}
 use mathlib.Core.Path.{_≡_}
 use mathlib.Core.Bool.{true, _&&_}
 use mathlib.Core.Logic.{_↔_}
 use mathlib.Core.List.{List}
 use mathlib.Core.Option.{none}
 use lib.Dec.{ltb}
-use Rattle.numbers.specs.Range.{Exactly}
-use Rattle.fields.specs.Fields.{Accepted, nurses, days}
+use lib.ListN.{getD}
+use Rattle.numbers.specs.Range.{keep, Exactly}
+use Rattle.fields.specs.Fields.{nurses, days, longestDays, block}
 use Rattle.fields.specs.Rules.{rulesOf}
 use Rattle.layout.specs.Grammar.{good}
 use Rattle.ward.specs.Answers.{readWard}
 use Rattle.ward.specs.BothWays.{BothWays}
 use Rattle.nights.specs.Nights.{inCommon, commonOf}
-use Rattle.nights.specs.Hers.{hersOf, nightList}
+use Rattle.nights.specs.Hers.{meetsHersOf, hersOf, nightList}
+use Rattle.nights.specs.NightRule.{InCommonList, MeetsHers, NightHers}
 use Rattle.days.specs.Days.{dayRuleOf, dayList}
+use Rattle.days.specs.DayRule.{DayHers}
 use Rattle.history.specs.Slot.{Slot}
 use Rattle.penalty.specs.Penalty.{nightPenalty, dayPenalty}
 use Rattle.penalty.specs.Held.{NightHeld, DayHeld}
@@ -35,6 +38,17 @@ pub record Passes (file roster : List ℕ) : Type 0 where
   pub lettered : misplaced (nurses ward * days ward) roster ≡ none
   pub holds : Holds ward roster
 
+-- What holds of a ward that the reader accepts.
+pub record WardMeans (w : List ℕ) : Type 0 where
+  -- the rules that the lists go by, in document 01's words
+  pub common-rule : (p : ℕ) → ((ltb p (2 ^ days w) && inCommon (rulesOf w) (days w) p) ≡ true) ↔ InCommonList w p
+  pub hers-rule : (i p : ℕ) → (meetsHersOf w i p ≡ true) ↔ MeetsHers w i p
+  pub night-rule : (i p : ℕ) → (hersOf w i p ≡ true) ↔ NightHers w i p
+  pub day-rule : (i p q : ℕ) → (dayRuleOf w i p q ≡ true) ↔ DayHers (block w i) (days w) (longestDays w) p q
+  -- the penalties
+  pub by-night : Weighs (nightPenalty w) (NightHeld w)
+  pub by-day : Weighs (dayPenalty w) (DayHeld w)
+
 -- proofs/Demand2Laws shows it
 pub record Demand2 : Type 0 where
   -- reading and writing undo each other
@@ -43,8 +57,9 @@ pub record Demand2 : Type 0 where
   pub common-listed : (w : List ℕ) → Exactly (λ p. ltb p (2 ^ days w) && inCommon (rulesOf w) (days w) p) (commonOf w)
   pub nights-listed : (w : List ℕ) (i : ℕ) → Exactly (hersOf w i) (nightList w i)
   pub days-listed : (w : List ℕ) (i p : ℕ) → Exactly (dayRuleOf w i p) (dayList w i p)
-  -- the penalties
-  pub by-night : (w : List ℕ) → Accepted w → Weighs (nightPenalty w) (NightHeld w)
-  pub by-day : (w : List ℕ) → Accepted w → Weighs (dayPenalty w) (DayHeld w)
+  -- at night one list holds the ward's, and hers are exactly those in it that meet hers
+  pub nights-of-common : (w : List ℕ) (i : ℕ) → nightList w i ≡ keep (meetsHersOf w i) (commonOf w)
+  -- the rules and the penalties, of every ward that the reader says yes to
+  pub means : (file w : List ℕ) → ((i : ℕ) → getD file i 0 < 256) → readWard file ≡ good w → WardMeans w
   -- the check says yes exactly when every rule holds
   pub check-yes : (file roster : List ℕ) → (checkSays file roster ≡ said true) ↔ Passes file roster

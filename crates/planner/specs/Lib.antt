@@ -1,6 +1,8 @@
+pub mod Faults
+pub mod Demand1
 pub mod Advances
 pub mod Answers
-pub mod Demand
+pub mod Demand3
 pub mod Demand2
 pub mod Left
 pub mod Shown

@@ -35,8 +35,6 @@ storedRemoval x = record { nurse = x .nurse; has = flagOf (x .pattern); pattern 
 abbrev pub noRemoval : StoredRemoval
 noRemoval = record { nurse = 0; has = false; pattern = 0 }
 
-
-
 -- ---- unused fields
 
 -- an unplaced nurse's pattern; past nurse m the pattern and the flag

@@ -1,5 +1,6 @@
 -- A nurse's row: its state on each day, what her marks allow, when she is available, and the duty of a day.
--- `b` is her block of the ward's numbers, p a night pattern, q a day pattern, d a day of the month, from 1.
+-- `b` is her block of the ward's numbers, p a night pattern, q a day pattern, d a day of the month, from 1; where a definition takes a day's index, from 0,
+-- it says so.
 use mathlib.Core.Bool.{Bool, false, cond, _&&_, _||_}
 use mathlib.Core.List.{List, [], _∷_}
 use Prim.Native.Nat.{ℕ, zero, suc}
@@ -9,7 +10,7 @@ use Rattle.numbers.specs.Range.{upFrom, all}
 use Rattle.numbers.specs.Digits.{has}
 use Rattle.fields.specs.Fields.{duty, markOn}
 
--- a pattern is a set of days: day d has bit d - 1
+-- a pattern is a set of days: day d has bit d - 1, so that `has p` takes its index
 abbrev pub started : ℕ → ℕ → Bool
 started p zero = false
 started p (suc d) = has p d
@@ -55,11 +56,11 @@ unfoldable pub availableOn : List ℕ → ℕ → ℕ → Bool
 unfolding rowState
 availableOn b p d = available (markOn b d) (rowState b p d)
 
--- the starts of an unplaced nurse's row: her marks 3
+-- the starts of an unplaced nurse's row, by the day's index: her marks 3
 abbrev pub fixedNight : List ℕ → ℕ → Bool
 fixedNight b d = eqb (markOn b (suc d)) 3
 
--- the worked days of an unplaced nurse: her marks 2
+-- the worked days of an unplaced nurse, by the day's index: her marks 2
 abbrev pub fixedDay : List ℕ → ℕ → Bool
 fixedDay b d = eqb (markOn b (suc d)) 2
 

@@ -16,8 +16,10 @@ use Rattle.history.specs.Slot.{Slot}
 use Rattle.history.specs.Phase.{Step, Phase, Call, No, Answer, refused, ended, End, End·zero, End·asked, End·none, exchanges, run, refusal, given}
 use Rattle.history.specs.History.{History, penalty, extend, reply, advance}
 use Rattle.history.specs.Record.{Record, recordOf, mayTake, costAfter, total, best, stepped, proceed, among, hers, allName, lacking, sound, replyOf}
-use Rattle.history.specs.Claim.{Lawful, Demand3, Without, orTen}
-use Rattle.search.specs.Stored.{store, view, viewOf, allZero, unusedZero, soundStored, refusalStored, replyStored, advanceStored, Sized, Fits}
+use Rattle.history.specs.Claim.{Demand3, Without, orTen}
+use Rattle.history.proofs.Lawful.{Lawful}
+use Rattle.search.specs.Stored.{store, view, viewOf, allZero, unusedZero, soundStored, refusalStored, replyStored, advanceStored, Sized}
+use Rattle.search.proofs.Fits.{Fits}
 use Rattle.best.specs.CodeBest.{bestOver, found}
 use Rattle.search.specs.CodeSteps.{exchangedIn, steppedOf}
 use Rattle.search.specs.declared.Record.{Record as Stored}

@@ -1,6 +1,7 @@
-pub mod Worked
+pub mod Fits
 pub mod ViewLaws
 pub mod StoredLaws
 pub mod AdvanceLaws
 pub mod QuestionLaws
+pub mod SoundLaws
 pub mod SeekLaws

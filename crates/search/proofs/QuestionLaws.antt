@@ -13,7 +13,8 @@ use Rattle.numbers.proofs.AllLaws.{all-none, all-more, all-same}
 use Rattle.history.specs.Phase.{Phase}
 use Rattle.history.specs.Record.{hers, names, allName, sound}
 use Rattle.removals.specs.Removals.{slot, removalOf, noRemoval}
-use Rattle.search.specs.Stored.{slotAt, held, view, viewOf, namesAt, unusedZero, soundStored, Sized, Fits}
+use Rattle.search.specs.Stored.{slotAt, held, view, viewOf, namesAt, unusedZero, soundStored, Sized}
+use Rattle.search.proofs.Fits.{Fits}
 use Rattle.search.specs.declared.Record.{Record as Stored}
 use Rattle.removals.specs.declared.Removal.{Removal as StoredRemoval}
 use Rattle.history.proofs.TestLaws.{and-assoc, and-with-true}

@@ -33,7 +33,8 @@ use Rattle.penalty.proofs.BoundLaws.{night-split, day-split, unplaced-after}
 use Rattle.history.specs.Phase.{Phase}
 use Rattle.history.specs.Record.{Record, mayTake}
 use Rattle.removals.specs.Removals.{slot}
-use Rattle.search.specs.Stored.{slotAt, view, viewOf, Fits}
+use Rattle.search.specs.Stored.{slotAt, view, viewOf}
+use Rattle.search.proofs.Fits.{Fits}
 use Rattle.best.specs.CodeBest.{overList, costIn, bestOver, considered, improves}
 use Rattle.search.specs.CodeSteps.{exchangedIn, steppedOf}
 use Rattle.search.specs.CodeSeek.{costOf, patternFor, Agree, stretch, Seeks}

@@ -257,7 +257,7 @@ same-removal x e = go (x .has) refl
     go true q = stored-removal-path refl (rw q) (rw q)
     go false q = stored-removal-path refl (rw q) (rw q (sym (eqb-true (x .pattern) 0 (rw q at e))))
 
-no-removal : (x : StoredRemoval) → (eqb (x .nurse) 0 && (not (x .has) && eqb (x .pattern) 0)) ≡ true → noRemoval ≡ x
+pub no-removal : (x : StoredRemoval) → (eqb (x .nurse) 0 && (not (x .has) && eqb (x .pattern) 0)) ≡ true → noRemoval ≡ x
 no-removal x e =
     let a = and-parts (eqb (x .nurse) 0) (not (x .has) && eqb (x .pattern) 0) e in
     let b = and-parts (not (x .has)) (eqb (x .pattern) 0) (a .1) in

@@ -1,4 +1,4 @@
--- What the code makes of a record and of the exchanges, in its own steps: proofs/StoredLaws and proofs/BestLaws show that it is the meaning.
+-- What the code makes of a stored record in a step. proofs/StoredLaws shows that it is the meaning.
 use Prim.Native.Nat.{ℕ, suc, _+_}
 use mathlib.Core.Bool.{true, false}
 use mathlib.Core.Option.{none, some}

@@ -1,3 +1,4 @@
 pub mod Stored
 pub mod CodeSteps
 pub mod CodeSeek
+pub mod Sound

@@ -1,5 +1,5 @@
 -- How a record is stored, what a stored record of any content stands for, and the advances over stored records.
-use Prim.Native.Nat.{ℕ, _+_, _-_, _≤_, min}
+use Prim.Native.Nat.{ℕ, _+_, _-_, min}
 use mathlib.Core.Path.{_≡_}
 use mathlib.Core.Bool.{Bool, false, cond, _&&_}
 use mathlib.Core.List.{List, _++_, map}
@@ -90,8 +90,3 @@ pub record Sized (r : Stored) : Type 0 where
   pub patterns-long : length (r .patterns) ≡ 48
   pub placed-long : length (r .placed) ≡ 48
   pub removals-long : length (r .removals) ≡ 64
-
--- the most nurses, and the most removals, that there are places for
-pub record Fits (P : Phase) : Type 0 where
-  pub nurses-most : P .nurses ≤ 48
-  pub tabu-most : P .tabu ≤ 64

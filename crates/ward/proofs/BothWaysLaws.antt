@@ -1,12 +1,12 @@
 -- Reading and writing undo each other.
-use Prim.Native.Nat.{ℕ, suc, _+_, _-_, _≤_, _<_}
+use Prim.Native.Nat.{ℕ, _-_, _≤_}
 use mathlib.Core.Bool.{Bool, true, false, cond}
 use mathlib.Core.Path.{_≡_, refl, sym, ap, _∙_, subst}
-use mathlib.Core.List.{List, [], _∷_, _++_, append-assoc}
+use mathlib.Core.List.{List, _++_, append-assoc}
 use native.Mathlib.Omega.{arith}
 use borrow.Author.Tests.{le-ltb}
 use lib.Dec.{ltb}
-use lib.ListN.{length, take, drop, getD, replicate}
+use lib.ListN.{length, take, drop, replicate}
 use lib.Seq.{take-at}
 use Rattle.ward.specs.declared.Writing.{Writing}
 use Rattle.ward.specs.declared.Answer.the-variants.{Yes, No}
@@ -14,13 +14,10 @@ use Rattle.layout.specs.Grammar.{Read, good, bad, bytesOf}
 use Rattle.layout.specs.Layout.{ward}
 use Rattle.ward.specs.Answers.{readWard, readingOf, refusedOf, counted, checkWard, writingOf, leftOf}
 use Rattle.ward.specs.BothWays.{BothWays}
+use Rattle.codec.proofs.NumberLaws.{AllBytes, all-bytes}
 use Rattle.layout.proofs.AcceptLaws.{accepted}
 use Rattle.layout.proofs.WithinLaws.{within-ward}
-use Rattle.ward.proofs.RoundTrip.{AllBytes, ward-out, ward-back}
-
-pub all-bytes : (bs : List ℕ) → ((i : ℕ) → getD bs i 0 < 256) → AllBytes bs
-all-bytes [] h = tt
-all-bytes (b ∷ bs) h = (h 0, all-bytes bs (λ i. h (suc i)))
+use Rattle.ward.proofs.RoundTrip.{ward-out, ward-back}
 
 pub counted-read : (ws : List ℕ) → counted (readingOf (good ws) .ward) ≡ ws
 unfolding counted readingOf

@@ -1,3 +1,4 @@
+pub mod FaultLaws
 pub mod ReadLaws
 pub mod WriteLaws
 pub mod BufLaws

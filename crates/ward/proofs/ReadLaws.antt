@@ -12,11 +12,11 @@ use Rattle.codec.specs.declared.Number.the-variants.{Value, Ended, Long}
 use Rattle.layout.specs.declared.Want.the-variants.{Next, Nothing}
 use Rattle.ward.specs.declared.Reading.{Reading}
 use Rattle.codec.specs.Codec.{decode}
-use Rattle.layout.specs.Grammar.{Grammar, asked, Read, good, bad, prepend, read}
+use Rattle.layout.specs.Grammar.{Grammar, asked, good, prepend, read}
 use Rattle.layout.specs.CodeWant.{wanted, after, Within}
 use Rattle.layout.specs.Layout.{ward}
 use Rattle.ward.specs.Answers.{readWard, readingOf, refusedOf}
-use Rattle.layout.proofs.GrammarLaws.{within-step, prepend-more, read-good, read-ended, read-long, read-failed, read-over, read-extra, inside}
+use Rattle.layout.proofs.GrammarLaws.{within-step, prepend-nil, prepend-more, read-good, read-ended, read-long, read-failed, read-over, read-extra, inside}
 use Rattle.layout.proofs.WithinLaws.{within-ward}
 
 -- `count` numbers are read and stand at the array's front, zeros after them; the grammar g is left to read at the offset `at`
@@ -27,10 +27,6 @@ pub record So (file numbers : List ℕ) (count at : ℕ) (g : Grammar) : Type 0 
   pub room : Within (4094 - count) g
   pub inFile : at ≤ length file
   pub same : readWard file ≡ prepend (take count numbers) (read g at (drop at file))
-
-prepend-nil : (r : Read) → r ≡ prepend [] r
-prepend-nil (good ws) = refl
-prepend-nil (bad q p) = refl
 
 pub begin : (file : List ℕ) → So file (replicate 4094 0) 0 0 ward
 unfolding readWard
@@ -72,7 +68,7 @@ module _ (file numbers : List ℕ) (count at : ℕ) (g : Grammar) (so : So file 
           zeros = more-zeros;
           room = subst (λ (n : ℕ). Within n (after g v)) fewer (within-step (4094 - count) g f v (so .room) e a .1);
           inFile = past-end;
-          same = so .same ∙ ap (prepend (take count numbers)) (read-good g f at (drop at file) e v used d a) ∙ prepend-more (take count numbers) v (read (after g v) (at + used) (drop used (drop at file))) ∙ onward;
+          same = so .same ∙ ap (prepend (take count numbers)) (read-good g f at (drop at file) e v used d a) ∙ prepend-more (take count numbers) (v ∷ []) (read (after g v) (at + used) (drop used (drop at file))) ∙ onward;
         }
           where
             fewer : 4094 - count - 1 ≡ 4094 - (count + 1)

@@ -10,9 +10,12 @@ use Rattle.ward.specs.declared.Reading.{Reading}
 use Rattle.layout.specs.Grammar.{Read, good, bad}
 use Rattle.ward.specs.Answers.{refusedOf, readingOf, readWard}
 use Rattle.fields.specs.Fields.{Accepted}
+use Rattle.codec.proofs.NumberLaws.{all-bytes}
 use Rattle.ward.proofs.RoundTrip.{ward-back}
-use Rattle.ward.proofs.BothWaysLaws.{all-bytes}
 use Rattle.ward.proofs.AcceptedLaws.{accepted-ward}
+
+pub read-accepted : (file ws : List ℕ) → ((i : ℕ) → getD file i 0 < 256) → readWard file ≡ good ws → Accepted ws
+read-accepted file ws bytes e = accepted-ward ws ws (ward-back file ws (all-bytes file bytes) e .1)
 
 pub reading-accepted : (file : List ℕ) (r : Reading) → ((i : ℕ) → getD file i 0 < 256) → r ≡ readingOf (readWard file) → r .answer ≡ Yes
     → Accepted (take (r .ward .count) (r .ward .numbers))
@@ -22,9 +25,8 @@ reading-accepted file r bytes e told = go (readWard file) refl
     go : (x : Read) → readWard file ≡ x → Accepted (take (r .ward .count) (r .ward .numbers))
     go (good ws) q =
         let same : r ≡ readingOf (good ws) = e ∙ ap readingOf q in
-        let ok = accepted-ward ws ws (ward-back file ws (all-bytes file bytes) q .1) in
         let is : take (r .ward .count) (r .ward .numbers) ≡ ws = ap (λ (y : Reading). take (y .ward .count) (y .ward .numbers)) same ∙ take-at ws _ (length ws) refl in
-        subst Accepted (sym is) ok
+        subst Accepted (sym is) (read-accepted file ws bytes q)
     go (bad k p) q =
         let same : r ≡ readingOf (bad k p) = e ∙ ap readingOf q in
         let refused : r .answer ≡ No k p = ap (λ (y : Reading). y .answer) same in

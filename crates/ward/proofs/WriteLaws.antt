@@ -12,12 +12,12 @@ use Rattle.ward.specs.declared.Checked.{Checked}
 use Rattle.ward.specs.declared.Answer.the-variants.{Yes, No}
 use Rattle.layout.specs.declared.Want.the-variants.{Next, Nothing}
 use Rattle.codec.specs.Codec.{encode}
-use Rattle.layout.specs.Grammar.{Grammar, asked, Read, good, bad, prepend, check, bytesOf}
+use Rattle.layout.specs.Grammar.{Grammar, asked, good, bad, prepend, check, bytesOf}
 use Rattle.layout.specs.CodeWant.{wanted, after, Within, Small}
 use Rattle.layout.specs.Layout.{ward}
 use Rattle.ward.specs.Answers.{counted, checkWard}
 use Rattle.ward.specs.CodeChecked.{checkedOf}
-use Rattle.layout.proofs.GrammarLaws.{in-range, small, within-some, within-step, prepend-more, check-good, check-failed, check-missing, check-over, check-extra}
+use Rattle.layout.proofs.GrammarLaws.{in-range, small, within-some, within-step, prepend-nil, prepend-more, check-good, check-failed, check-missing, check-over, check-extra}
 use Rattle.layout.proofs.WithinLaws.{within-ward}
 use Rattle.codec.proofs.EncodeLaws.{encode-most}
 
@@ -70,10 +70,6 @@ pub record Walked (w : Ward) (i bytes : ℕ) (g : Grammar) : Type 0 where
   pub room : Within (4094 - i) g
   pub sum : bytes ≡ length (bytesOf (take i (counted w)))
   pub same : checkWard (counted w) ≡ prepend (take i (counted w)) (check g i (drop i (counted w)))
-
-prepend-nil : (r : Read) → r ≡ prepend [] r
-prepend-nil (good ws) = refl
-prepend-nil (bad q p) = refl
 
 pub begin : (w : Ward) → length (w .numbers) ≡ 4094 → Walked w 0 0 ward
 unfolding checkWard bytesOf
@@ -137,7 +133,7 @@ module _ (w : Ward) (i bytes : ℕ) (g : Grammar) (so : Walked w i bytes g) wher
             onward :
                 prepend (take i (counted w)) (prepend (getD (w .numbers) i 0 ∷ []) (check (after g (getD (w .numbers) i 0)) (i + 1) (drop (i + 1) (counted w))))
                 ≡ prepend (take (i + 1) (counted w)) (check (after g (getD (w .numbers) i 0)) (i + 1) (drop (i + 1) (counted w)))
-            onward = prepend-more (take i (counted w)) (getD (w .numbers) i 0) (check (after g (getD (w .numbers) i 0)) (i + 1) (drop (i + 1) (counted w))) ∙ rw (← front)
+            onward = prepend-more (take i (counted w)) (getD (w .numbers) i 0 ∷ []) (check (after g (getD (w .numbers) i 0)) (i + 1) (drop (i + 1) (counted w))) ∙ rw (← front)
 
   module _ (e : wanted g ≡ Nothing) where
     pub extra : i < w .count → _≡_ {A = Checked} (record { answer = No 5 i; bytes = 0 }) (checkedOf (checkWard (counted w)))

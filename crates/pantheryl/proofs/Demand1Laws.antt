@@ -1,0 +1,102 @@
+-- Demand 1 through the C interface: the words of a refusal, and the memory that it leaves, are those of the planner's refusal.
+use Prim.Native.Nat.{ℕ}
+use mathlib.Core.Path.{_≡_, ap}
+use mathlib.Core.Bool.{Bool, true, false, cond}
+use mathlib.Core.List.{List}
+use mathlib.Core.Option.{none, some, Option·none-ne-some}
+use lib.Dec.{eqb}
+use lib.ListN.{length}
+use Rattle.ward.specs.Answers.{readWard, readingOf, counted, checkWard, writingOf}
+use Rattle.ward.specs.declared.Answer.{Answer as WardAnswer}
+use Rattle.ward.specs.declared.Answer.the-variants.{Yes, No}
+use Rattle.ward.specs.declared.Reading.{Reading}
+use Rattle.history.specs.Phase.{Answer, refused, ended}
+use Rattle.history.specs.Phase as phases
+use Rattle.search.specs.Stored.{Sized}
+use Rattle.search.specs.declared.Record.{Record as Stored}
+use Rattle.phases.specs.Outcomes.{leftBy, callOf}
+use Rattle.planner.specs.Answers.{Said, said, checkSays}
+use Rattle.planner.specs.Answers as checks
+use Rattle.planner.specs.Left.{listOf, listsOf, nightLeft, dayLeft}
+use Rattle.planner.specs.Demand1.{noInAnswer, noInSaid}
+use Rattle.planner.proofs.Demand1Laws.{noIn, nights-answer, days-answer, demand1}
+use Rattle.pantheryl.specs.Words.{recordOfWords}
+use Rattle.pantheryl.specs.Answers.{countWords, readWords, numbersLeft, wardOf, writeWords, advanceWords, wordsLeft, nightsFrom, daysFrom, rosterLeft, checkWords}
+use Rattle.pantheryl.proofs.WordLaws.{patterns-long, flags-long, removals-long}
+use Rattle.pantheryl.specs.Demand1.{noInWords, WordsDemand1}
+
+-- ---- the refusal in an answer's words is that of the answer
+
+-- where the words say a refusal they are not those of question 0
+said-no : (b : Bool) (n m : phases.No) → cond b none (some n) ≡ some m → some n ≡ some m
+said-no true n m e = absurd (Option·none-ne-some m e)
+said-no false n m e = e
+
+count-no : (a : WardAnswer) (count : ℕ) (n : phases.No) → noInWords (countWords a count) ≡ some n → noInAnswer a ≡ some n
+count-no Yes count n e = absurd (Option·none-ne-some n e)
+count-no (No q p) count n e = said-no (eqb q 0) (record { question = q; place = p }) n e
+
+advance-no : (a : Answer) (n : phases.No) → noInWords (advanceWords a) ≡ some n → noIn a ≡ some n
+unfolding advanceWords
+advance-no (refused m) n e = said-no (eqb (m .question) 0) m n e
+advance-no (ended end steps penalty letters) n e = absurd (Option·none-ne-some n e)
+
+check-no : (s : Said) (n : phases.No) → noInWords (checkWords s) ≡ some n → noInSaid s ≡ some n
+check-no (checks.refused m) n e = said-no (eqb (m .question) 0) m n e
+check-no (said true) n e = absurd (Option·none-ne-some n e)
+check-no (said false) n e = absurd (Option·none-ne-some n e)
+
+-- ---- a record read from words has its declared sizes
+
+words-sized : (words : List ℕ) → length words ≡ 289 → Sized (recordOfWords words)
+unfolding recordOfWords
+words-sized words l = record { patterns-long = patterns-long words l; placed-long = flags-long words l; removals-long = removals-long words l }
+
+pub words-demand1 : WordsDemand1
+unfolding advanceWords wordsLeft rosterLeft nightLeft dayLeft leftBy
+words-demand1 = record {
+  read = λ file bytes numbers.
+      let f = demand1 .read file bytes in
+      let x = readingOf (readWard file) in
+      record {
+        only = λ q p e. f .only q p (count-no (x .answer) (x .ward .count) (record { question = q; place = p }) e);
+        always = λ q p w. let s = f .always q p w .0 in (ap readWords s, ap (λ (x : Reading). numbersLeft x numbers) s);
+      };
+  write = λ numbers count buffer.
+      let f = demand1 .write (wardOf numbers count) buffer in
+      let x = writingOf (length buffer) (checkWard (counted (wardOf numbers count))) in
+      record {
+        only = λ q p e. f .only q p (count-no (x .answer) (x .bytes) (record { question = q; place = p }) e);
+        always = λ q p w. let s = f .always q p w in (ap writeWords (s .0), s .1);
+      };
+  nights = λ file bytes words l k buffer.
+      let f = nights-answer file bytes (recordOfWords words) (words-sized words l) (callOf k (length buffer)) in
+      record {
+        only = λ q p e. f .only q p (advance-no (nightsFrom file words k buffer .0) (record { question = q; place = p }) e);
+        always = λ q p w.
+            let s = f .always q p w in (
+              ap (λ (x : Answer × Stored). advanceWords (x .0)) s,
+              (ap (λ (x : Answer × Stored). wordsLeft x words) s, ap (λ (x : Answer × Stored). leftBy (x .0) (listOf (readWard file)) buffer) s),
+            );
+      };
+  days = λ file bytes nights words l k buffer roster.
+      let f = days-answer file bytes (recordOfWords words) (words-sized words l) (callOf k (length buffer)) nights in
+      record {
+        only = λ q p e. f .only q p (advance-no (daysFrom file nights words k buffer .0) (record { question = q; place = p }) e);
+        always = λ q p w.
+            let s = f .always q p w in (
+              ap (λ (x : Answer × Stored). advanceWords (x .0)) s,
+              (
+                ap (λ (x : Answer × Stored). wordsLeft x words) s,
+                ap (λ (x : Answer × Stored). leftBy (x .0) (listsOf (readWard file) nights) buffer) s,
+                ap (λ (x : Answer × Stored). rosterLeft (x .0) roster) s,
+              ),
+            );
+      };
+  check = λ file bytes roster.
+      let f = demand1 .check file bytes roster in
+      record {
+        only = λ q p e. f .only q p (check-no (checkSays file roster) (record { question = q; place = p }) e);
+        always = λ q p w. (ap checkWords (f .always q p w .0), tt);
+      };
+}
