@@ -1,47 +1,40 @@
--- What the definitions come to on the ward worked through in document 01, and on rows that single rules forbid.
+-- What the day rule comes to on rows that single rules forbid, and on one nurse's days, computed by the prover.
 use mathlib.Core.Path.{_≡_, refl}
 use mathlib.Core.Bool.{true, false}
-use mathlib.Core.List.{List, [], _∷_}
+use mathlib.Core.List.{List, [], _∷_, _++_}
 use Prim.Native.Nat.{ℕ}
-use Rattle.numbers.specs.Range.{upFrom, keep, all}
-use Rattle.fields.specs.Fields.{block, blockAt}
-use Rattle.rows.specs.Rows.{rowState, availableOn, dutyOn}
 use lib.ListN.{getD}
-use Rattle.days.specs.Days.{choice, rowDuty, same, anyOf, freeOf, windowsHold, rests, dayRule, dayList}
+use Rattle.numbers.specs.Range.{upFrom, keep, all}
+use Rattle.rows.specs.Rows.{rowState, availableOn, dutyOn}
+use Rattle.days.specs.Days.{choice, rowDuty, same, anyOf, freeOf, windowsHold, rests, dayRule}
 
-abbrev worked : List ℕ
-worked =
-    2 ∷ 3 ∷ 0 ∷ 1 ∷ 1 ∷ 1 ∷ 1 ∷ 1 ∷ 2 ∷ 3 ∷ 1 ∷ 1 ∷ 1 ∷ 1 ∷ 1 ∷ 1
-    ∷ 0 ∷ 0 ∷ 0 ∷ 0 ∷ 0 ∷ 0 ∷ 0 ∷ 0 ∷ 1 ∷ 0 ∷ 3 ∷ 0 ∷ 0 ∷ 0
-    ∷ 0 ∷ 0 ∷ 0 ∷ 0 ∷ 0 ∷ 0 ∷ 0 ∷ 0 ∷ 1 ∷ 0 ∷ 3 ∷ 0 ∷ 0 ∷ 1
-    ∷ 1 ∷ 1 ∷ 0 ∷ 1 ∷ 0 ∷ 0 ∷ []
+-- a row whose month is the one day at place 7, with D 3
+abbrev holdsAt7 : List ℕ → Type 0
+holdsAt7 duties = windowsHold (λ t. getD duties t 0) 3 7 ≡ true
 
--- nurse 1 starts a night on day 1, nurse 2 has no night and rests on day 3
-pub first-nurse : dayList worked 0 1 ≡ 0 ∷ []
-unfolding dayList dayRule choice rowDuty same anyOf freeOf windowsHold rests upFrom keep all block blockAt rowState availableOn dutyOn
-first-nurse = refl
+abbrev broken : List ℕ → Type 0
+broken duties = windowsHold (λ t. getD duties t 0) 3 7 ≡ false
 
-pub second-nurse : dayList worked 1 0 ≡ 0 ∷ 1 ∷ 2 ∷ 3 ∷ []
-unfolding dayList dayRule choice rowDuty same anyOf freeOf windowsHold rests upFrom keep all block blockAt rowState availableOn dutyOn
-second-nurse = refl
+-- her day patterns in a month of two days with D 3: no nights, bounds or marks, after these seven days
+abbrev after : List ℕ → List ℕ
+after seven = keep (dayRule (seven ++ (0 ∷ 15 ∷ 0 ∷ 31 ∷ 0 ∷ 0 ∷ [])) 2 3 0) (upFrom 0 4)
 
--- Rows whose month is the one day at place 7, with D 3: four days running; three with other duty before them; no rest in seven days;
--- rest, day, rest, day, rest.
-abbrev rowOf : List ℕ → ℕ → ℕ
-rowOf duties t = getD duties t 0
+pub record RowsShown : Type 0 where
+  pub four-days : broken (0 ∷ 0 ∷ 0 ∷ 0 ∷ 1 ∷ 1 ∷ 1 ∷ 1 ∷ [])
+  pub other-is-not-day : holdsAt7 (0 ∷ 0 ∷ 0 ∷ 0 ∷ 4 ∷ 1 ∷ 1 ∷ 1 ∷ [])
+  pub no-rest : broken (0 ∷ 1 ∷ 4 ∷ 1 ∷ 4 ∷ 1 ∷ 4 ∷ 1 ∷ [])
+  pub rest-day-rest-day-rest : broken (0 ∷ 0 ∷ 0 ∷ 0 ∷ 1 ∷ 0 ∷ 1 ∷ 0 ∷ [])
+  -- after three day duties she works day 1 no more
+  pub three-before : after (0 ∷ 0 ∷ 0 ∷ 0 ∷ 1 ∷ 1 ∷ 1 ∷ []) ≡ 0 ∷ 2 ∷ []
+  pub none-before : after (0 ∷ 0 ∷ 0 ∷ 0 ∷ 0 ∷ 0 ∷ 0 ∷ []) ≡ 0 ∷ 1 ∷ 2 ∷ 3 ∷ []
 
-pub four-days : windowsHold (rowOf (0 ∷ 0 ∷ 0 ∷ 0 ∷ 1 ∷ 1 ∷ 1 ∷ 1 ∷ [])) 3 7 ≡ false
-unfolding windowsHold same anyOf freeOf upFrom all
-four-days = refl
-
-pub other-is-not-day : windowsHold (rowOf (0 ∷ 0 ∷ 0 ∷ 0 ∷ 4 ∷ 1 ∷ 1 ∷ 1 ∷ [])) 3 7 ≡ true
-unfolding windowsHold same anyOf freeOf upFrom all
-other-is-not-day = refl
-
-pub no-rest : windowsHold (rowOf (0 ∷ 1 ∷ 4 ∷ 1 ∷ 4 ∷ 1 ∷ 4 ∷ 1 ∷ [])) 3 7 ≡ false
-unfolding windowsHold same anyOf freeOf upFrom all
-no-rest = refl
-
-pub rest-day-rest-day-rest : windowsHold (rowOf (0 ∷ 0 ∷ 0 ∷ 0 ∷ 1 ∷ 0 ∷ 1 ∷ 0 ∷ [])) 3 7 ≡ false
-unfolding windowsHold same anyOf freeOf upFrom all
-rest-day-rest-day-rest = refl
+pub rows-shown : RowsShown
+unfolding dayRule choice rowDuty same anyOf freeOf windowsHold rests upFrom keep all rowState availableOn dutyOn
+rows-shown = record {
+  four-days = refl;
+  other-is-not-day = refl;
+  no-rest = refl;
+  rest-day-rest-day-rest = refl;
+  three-before = refl;
+  none-before = refl;
+}

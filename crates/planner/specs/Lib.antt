@@ -5,5 +5,5 @@ pub mod Answers
 pub mod Demand3
 pub mod Demand2
 pub mod Left
-pub mod Shown
+pub mod Worked
 pub mod Table

@@ -1,4 +1,3 @@
 pub mod Check
 pub mod CodeBounds
-pub mod Shown
 pub mod CodeCheck

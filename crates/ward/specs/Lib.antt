@@ -1,4 +1,3 @@
 pub mod Answers
 pub mod BothWays
-pub mod Examples
 pub mod CodeChecked

@@ -1,0 +1,254 @@
+-- What the definitions come to, computed by the prover, on the ward worked through in document 01 and on the second one of fields/specs/Worked.antt.
+use Prim.Native.Nat.{ℕ, zero, suc}
+use mathlib.Core.Path.{_≡_, refl}
+use mathlib.Core.Bool.{true, false}
+use mathlib.Core.List.{List, [], _∷_, _++_}
+use mathlib.Core.Option.{some}
+use lib.ListN.{take, set}
+use Rattle.numbers.specs.Range.{upFrom, keep, all}
+use Rattle.numbers.specs.Sum.{sumTo}
+use Rattle.numbers.specs.Digits.{numberOf}
+use Rattle.codec.specs.Codec.{encode, decode}
+use Rattle.layout.specs.Grammar.{good, bad, read, check, asked, bytesOf}
+use Rattle.ward.specs.Answers.{readWard, checkWard}
+use Rattle.fields.specs.Fields.{blockAt, block, groupsAt, masks, needsAt, needs}
+use Rattle.fields.specs.Worked.{worked, second}
+use Rattle.rows.specs.Rows.{rowState, marksAllow, availableOn, dutyOn}
+use Rattle.nights.specs.Nights.{common, commonOf, inCommon, starts, follow}
+use Rattle.nights.specs.Hers.{nightList, hers, shifted, through, lastRun}
+use Rattle.days.specs.Days.{dayList, dayRule, choice, rowDuty, same, anyOf, freeOf, windowsHold, rests}
+use Rattle.daylists.specs.Lists.{upTo, firstOver}
+use Rattle.penalty.specs.Penalty.{onDuty, members, shortOn, overOn, unplacedIn, nightParts, nightPenalty, dayParts, dayPenalty}
+use Rattle.letters.specs.Letters.{letters, rowLettersOf, letter, isLetter, firstBad, misplaced}
+use Rattle.rosters.specs.Check.{lettered}
+use Rattle.rosters.specs.CodeCheck.{lettersIn, sameRow, rowHolds, rowsHold, groupHolds, dutyHolds, dayHolds, daysHold, holds}
+use Rattle.history.specs.Phase.{Step, Call, Answer, refused, ended, End·zero, End·asked, End·none, run, refusal, given, inTurn}
+use Rattle.history.specs.History.{History, penalty, allowed, next, extend, reply, advance, answers, history}
+use Rattle.history.specs.Record.{recordOf, mayTake, total, best, stepped, sound, proceed, replyOf}
+use Rattle.removals.specs.Removals.{noRemoval}
+use Rattle.search.specs.Stored.{view, store, allZero, unusedZero, soundStored, refusalStored, replyStored, advanceStored}
+use Rattle.phases.specs.Phases.{nightPhase, dayPhase, nightOf, nightsOpen, commonFits, listsFit}
+use Rattle.planner.specs.Advances.{advanceOver, advanceNights, advanceDays}
+use Rattle.planner.specs.Answers as answered
+use Rattle.planner.specs.Answers.{Said, said, checkLetters, checkOver, checkSays}
+
+abbrev call : ℕ → ℕ → Call
+call k n = record { steps = k; places = n }
+
+abbrev did : ℕ → ℕ → Step
+did i p = record { nurse = i; pattern = p }
+
+-- k advances of one step each, and what one of them answers that goes on, with the penalty after it
+abbrev ones : ℕ → ℕ → List Call
+ones zero n = []
+ones (suc k) n = call 1 n ∷ ones k n
+
+abbrev after : ℕ → Answer
+after penalty = ended End·asked 1 penalty []
+
+-- an advance that is refused, and a roster that the check refuses, with the question's number and place
+abbrev refuses : ℕ → ℕ → Answer
+refuses q p = refused (record { question = q; place = p })
+
+abbrev checkRefuses : ℕ → ℕ → Said
+checkRefuses q p = answered.refused (record { question = q; place = p })
+
+-- ---- the ward worked through in document 01
+
+-- its nights, and its roster: Nn/ and --/
+abbrev nights : List ℕ
+nights = 1 ∷ 0 ∷ []
+
+abbrev roster : List ℕ
+roster = 78 ∷ 110 ∷ 47 ∷ 45 ∷ 45 ∷ 47 ∷ []
+
+pub record WorkedThrough : Type 0 where
+  -- its file is read, its numbers are checked and written back; an empty file; a file of edition two
+  pub file-read : readWard worked ≡ good worked
+  pub numbers-checked : checkWard worked ≡ good worked
+  pub written-back : bytesOf worked ≡ worked
+  pub empty : readWard [] ≡ bad 1 0
+  pub edition-two : readWard (0 ∷ 2 ∷ []) ≡ bad 3 0
+  -- by night: from 20,000,001, nurse 1 takes 1, 10,000,000; nurse 2 takes 0, and the penalty is 0
+  pub night-first : next (nightPhase worked) [] ≡ some (did 0 1)
+  pub night-second : next (nightPhase worked) (did 0 1 ∷ []) ≡ some (did 1 0)
+  -- no step asked, one, too many asked, no room for the common list, as many as there are, and zero as before
+  pub night-answers : answers (nightPhase worked) (call 0 4 ∷ call 1 4 ∷ call 10001 4 ∷ call 1 3 ∷ call 5 4 ∷ call 5 4 ∷ [])
+      ≡ ended End·asked 0 20000001 [] ∷ ended End·asked 1 10000000 [] ∷ refuses 7 0 ∷ refuses 9 0 ∷ ended End·zero 1 0 [] ∷ ended End·zero 0 0 [] ∷ []
+  pub night-steps : history (nightPhase worked) (call 1000 16384 ∷ []) ≡ did 1 0 ∷ did 0 1 ∷ []
+  -- by the stored record, from the file's bytes
+  pub night-stored : inTurn (advanceNights worked) (call 1 4 ∷ call 10001 4 ∷ call 10000 4 ∷ []) allZero
+      ≡ (ended End·asked 1 10000000 [] ∷ refuses 7 0 ∷ ended End·zero 1 0 [] ∷ [], store (recordOf (nightPhase worked) (did 1 0 ∷ did 0 1 ∷ [])))
+  -- its removals: the last one first, a nurse by her number, and 0 in the places not in use
+  pub stored-placings : take 3 ((store (recordOf (nightPhase worked) (did 1 0 ∷ did 0 1 ∷ []))) .removals)
+      ≡ record { nurse = 2; has = false; pattern = 0 } ∷ record { nurse = 1; has = false; pattern = 0 } ∷ noRemoval ∷ []
+  -- with TL 2, a third step that gives up pattern 1 drops the first placing
+  pub stored-given-up : take 3 ((store (recordOf (nightPhase worked) (did 0 2 ∷ did 1 0 ∷ did 0 1 ∷ []))) .removals)
+      ≡ record { nurse = 1; has = true; pattern = 1 } ∷ record { nurse = 2; has = false; pattern = 0 } ∷ noRemoval ∷ []
+  -- by day over those nights: from 20,000,002, nurse 2 takes 3, 10,000,000; nurse 1 takes 0, and the roster is given out
+  pub day-answers : answers (dayPhase worked (nightOf nights)) (call 0 5 ∷ call 1 5 ∷ call 1 4 ∷ call 9 5 ∷ [])
+      ≡ ended End·asked 0 20000002 [] ∷ ended End·asked 1 10000000 [] ∷ refuses 9 2 ∷ ended End·zero 1 0 roster ∷ []
+  pub day-steps : history (dayPhase worked (nightOf nights)) (call 9 5 ∷ []) ≡ did 0 0 ∷ did 1 3 ∷ []
+  -- the check of the roster; with a letter of none of the five after the six; with a letter too few
+  pub roster-checked : checkSays worked roster ≡ said true
+  pub extra-letter : checkSays worked (78 ∷ 110 ∷ 47 ∷ 45 ∷ 45 ∷ 47 ∷ 47 ∷ 48 ∷ []) ≡ checkRefuses 12 7
+  pub letter-missing : checkSays worked (78 ∷ 110 ∷ 47 ∷ 45 ∷ 45 ∷ []) ≡ checkRefuses 12 5
+  -- day 2 of nurse 2 a rest: the day need of day 2 is not met; day 3 of nurse 1 other duty: her row follows from no patterns
+  pub need-unmet : checkSays worked (78 ∷ 110 ∷ 47 ∷ 45 ∷ 47 ∷ 47 ∷ []) ≡ said false
+  pub row-unfollowed : checkSays worked (78 ∷ 110 ∷ 43 ∷ 45 ∷ 45 ∷ 47 ∷ []) ≡ said false
+
+pub worked-through : WorkedThrough
+unfolding worked encode decode read check asked bytesOf readWard checkWard nightPhase dayPhase nightsOpen commonFits listsFit firstOver upTo answers history advance reply extend run refusal given next penalty allowed advanceOver advanceStored refusalStored replyStored soundStored unusedZero view store recordOf proceed replyOf best total mayTake stepped sound common nightList hers inCommon starts follow shifted through lastRun marksAllow sumTo numberOf keep all upFrom blockAt block groupsAt masks needsAt needs rowState availableOn dutyOn onDuty members shortOn overOn unplacedIn nightParts nightPenalty dayParts dayPenalty dayList dayRule choice rowDuty same anyOf freeOf windowsHold rests letters rowLettersOf letter isLetter firstBad misplaced checkLetters checkOver holds rowsHold rowHolds lettersIn sameRow daysHold dayHolds dutyHolds groupHolds lettered
+worked-through = record {
+  file-read = refl;
+  numbers-checked = refl;
+  written-back = refl;
+  empty = refl;
+  edition-two = refl;
+  night-first = refl;
+  night-second = refl;
+  night-answers = refl;
+  night-steps = refl;
+  night-stored = refl;
+  stored-placings = refl;
+  stored-given-up = refl;
+  day-answers = refl;
+  day-steps = refl;
+  roster-checked = refl;
+  extra-letter = refl;
+  letter-missing = refl;
+  need-unmet = refl;
+  row-unfollowed = refl;
+}
+
+-- ---- the second ward
+
+-- the nights that its search finds, and the roster over them: Nn/--/, n/-Nn/ and /--+/N
+abbrev secondNights : List ℕ
+secondNights = 1 ∷ 8 ∷ 32 ∷ []
+
+abbrev secondRoster : List ℕ
+secondRoster = 78 ∷ 110 ∷ 47 ∷ 45 ∷ 45 ∷ 47 ∷ 110 ∷ 47 ∷ 45 ∷ 78 ∷ 110 ∷ 47 ∷ 47 ∷ 45 ∷ 45 ∷ 43 ∷ 47 ∷ 78 ∷ []
+
+-- its first six and eight night steps, the last one first
+abbrev sixSteps : History
+sixSteps = did 0 8 ∷ did 0 17 ∷ did 0 16 ∷ did 2 1 ∷ did 0 1 ∷ did 1 40 ∷ []
+
+abbrev eightSteps : History
+eightSteps = did 1 8 ∷ did 2 32 ∷ sixSteps
+
+pub record SecondWorked : Type 0 where
+  -- its file is read and written back; cut off, not in the shortest form, most nights below the least, a 3 after no 2, a byte too many
+  pub file-read : readWard second ≡ good second
+  pub written-back : bytesOf second ≡ second
+  pub cut-off : readWard (take 103 second) ≡ bad 1 103
+  pub not-shortest : readWard (131 ∷ 0 ∷ []) ≡ bad 2 0
+  pub most-below-least : readWard (set second 24 0) ≡ bad 3 24
+  pub duty-unfit : readWard (set second 18 3) ≡ bad 4 18
+  pub byte-too-many : readWard (second ++ (0 ∷ [])) ≡ bad 5 104
+  -- the common list: V leaves out the starts 1, 3 and 5, g1 leaves out 1 and 4; then each nurse's own
+  pub common-list : commonOf second ≡ 0 ∷ 1 ∷ 2 ∷ 4 ∷ 5 ∷ 8 ∷ 10 ∷ 16 ∷ 17 ∷ 20 ∷ 32 ∷ 33 ∷ 34 ∷ 40 ∷ []
+  pub nights-1 : nightList second 0 ≡ 1 ∷ 8 ∷ 16 ∷ 17 ∷ []
+  pub nights-2 : nightList second 1 ≡ 8 ∷ 40 ∷ []
+  pub nights-3 : nightList second 2 ≡ 1 ∷ 16 ∷ 32 ∷ []
+  -- the weights: nobody has a night, everybody starts one on every day; nobody works by day, everybody does on every day
+  pub no-nights : nightPenalty second (λ i. some 0) ≡ 11
+  pub all-nights : nightPenalty second (λ i. some 63) ≡ 64
+  pub no-days : dayPenalty second (λ i. some 0) ≡ 16
+  pub all-days : dayPenalty second (λ i. some 63) ≡ 4
+  -- by night: step by step to zero; then too many asked, no room for the common list, and zero as before
+  pub night-answers : answers (nightPhase second) (call 0 14 ∷ ones 9 14 ++ (call 10001 14 ∷ call 1 13 ∷ call 1 14 ∷ []))
+      ≡ ended End·asked 0 30000005 [] ∷ after 20000000 ∷ after 10000000 ∷ after 5 ∷ after 5 ∷ after 5 ∷ after 8 ∷ after 11 ∷ after 3
+      ∷ ended End·zero 1 0 [] ∷ refuses 7 0 ∷ refuses 9 0 ∷ ended End·zero 0 0 [] ∷ []
+  pub night-steps : history (nightPhase second) (call 100 14 ∷ []) ≡ did 0 1 ∷ eightSteps
+  -- After six steps nurse 1 may not take pattern 1, which she gave up in the last four, though it would leave the least penalty; after eight she may.
+  pub barred : allowed (nightPhase second) sixSteps 0 1 ≡ false
+  pub barred-penalty : penalty (nightPhase second) (did 0 1 ∷ sixSteps) ≡ 5
+  pub taken : next (nightPhase second) sixSteps ≡ some (did 2 32)
+  pub taken-penalty : penalty (nightPhase second) (did 2 32 ∷ sixSteps) ≡ 11
+  pub no-longer-barred : allowed (nightPhase second) eightSteps 0 1 ≡ true
+  -- by the stored record, from the file's bytes; of its removals, the last four
+  pub night-stored : (inTurn (advanceNights second) (call 3 14 ∷ call 5 14 ∷ []) allZero) .1 ≡ store (recordOf (nightPhase second) eightSteps)
+  pub stored-removals : take 5 ((store (recordOf (nightPhase second) eightSteps)) .removals)
+      ≡ record { nurse = 2; has = true; pattern = 40 } ∷ record { nurse = 3; has = true; pattern = 1 } ∷ record { nurse = 1; has = true; pattern = 17 }
+      ∷ record { nurse = 1; has = true; pattern = 16 } ∷ noRemoval ∷ []
+  -- by day over these nights: step by step to the roster; then no room for the last nurse's list, and none for the first one's
+  pub days-1 : dayList second 0 1 ≡ 8 ∷ 16 ∷ 24 ∷ 32 ∷ 40 ∷ 48 ∷ []
+  pub days-2 : dayList second 1 8 ≡ 4 ∷ []
+  pub days-3 : dayList second 2 32 ≡ 6 ∷ 18 ∷ 20 ∷ []
+  pub day-answers : answers (dayPhase second (nightOf secondNights)) (call 0 10 ∷ ones 5 10 ++ (call 1 9 ∷ call 1 3 ∷ []))
+      ≡ ended End·asked 0 30000011 [] ∷ after 20000004 ∷ after 10000001 ∷ after 1 ∷ after 1 ∷ ended End·zero 1 0 secondRoster ∷ refuses 9 3 ∷ refuses 9 1 ∷ []
+  pub day-steps : history (dayPhase second (nightOf secondNights)) (call 100 10 ∷ []) ≡ did 2 6 ∷ did 0 24 ∷ did 1 4 ∷ did 0 8 ∷ did 2 18 ∷ []
+  pub day-stored : (inTurn (advanceDays second secondNights) (call 100 10 ∷ []) allZero) .0 ≡ ended End·zero 5 0 secondRoster ∷ []
+  -- over other nights at penalty zero, where nurse 1 starts on day 5: no exchange is left after seven steps
+  pub none-days-1 : dayList second 0 16 ≡ 4 ∷ 8 ∷ 12 ∷ []
+  pub none-answers : answers (dayPhase second (nightOf (16 ∷ 8 ∷ 32 ∷ []))) (call 0 7 ∷ ones 6 7 ++ (call 100 7 ∷ call 1 7 ∷ []))
+      ≡ ended End·asked 0 30000011 [] ∷ after 20000004 ∷ after 10000001 ∷ after 1 ∷ after 1 ∷ after 3 ∷ after 6
+      ∷ ended End·none 1 9 [] ∷ ended End·none 0 9 [] ∷ []
+  pub none-steps : history (dayPhase second (nightOf (16 ∷ 8 ∷ 32 ∷ []))) (call 100 7 ∷ [])
+      ≡ did 2 20 ∷ did 0 4 ∷ did 2 6 ∷ did 0 12 ∷ did 1 4 ∷ did 0 8 ∷ did 2 18 ∷ []
+  -- question 8: nights that are not at penalty zero; nights at zero, but nurse 1 has fewer than her least
+  pub not-at-zero : answers (dayPhase second (nightOf (1 ∷ 40 ∷ 1 ∷ []))) (call 1 10 ∷ call 10001 10 ∷ call 0 0 ∷ []) ≡ refuses 8 0 ∷ refuses 7 0 ∷ refuses 8 0 ∷ []
+  pub not-hers-penalty : nightPenalty second (λ i. some (nightOf (0 ∷ 8 ∷ 32 ∷ []) i)) ≡ 0
+  pub not-hers : answers (dayPhase second (nightOf (0 ∷ 8 ∷ 32 ∷ []))) (call 1 10 ∷ []) ≡ refuses 8 0 ∷ []
+  -- the check of the roster
+  pub roster-checked : checkSays second secondRoster ≡ said true
+  -- One rule is broken in each. Nurse 1: three days running; a start under her mark 5.
+  pub days-running : checkSays second (set secondRoster 5 45) ≡ said false
+  pub against-mark-5 : checkSays second (set secondRoster 5 78) ≡ said false
+  -- nurse 2: a rest under her mark 2; nurse 3: a rest too many, and no rest in seven days
+  pub against-mark-2 : checkSays second (set secondRoster 8 47) ≡ said false
+  pub rest-too-many : checkSays second (set secondRoster 14 47) ≡ said false
+  pub no-rest-in-seven : checkSays second (set (set secondRoster 12 45) 14 47) ≡ said false
+  -- day 5: the day need, and the group's high by day
+  pub need-unmet : checkSays second (set secondRoster 4 47) ≡ said false
+  pub above-high : checkSays second (set (set secondRoster 14 47) 16 45) ≡ said false
+
+pub second-worked : SecondWorked
+unfolding second encode decode read check asked bytesOf readWard checkWard nightPhase dayPhase nightsOpen commonFits listsFit firstOver upTo answers history advance reply extend run refusal given next penalty allowed advanceOver advanceStored refusalStored replyStored soundStored unusedZero view store recordOf proceed replyOf best total mayTake stepped sound common nightList hers inCommon starts follow shifted through lastRun marksAllow sumTo numberOf keep all upFrom blockAt block groupsAt masks needsAt needs rowState availableOn dutyOn onDuty members shortOn overOn unplacedIn nightParts nightPenalty dayParts dayPenalty dayList dayRule choice rowDuty same anyOf freeOf windowsHold rests letters rowLettersOf letter isLetter firstBad misplaced checkLetters checkOver holds rowsHold rowHolds lettersIn sameRow daysHold dayHolds dutyHolds groupHolds lettered
+second-worked = record {
+  file-read = refl;
+  written-back = refl;
+  cut-off = refl;
+  not-shortest = refl;
+  most-below-least = refl;
+  duty-unfit = refl;
+  byte-too-many = refl;
+  common-list = refl;
+  nights-1 = refl;
+  nights-2 = refl;
+  nights-3 = refl;
+  no-nights = refl;
+  all-nights = refl;
+  no-days = refl;
+  all-days = refl;
+  night-answers = refl;
+  night-steps = refl;
+  barred = refl;
+  barred-penalty = refl;
+  taken = refl;
+  taken-penalty = refl;
+  no-longer-barred = refl;
+  night-stored = refl;
+  stored-removals = refl;
+  days-1 = refl;
+  days-2 = refl;
+  days-3 = refl;
+  day-answers = refl;
+  day-steps = refl;
+  day-stored = refl;
+  none-days-1 = refl;
+  none-answers = refl;
+  none-steps = refl;
+  not-at-zero = refl;
+  not-hers-penalty = refl;
+  not-hers = refl;
+  roster-checked = refl;
+  days-running = refl;
+  against-mark-5 = refl;
+  against-mark-2 = refl;
+  rest-too-many = refl;
+  no-rest-in-seven = refl;
+  need-unmet = refl;
+  above-high = refl;
+}
