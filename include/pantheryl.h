@@ -2,7 +2,8 @@
  *
  * A ward is handed over as the bytes of a ward file. No call keeps anything between calls, allocates, or prints. Every call takes any
  * content: it either answers or refuses. The buffers of one call must not overlap. A pointer must not be null, also where its length is 0.
- * A call takes less than 192 KiB of stack.
+ * A pointer with a size in its comment, as numbers [4094], points to that many places, all readable and, where the call writes there, writable,
+ * whatever a count says. A call takes less than 192 KiB of stack.
  *
  * Every call writes six words into answer:
  *
@@ -28,7 +29,13 @@
  *    8  by day: a night pattern is not hers, or the nights have a penalty     0
  *    9  the buffer does not hold the list of patterns, or the lists           0; by day the first nurse who does not fit, from 1
  *   10  a nurse has no pattern                                                the lowest such nurse, from 1
- *   11  the record is not one of this ward                                    0
+ *   11  the record is not one of this ward: a placed nurse holds a pattern    0
+ *       that is not hers; one of its removals (as many as steps so far, but
+ *       not above TL) names no nurse of the ward, or a pattern that is not
+ *       that nurse's; or a field that is not used is not 0: the pattern of
+ *       an unplaced nurse, pattern and flag past the last nurse, the pattern
+ *       of a removal whose flag is not set, all of the removals' places after
+ *       those. A flag that is not 0 is set
  *   12  the roster has another letter than / - N n +, or not m times n        first bad index, else the count given
  */
 #ifndef PANTHERYL_H
@@ -50,14 +57,15 @@ extern "C" {
 /* Reads a ward file: questions 1 to 5.
  *
  * file, file_len   the file's bytes
- * numbers          written: the ward's numbers in file order, then 0 in all places after them
+ * numbers          written, all 4,094 places: the ward's numbers in file order, then 0 in all places after them
  * answer           written: count is how many numbers there are
  */
 void pantheryl_read(const uint8_t *file, size_t file_len, uint64_t *numbers /* [4094] */, uint64_t *answer /* [6] */);
 
 /* Writes a ward file: questions 1, 3, 4, 5 (places are indexes into numbers) and 6.
  *
- * numbers, count      the ward is the first count numbers; the others are not looked at. Of a count above 4,094 the missing ones are 0
+ * numbers, count      the ward is the first count numbers; the others do not matter, but all 4,094 places are read. Of a count above 4,094 the
+ *                     missing ones are 0
  * buffer, buffer_len  written from its start: the file's bytes; the places after them are untouched. 4,190 bytes hold any ward
  * answer              written: count is how many bytes there are
  */
@@ -88,7 +96,7 @@ void pantheryl_advance_nights(const uint8_t *file, size_t file_len, uint32_t *re
  * buffer, buffer_len  room for all nurses' lists of day patterns, each after the one before. Written from its start; the places after the
  *                     lists are untouched
  * roster              written where the outcome is 1, zero: m times n letters from its start, row after row (see pantheryl_check); the
- *                     places after them are untouched. At any other outcome none is written
+ *                     places after them keep what they hold. At any other outcome none is written. All 1,488 places must be there
  * answer              written: outcome, steps and penalty; count is the number of letters given out, 0 where there are none
  */
 void pantheryl_advance_days(const uint8_t *file, size_t file_len, const uint32_t *nights /* [48] */, uint32_t *record /* [289] */,
