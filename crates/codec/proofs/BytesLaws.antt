@@ -11,7 +11,7 @@ use lib.ListN.{length, drop, getD, List·getD-eq-default}
 use lib.Dec.{ltb}
 use Rattle.codec.specs.declared.Number.{Number}
 use Rattle.codec.specs.declared.Number.the-variants.{Value, Ended, Long}
-use Rattle.codec.specs.Codec.{encode, under, final, decodeGroups, decode}
+use Rattle.codec.specs.Groups.{encode, under, final, decodeGroups, decode}
 use Rattle.codec.specs.Bytes.{TopBits, CutOff, TooLong, seven, not-shortest, Stands}
 use Rattle.codec.proofs.NumberLaws.{AllBytes, number-read, number-back}
 

@@ -11,7 +11,7 @@ use lib.Seq.{drop-cons}
 use lib.Dec.{lit≤}
 use Rattle.codec.specs.declared.Number.{Number}
 use Rattle.codec.specs.declared.Number.the-variants.{Value, Ended, Long}
-use Rattle.codec.specs.Codec.{decodeGroups, final, under}
+use Rattle.codec.specs.Groups.{decodeGroups, final, under}
 use Rattle.codec.specs.CodeBytes.{Below}
 
 -- the last group's case does not depend on how many may follow

@@ -9,7 +9,7 @@ use native.Mathlib.Omega.{arith}
 use borrow.Author.Tests.{lt-ltb, le-ltb}
 use lib.ListN.{length}
 use lib.Dec.{ltb}
-use Rattle.codec.specs.Codec.{encodeGroups, encode}
+use Rattle.codec.specs.Groups.{encodeGroups, encode}
 
 pub encode-last : (v : ℕ) → v < 128 → encode v ≡ v ∷ []
 unfolding encode

@@ -11,7 +11,7 @@ use lib.ListN.{length, drop, getD}
 use lib.Dec.{ltb}
 use Rattle.codec.specs.declared.Number.{Number}
 use Rattle.codec.specs.declared.Number.the-variants.{Value, Ended, Long}
-use Rattle.codec.specs.Codec.{encodeGroups, encode, under, final, decodeGroups, decode}
+use Rattle.codec.specs.Groups.{encodeGroups, encode, under, final, decodeGroups, decode}
 use Rattle.codec.proofs.CodecLaws.{last-group, pow-at-least}
 use Rattle.codec.proofs.EncodeLaws.{fewer}
 

@@ -4,7 +4,7 @@ use Prim.Native.Nat.{ℕ, _^_, _≤_, _<_}
 use mathlib.Core.Path.{_≡_}
 use mathlib.Core.List.{List, _++_}
 use lib.ListN.{length, getD}
-use Rattle.codec.specs.Codec.{encode}
+use Rattle.codec.specs.Groups.{encode}
 
 -- each of the first k bytes is there, with its top bit set: another group follows it
 abbrev pub TopBits : List ℕ → ℕ → Type 0

@@ -1,3 +1,3 @@
 pub mod Bytes
-pub mod Codec
+pub mod Groups
 pub mod CodeBytes

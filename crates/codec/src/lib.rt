@@ -2,7 +2,7 @@
 ghost use mathlib.Core.Path.{_≡_};
 ghost use Prim.Native.Nat.{_+_, _^_, _≤_, _<_};
 ghost use lib.ListN.{length, drop};
-ghost use Rattle.codec.specs.Codec.{decode, decodeGroups, encode};
+ghost use Rattle.codec.specs.Groups.{decode, decodeGroups, encode};
 ghost use Rattle.codec.specs.CodeBytes.{Below, pasted};
 
 // What stands at the front of a list of bytes.

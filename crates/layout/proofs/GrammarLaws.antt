@@ -11,7 +11,7 @@ use Rattle.layout.specs.declared.Field.{Field}
 use Rattle.codec.specs.declared.Number.{Number}
 use Rattle.codec.specs.declared.Number.the-variants.{Value, Ended, Long}
 use Rattle.layout.specs.declared.Want.the-variants.{Next, Nothing}
-use Rattle.codec.specs.Codec.{decode, decodeGroups, final, under}
+use Rattle.codec.specs.Groups.{decode, decodeGroups, final, under}
 use Rattle.layout.specs.Grammar.{Grammar, done, number, asked, fits, Read, good, bad, prepend, unless, heard, read, check}
 use Rattle.layout.specs.CodeWant.{wanted, after, Within, Small}
 

@@ -8,7 +8,7 @@ use native.Mathlib.Omega.{arith}
 use borrow.Author.Tests.{ltb-true, lt-ltb}
 use lib.ListN.{length, replicate, length-append}
 use lib.Dec.{ltb}
-use Rattle.codec.specs.Codec.{encode}
+use Rattle.codec.specs.Groups.{encode}
 use Rattle.codec.proofs.EncodeLaws.{encode-last, encode-most}
 use Rattle.layout.specs.Grammar.{Grammar, done, asked, good, check, bytesOf}
 use Rattle.layout.specs.Layout.{ward}

@@ -7,7 +7,7 @@ use lib.ListN.{length, drop, length-append}
 use lib.Seq.{drop-append-seam}
 use Rattle.codec.specs.declared.Number.{Number}
 use Rattle.codec.specs.declared.Number.the-variants.{Value, Ended, Long}
-use Rattle.codec.specs.Codec.{encode, decode}
+use Rattle.codec.specs.Groups.{encode, decode}
 use Rattle.codec.proofs.NumberLaws.{AllBytes, all-drop, number-read}
 use Rattle.codec.proofs.BytesLaws.{cut-off-when, too-long-when, stands-value, value-stands, value-used}
 use Rattle.layout.specs.declared.Field.{Field}

@@ -10,7 +10,7 @@ use Rattle.codec.specs.declared.Number.the-variants.{Value, Ended, Long}
 use Rattle.layout.specs.declared.Rule.{Rule}
 use Rattle.layout.specs.declared.Rule.the-variants.{Any, After}
 use Rattle.layout.specs.declared.Field.{Field}
-use Rattle.codec.specs.Codec.{decode, encode}
+use Rattle.codec.specs.Groups.{decode, encode}
 
 pub data Grammar : Type 0 where
   done : Grammar

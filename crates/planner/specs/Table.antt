@@ -7,7 +7,7 @@ use lib.ListN.{length, getD}
 use Rattle.numbers.specs.Range.{upFrom, keep, all}
 use Rattle.numbers.specs.Sum.{sumTo, oneIf}
 use Rattle.numbers.specs.Digits.{numberOf}
-use Rattle.codec.specs.Codec.{encode}
+use Rattle.codec.specs.Groups.{encode}
 use Rattle.fields.specs.Worked.{worked}
 use Rattle.fields.specs.Fields.{blockAt, block, groupsAt, masks, needsAt, needs}
 use Rattle.rows.specs.Rows.{rowState, marksAllow, availableOn, dutyOn}

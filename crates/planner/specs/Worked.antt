@@ -8,7 +8,7 @@ use lib.ListN.{take, set}
 use Rattle.numbers.specs.Range.{upFrom, keep, all}
 use Rattle.numbers.specs.Sum.{sumTo}
 use Rattle.numbers.specs.Digits.{numberOf}
-use Rattle.codec.specs.Codec.{encode, decode}
+use Rattle.codec.specs.Groups.{encode, decode}
 use Rattle.layout.specs.Grammar.{good, bad, read, check, asked, bytesOf}
 use Rattle.ward.specs.Answers.{readWard, checkWard}
 use Rattle.fields.specs.Fields.{blockAt, block, groupsAt, masks, needsAt, needs}

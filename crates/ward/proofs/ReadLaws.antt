@@ -11,7 +11,7 @@ use Rattle.ward.specs.declared.Answer.the-variants.{Yes}
 use Rattle.codec.specs.declared.Number.the-variants.{Value, Ended, Long}
 use Rattle.layout.specs.declared.Want.the-variants.{Next, Nothing}
 use Rattle.ward.specs.declared.Reading.{Reading}
-use Rattle.codec.specs.Codec.{decode}
+use Rattle.codec.specs.Groups.{decode}
 use Rattle.layout.specs.Grammar.{Grammar, asked, good, prepend, read}
 use Rattle.layout.specs.CodeWant.{wanted, after, Within}
 use Rattle.layout.specs.Layout.{ward}

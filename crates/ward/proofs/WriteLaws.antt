@@ -11,7 +11,7 @@ use Rattle.ward.specs.declared.Ward.{Ward}
 use Rattle.ward.specs.declared.Checked.{Checked}
 use Rattle.ward.specs.declared.Answer.the-variants.{Yes, No}
 use Rattle.layout.specs.declared.Want.the-variants.{Next, Nothing}
-use Rattle.codec.specs.Codec.{encode}
+use Rattle.codec.specs.Groups.{encode}
 use Rattle.layout.specs.Grammar.{Grammar, asked, good, bad, prepend, check, bytesOf}
 use Rattle.layout.specs.CodeWant.{wanted, after, Within, Small}
 use Rattle.layout.specs.Layout.{ward}

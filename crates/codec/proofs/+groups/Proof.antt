@@ -6,7 +6,7 @@ use borrow.Author.Needs.{needs}
 use borrow.Fn.Kinds.{In}
 use borrow.Fn.PlainCycle.{Measures, is, falls, and}
 use Rattle.codec.specs.declared.Number.the-variants.{Value}
-use Rattle.codec.specs.Codec.{under}
+use Rattle.codec.specs.Groups.{under}
 use Rattle.codec.specs.CodeBytes.{Below}
 use Rattle.codec.proofs.CodecLaws.{at-end, last-low, last-good, too-long, further, below-first, below-further, pow-most}
 use Rattle.codec.proofs.groups.Reads as groups

@@ -1,5 +1,5 @@
 -- `codec::number_at` meets its contract.
-use Rattle.codec.specs.Codec.{decode}
+use Rattle.codec.specs.Groups.{decode}
 use borrow.Author.Needs.{needs}
 use Rattle.codec.proofs.number_at.Statement.{statement}
 use Rattle.codec.proofs.number_at.Tie as tie

@@ -3,7 +3,7 @@ use Prim.Native.Nat.{_+_, _^_, _<_}
 use mathlib.Core.Path.{_≡_}
 use native.Mathlib.Omega.{arith}
 use lib.ListN.{length}
-use Rattle.codec.specs.Codec.{encode}
+use Rattle.codec.specs.Groups.{encode}
 use Rattle.codec.proofs.EncodeLaws.{encode-most}
 use Rattle.codec.proofs.PutLaws.{one-byte, byte-more}
 use Rattle.codec.proofs.size.Statement.{statement}
