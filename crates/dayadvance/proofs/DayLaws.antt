@@ -16,7 +16,11 @@ use Rattle.daylists.specs.Lists.{upTo, firstOver}
 use Rattle.daylists.specs.CodeLists.{Counted}
 use Rattle.daylists.proofs.ListsLaws.{up-length, up-mono, stretch-is}
 use Rattle.history.specs.Slot.{Slot}
-use Rattle.history.specs.Phase.{Phase, No, Answer, unless, first, refusal}
+use Rattle.history.specs.Phase.{Phase, Answer, refusal}
+use Rattle.refusals.specs.declared.Refusal.{Refusal}
+use Rattle.refusals.specs.Refusals.{numbered, unless, first}
+use Rattle.refusals.specs.Questions as question
+use Rattle.refusals.proofs.OrderLaws.{first-none, unless-none}
 use Rattle.history.specs.Record.{Record, lacking, replyOf, proceed}
 use Rattle.removals.specs.Removals.{slot, patternOf, flagOf}
 use Rattle.search.specs.Stored.{slotAt, view, viewOf, store, refusalStored, replyStored, soundStored}
@@ -30,16 +34,15 @@ use Rattle.letters.specs.Letters.{letters, rowLetters}
 use Rattle.letters.specs.CodeRoster.{Written}
 use Rattle.letters.specs.declared.written.Roster.{Roster}
 use Rattle.letters.proofs.RowLaws.{letters-length}
-use Rattle.phases.specs.declared.outcomes.Outcome.the-variants as outcome
 use Rattle.phases.specs.Phases.{nightsOpen, listsFit, dayListOver, dayPhase, nightOf}
-use Rattle.phases.specs.CodeQuestions.{phaseOf, lackedAt, beforeLists, afterLists, EndsOf, UnplacedZero}
-use Rattle.phases.specs.Outcomes.{rosterOf, dayAdvanceOf, callOf}
-use Rattle.phases.proofs.OutcomeLaws.{first-none, unless-none, list-front}
+use Rattle.phases.specs.CodeQuestions.{phaseOf, beforeLists, afterLists, EndsOf, UnplacedZero}
+use Rattle.phases.specs.Outcomes.{rosterOf, lettersOf, callOf}
+use Rattle.phases.proofs.OutcomeLaws.{list-front}
 use Rattle.phases.proofs.PhaseLaws.{day-ascending}
 
 -- ---- the questions in two parts
 
-regroup : (a b c d : Option No) → first (first a (first b c)) d ≡ first (first a b) (first c d)
+regroup : (a b c d : Option Refusal) → first (first a (first b c)) d ≡ first (first a b) (first c d)
 regroup none none none d = refl
 regroup none none (some n) d = refl
 regroup none (some n) c d = refl
@@ -49,36 +52,20 @@ module _ (w : List ℕ) (nights : ℕ → ℕ) (k places : ℕ) (r : Stored) whe
   pub in-two : refusalStored (dayPhase w nights) (callOf k places) r ≡ first (beforeLists w nights k r) (afterLists w nights places r)
   unfolding refusalStored refusal dayPhase beforeLists afterLists
   in-two =
-      regroup (unless (leb k 10000 && leb (r .steps + k) 1000000) 7 0) (unless (nightsOpen w nights) 8 0) (listsFit (dayListOver w nights) (nurses w) places)
-      (first (lacking (dayListOver w nights) (upFrom 0 (nurses w))) (unless (soundStored (dayPhase w nights) r) 11 0))
+      regroup (unless (leb k 10000 && leb (r .steps + k) 1000000) question.steps 0) (unless (nightsOpen w nights) question.nights 0) (listsFit (dayListOver w nights) (nurses w) places)
+      (first (lacking (dayListOver w nights) (upFrom 0 (nurses w))) (unless (soundStored (dayPhase w nights) r) question.record-sound 0))
 
-  pub two-before : {n : Option No} → n ≡ beforeLists w nights k r → {x : No} → n ≡ some x → refusalStored (dayPhase w nights) (callOf k places) r ≡ some x
+  pub two-before : {n : Option Refusal} → n ≡ beforeLists w nights k r → {x : Refusal} → n ≡ some x → refusalStored (dayPhase w nights) (callOf k places) r ≡ some x
   two-before e q = in-two ∙ rw (← e, q)
 
-  pub two-after : {n : Option No} → beforeLists w nights k r ≡ none → n ≡ afterLists w nights places r → refusalStored (dayPhase w nights) (callOf k places) r ≡ n
+  pub two-after : {n : Option Refusal} → beforeLists w nights k r ≡ none → n ≡ afterLists w nights places r → refusalStored (dayPhase w nights) (callOf k places) r ≡ n
   two-after e q = in-two ∙ rw (e, ← q)
-
--- ---- question 7, then 8
-
-module _ (w : List ℕ) (nights : ℕ → ℕ) (k : ℕ) (r : Stored) {b : Bool} (e : b ≡ (leb k 10000 && leb (r .steps + k) 1000000)) where
-  pub before-seven : b ≡ false → some (record { question = 7; place = 0 }) ≡ beforeLists w nights k r
-  unfolding beforeLists
-  before-seven f = rw (← e, f)
-
-  module _ (f : b ≡ true) {o : Bool} (g : o ≡ nightsOpen w nights) where
-    pub before-eight : o ≡ false → some (record { question = 8; place = 0 }) ≡ beforeLists w nights k r
-    unfolding beforeLists
-    before-eight h = rw (← e, f, ← g, h)
-
-    pub before-none : o ≡ true → none ≡ beforeLists w nights k r
-    unfolding beforeLists
-    before-none h = rw (← e, f, ← g, h)
 
 -- ---- questions 9, 10 and 11
 
 module _ (w : List ℕ) (nights : ℕ → ℕ) (r : Stored) {m : ℕ} (em : m ≡ nurses w) {places over : ℕ} {ends : List ℕ}
     (c : Counted (dayListOver w nights) (nurses w) places over ends) where
-  pub after-nine : over < m → some (record { question = 9; place = over + 1 }) ≡ afterLists w nights places r
+  pub after-nine : over < m → some (numbered question.lists (over + 1)) ≡ afterLists w nights places r
   unfolding afterLists listsFit
   after-nine h = rw (← c .over-is, ne-eqb over (nurses w) (λ (q : over ≡ nurses w). omega arith), add-one over)
 
@@ -90,29 +77,11 @@ module _ (w : List ℕ) (nights : ℕ → ℕ) (r : Stored) {m : ℕ} (em : m �
   unfolding listsFit
   lists-fit h = rw (← c .over-is, eq-eqb over (nurses w) (let q : over ≡ nurses w = omega (arith, c .over-most) in q))
 
-  module _ (h : m ≤ over) {x : ℕ} (q : lackedAt m x ≡ lacking (dayListOver w nights) (upFrom 0 m)) where
-    pub after-ten : x < m → some (record { question = 10; place = x + 1 }) ≡ afterLists w nights places r
-    unfolding afterLists
-    after-ten l =
-        let y : lacking (dayListOver w nights) (upFrom 0 (nurses w)) ≡ some (record { question = 10; place = suc x })
-        = ap (λ (j : ℕ). lacking (dayListOver w nights) (upFrom 0 j)) (sym em) ∙ sym q ∙ rw (lt-ltb x m l) in
-        rw (lists-fit h, y, add-one x)
-
-    module _ (l : m ≤ x) {s : Bool} (e : s ≡ soundStored (dayPhase w nights) r) where
-      nobody : lacking (dayListOver w nights) (upFrom 0 (nurses w)) ≡ none
-      nobody = ap (λ (j : ℕ). lacking (dayListOver w nights) (upFrom 0 j)) (sym em) ∙ sym q ∙ rw (le-ltb x m l)
-
-      pub after-eleven : s ≡ false → some (record { question = 11; place = 0 }) ≡ afterLists w nights places r
-      unfolding afterLists
-      after-eleven f = rw (lists-fit h, nobody, ← e, f)
-
-      pub after-none : s ≡ true → none ≡ afterLists w nights places r
-      unfolding afterLists
-      after-none f = rw (lists-fit h, nobody, ← e, f)
-
-pub day-sound : (w nights : List ℕ) (r : Stored) {s : Bool} → s ≡ soundStored (phaseOf true w nights) r → s ≡ soundStored (dayPhase w (nightOf nights)) r
-unfolding phaseOf
-day-sound w nights r e = e
+  -- where all fit, the questions after it
+  pub after-ten : (nights′ : List ℕ) → nights ≡ nightOf nights′ → m ≤ over
+      → first (lacking (dayListOver w nights) (upFrom 0 m)) (unless (soundStored (phaseOf true w nights′) r) question.record-sound 0) ≡ afterLists w nights places r
+  unfolding afterLists phaseOf
+  after-ten nights′ e h = rw (lists-fit h, em, e)
 
 -- ---- question 10 by where the lists end
 
@@ -154,22 +123,20 @@ letters-of w nights r z =
     letters-alike w nights _ _ (nurses w) (λ i h. slot-pattern (getD (r .placed) i false) (getD (r .patterns) i 0) (z i h)
     ∙ ap (λ (b : Bool). patternOf (cond b (slotAt r i) none)) (sym (lt-ltb i (nurses w) h)))
 
+-- the roster that an advance gives out, by how it ended
 module _ (w : List ℕ) (nights : ℕ → ℕ) (x : Advanced) where
-  pub finished-zero : {r : Roster} → UnplacedZero w (x .after) → x .ending ≡ Zero → Written w nights (λ i. getD (x .after .patterns) i 0) r
-      → record { kept = x .after; penalty = x .penalty; steps = x .steps; outcome = outcome.Zero; roster = r } ≡ dayAdvanceOf (answerOf (dayPhase w nights) x) (x .after)
-  unfolding dayAdvanceOf
-  finished-zero {r} z e v =
-      ap (λ (y : Roster). record { kept = x .after; penalty = x .penalty; steps = x .steps; outcome = outcome.Zero; roster = y })
-      (written-roster w nights _ v ∙ ap rosterOf (letters-of w nights (x .after) z))
-      ∙ sym (ap (λ (y : Ending). dayAdvanceOf (answerWith (dayPhase w nights) (x .after) (x .steps) (x .penalty) y) (x .after)) e)
+  abbrev given : Ending → List ℕ
+  given e = lettersOf (answerWith (dayPhase w nights) (x .after) (x .steps) (x .penalty) e)
 
-  pub finished-asked : x .ending ≡ Asked → record { kept = x .after; penalty = x .penalty; steps = x .steps; outcome = outcome.Asked; roster = rosterOf [] } ≡ dayAdvanceOf (answerOf (dayPhase w nights) x) (x .after)
-  unfolding dayAdvanceOf
-  finished-asked e = sym (ap (λ (y : Ending). dayAdvanceOf (answerWith (dayPhase w nights) (x .after) (x .steps) (x .penalty) y) (x .after)) e)
+  pub given-zero : {r : Roster} → UnplacedZero w (x .after) → x .ending ≡ Zero → Written w nights (λ i. getD (x .after .patterns) i 0) r
+      → r ≡ rosterOf (lettersOf (answerOf (dayPhase w nights) x))
+  given-zero z e v = written-roster w nights _ v ∙ ap rosterOf (letters-of w nights (x .after) z) ∙ sym (ap (λ (y : Ending). rosterOf (given y)) e)
 
-  pub finished-none : x .ending ≡ None → record { kept = x .after; penalty = x .penalty; steps = x .steps; outcome = outcome.None; roster = rosterOf [] } ≡ dayAdvanceOf (answerOf (dayPhase w nights) x) (x .after)
-  unfolding dayAdvanceOf
-  finished-none e = sym (ap (λ (y : Ending). dayAdvanceOf (answerWith (dayPhase w nights) (x .after) (x .steps) (x .penalty) y) (x .after)) e)
+  pub given-asked : {r : Roster} → x .ending ≡ Asked → r ≡ rosterOf [] → r ≡ rosterOf (lettersOf (answerOf (dayPhase w nights) x))
+  given-asked e q = q ∙ sym (ap (λ (y : Ending). rosterOf (given y)) e)
+
+  pub given-none : {r : Roster} → x .ending ≡ None → r ≡ rosterOf [] → r ≡ rosterOf (lettersOf (answerOf (dayPhase w nights) x))
+  given-none e q = q ∙ sym (ap (λ (y : Ending). rosterOf (given y)) e)
 
 -- ---- what an advance that is not refused hands back
 
@@ -196,7 +163,7 @@ stored-zero w P k r acc e =
 none-over : {f : ℕ → List ℕ} {m places over : ℕ} {ends : List ℕ} → Counted f m places over ends → listsFit f m places ≡ none → m ≤ over
 unfolding listsFit
 none-over {f} {m} {places} {over} c e =
-    let q : eqb (firstOver f places 0 m) m ≡ true = unless-none (eqb (firstOver f places 0 m) m) 9 _ e in
+    let q : eqb (firstOver f places 0 m) m ≡ true = unless-none (eqb (firstOver f places 0 m) m) question.lists _ e in
     omega (arith, eqb-true (firstOver f places 0 m) m q, c .over-is)
 
 pub record Open (w : List ℕ) (nights : ℕ → ℕ) (r : Stored) (k places over : ℕ) : Type 0 where
@@ -210,16 +177,16 @@ pub opened : (w : List ℕ) (nights : ℕ → ℕ) (r : Stored) (k : ℕ) {place
     → Counted (dayListOver w nights) (nurses w) places over ends → none ≡ afterLists w nights places r → Open w nights r k places over
 unfolding beforeLists afterLists
 opened w nights r k {places} e n f =
-    let a = first-none (unless (leb k 10000 && leb (r .steps + k) 1000000) 7 0) _ e in
+    let a = first-none (unless (leb k 10000 && leb (r .steps + k) 1000000) question.steps 0) _ e in
     let b = first-none (listsFit (dayListOver w nights) (nurses w) places) _ (sym f) in
     let c = first-none (lacking (dayListOver w nights) (upFrom 0 (nurses w))) _ (b .1) in
-    let s = and-parts (leb k 10000) (leb (r .steps + k) 1000000) (unless-none _ 7 0 (a .0)) in
+    let s = and-parts (leb k 10000) (leb (r .steps + k) 1000000) (unless-none _ question.steps 0 (a .0)) in
     record {
       unrefused = two-after w nights k places r e f;
       steps-fit = leb-true _ _ (s .1);
       full = none-over n (b .0);
       room = n .all-fit (none-over n (b .0));
-      sound = unless-none _ 11 0 (c .1);
+      sound = unless-none _ question.record-sound 0 (c .1);
     }
 
 -- what the code finds in the buffer

@@ -9,7 +9,8 @@ use lib.ListN.{length, length-append}
 use lib.Seq.{append-snoc}
 use borrow.Author.Tests.{eq-eqb, ne-eqb}
 use Rattle.history.specs.Slot.{Slot}
-use Rattle.history.specs.Phase.{Step, Phase, Call, No, Answer, End, End·zero, End·asked, End·none, refusal, given, inTurn}
+use Rattle.history.specs.Phase.{Step, Phase, Call, Answer, End, End·zero, End·asked, End·none, refusal, given, inTurn}
+use Rattle.refusals.specs.declared.Refusal.{Refusal}
 use Rattle.history.specs.History.{History, inUse, penalty, next, extend, reply, advance, answers, history}
 use Rattle.history.specs.Record.{Record, recordOf}
 use Rattle.history.specs.Claim.{Allowed, Least, Made, Went, refuses, goes, Turns, done, turn, Demand3}
@@ -113,7 +114,7 @@ module _ (P : Phase) where
   unfolding reply
   went c h = go (refusal P c (length h)) refl
     where
-      go : (o : Option No) → refusal P c (length h) ≡ o → Went P c h ((advance P c h) .0) ((advance P c h) .1)
+      go : (o : Option Refusal) → refusal P c (length h) ≡ o → Went P c h ((advance P c h) .0) ((advance P c h) .1)
       go none e = rw (advance-goes P c h e) (goes e (made (c .steps) h (extend P (c .steps) h) (ran (c .steps) h)))
       go (some n) e = rw (advance-refused P c h n e) (refuses e)
 

@@ -11,7 +11,9 @@ use lib.ListN.{length, take, length-take}
 use lib.Seq.{take-take, take-nil}
 use borrow.Author.Tests.{eqb-true, eq-eqb, ne-eqb, lt-ltb}
 use Rattle.numbers.specs.Range.{upFrom, all}
-use Rattle.history.specs.Phase.{Step, Phase, Call, No, Answer, refused, holds, exchanged, exchanges, least, refusal, first, inTurn}
+use Rattle.history.specs.Phase.{Step, Phase, Call, Answer, refused, holds, exchanged, exchanges, least, refusal, inTurn}
+use Rattle.refusals.specs.declared.Refusal.{Refusal}
+use Rattle.refusals.specs.Refusals.{first}
 use Rattle.history.specs.History.{History, inUse, givenUp, penalty, allowed, next, extend, reply, advance}
 use Rattle.history.specs.Record.{removals, recordOf, fresh, barred, mayTake, total, best, stepped, proceed, among, hers, allName, lacking, sound}
 use Rattle.history.specs.Claim.{Least}
@@ -145,17 +147,13 @@ module _ (P : Phase) where
 -- ---- one advance
 
 module _ (P : Phase) (c : Call) where
-  pub advance-refused : (h : History) (n : No) → refusal P c (length h) ≡ some n → advance P c h ≡ (refused n, h)
+  pub advance-refused : (h : History) (n : Refusal) → refusal P c (length h) ≡ some n → advance P c h ≡ (refused n, h)
   unfolding advance
   advance-refused h n e = rw (e, advance)
 
   pub advance-goes : (h : History) → refusal P c (length h) ≡ none → advance P c h ≡ reply P h (extend P (c .steps) h)
   unfolding advance
   advance-goes h e = rw (e, advance)
-
-pub first-none : (o : Option No) → first o none ≡ o
-first-none none = refl
-first-none (some n) = refl
 
 module _ (P : Phase) (w : Lawful P) where
   pub proceed-extend : {h : History} → Grown P h → (k : ℕ) → proceed P k (recordOf P h) ≡ (recordOf P ((extend P k h) .0), (extend P k h) .1)
@@ -184,7 +182,7 @@ module _ (P : Phase) where
   unfolding reply
   advance-grown c h g = go (refusal P c (length h)) refl
     where
-      go : (o : Option No) → refusal P c (length h) ≡ o → Grown P ((advance P c h) .1)
+      go : (o : Option Refusal) → refusal P c (length h) ≡ o → Grown P ((advance P c h) .1)
       go none e = rw (advance-goes P c h e) (extend-grown (c .steps) h g)
       go (some n) e = rw (advance-refused P c h n e) g
 

@@ -8,13 +8,16 @@ use native.Mathlib.Nat.{eq-or-lt-of-le, not-suc-le-zero}
 use native.Mathlib.Omega.{arith}
 use lib.ListN.{length}
 use Rattle.numbers.specs.Range.{upFrom}
-use Rattle.history.specs.Phase.{Phase, Call, No, Answer, refused, refusal}
+use Rattle.refusals.specs.Refusals.{numbered}
+use Rattle.refusals.specs.Questions as question
+use Rattle.history.specs.Phase.{Phase, Call, Answer, refused, refusal}
+use Rattle.refusals.specs.declared.Refusal.{Refusal}
 use Rattle.history.specs.Record.{lacking}
 use Rattle.history.specs.Claim.{Without, OneOrOther, orTen, AllRefused, Refusing}
 
 module _ (P : Phase) (i : ℕ) (w : Without P i) where
-  abbrev ten : No
-  ten = record { question = 10; place = suc i }
+  abbrev ten : Refusal
+  ten = numbered question.patterns (suc i)
 
   lacking-from : (a n : ℕ) → a ≤ i → i < a + n → lacking (P .patterns) (upFrom a n) ≡ some ten
   unfolding upFrom
@@ -55,7 +58,7 @@ module _ (P : Phase) where
 pub one-or-other : OneOrOther
 one-or-other P = one-of P (P .nurses) (omega arith)
 
-pub all-refused : {R : Type 0} (start : R) (advance : Call → R → Answer × R) (why : Call → No) → ((c : Call) → advance c start ≡ (refused (why c), start))
+pub all-refused : {R : Type 0} (start : R) (advance : Call → R → Answer × R) (why : Call → Refusal) → ((c : Call) → advance c start ≡ (refused (why c), start))
     → (cs : List Call) → AllRefused start advance why cs
 all-refused start advance why one [] = refl
 all-refused {R} start advance why one (c ∷ cs) =

@@ -5,7 +5,10 @@ use mathlib.Core.Logic.{_≢_, _↔_, _⊎_}
 use mathlib.Core.List.{List, [], _∷_, _++_, map, List·Memᴰ}
 use mathlib.Core.Option.{Option, none, some}
 use lib.ListN.{length}
-use Rattle.history.specs.Phase.{Step, Phase, Call, No, Answer, refused, ended, End, End·zero, End·asked, End·none, refusal, inTurn}
+use Rattle.refusals.specs.Refusals.{numbered}
+use Rattle.refusals.specs.Questions as question
+use Rattle.history.specs.Phase.{Step, Phase, Call, Answer, refused, ended, End, End·zero, End·asked, End·none, refusal, inTurn}
+use Rattle.refusals.specs.declared.Refusal.{Refusal}
 use Rattle.history.specs.History.{History, inUse, penalty, answers, history}
 use Rattle.history.specs.Record.{Record, recordOf}
 
@@ -46,7 +49,7 @@ pub record Made (P : Phase) (k : ℕ) (h h′ : History) (e : End) (n c : ℕ) (
 
 -- one advance: the history before it, its answer, and the history after it
 pub data Went (P : Phase) (call : Call) (h : History) : Answer → History → Type 0 where
-  refuses : {n : No} → refusal P call (length h) ≡ some n → Went P call h (refused n) h
+  refuses : {n : Refusal} → refusal P call (length h) ≡ some n → Went P call h (refused n) h
   goes : {h′ : History} {e : End} {n c : ℕ} {l : List ℕ} → refusal P call (length h) ≡ none
       → Made P (call .steps) h h′ e n c l → Went P call h (ended e n c l) h′
 
@@ -87,12 +90,12 @@ abbrev pub OneOrOther : Type 0
 OneOrOther = (P : Phase) → ((i : ℕ) → i < P .nurses → P .patterns i ≢ []) ⊎ ((i : ℕ) × Without P i)
 
 -- the first no of questions 7 to 9, or else that of question 10, which names nurse i
-abbrev pub orTen : ℕ → Option No → No
+abbrev pub orTen : ℕ → Option Refusal → Refusal
 orTen i (some n) = n
-orTen i none = record { question = 10; place = suc i }
+orTen i none = numbered question.patterns (suc i)
 
 -- every advance of a list is refused, with the no that its call has, and the record stays as it was at the start
-abbrev pub AllRefused : {R : Type 0} → R → (Call → R → Answer × R) → (Call → No) → List Call → Type 0
+abbrev pub AllRefused : {R : Type 0} → R → (Call → R → Answer × R) → (Call → Refusal) → List Call → Type 0
 AllRefused start advance why cs = inTurn advance cs start ≡ (map (λ c. refused (why c)) cs, start)
 
 -- a search whose fresh record is `start`: where nurse i is the lowest who has no pattern, every advance is refused, by questions 7 to 9 or else by 10

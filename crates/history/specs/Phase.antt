@@ -6,17 +6,15 @@ use mathlib.Core.List.{List, [], _∷_, _++_}
 use mathlib.Core.Option.{Option, none, some}
 use lib.Dec.{leb, ltb, eqb}
 use Rattle.numbers.specs.Range.{upFrom}
+use Rattle.refusals.specs.declared.Refusal.{Refusal}
+use Rattle.refusals.specs.Refusals.{first, unless}
+use Rattle.refusals.specs.Questions as question
 use Rattle.history.specs.Slot.{Slot}
 
 -- an exchange: one nurse is given one pattern
 pub record Step : Type 0 where
   pub nurse : ℕ
   pub pattern : ℕ
-
--- a refusal: the question's number, and a place
-pub record No : Type 0 where
-  pub question : ℕ
-  pub place : ℕ
 
 pub record Phase : Type 0 where
   pub nurses : ℕ
@@ -29,7 +27,7 @@ pub record Phase : Type 0 where
   -- by day, the letters of the roster that slots at penalty zero make; by night, no letter
   pub letters : (ℕ → Slot) → List ℕ
   -- the first no of questions 8 and 9, asked of a buffer of so many places
-  pub room : ℕ → Option No
+  pub room : ℕ → Option Refusal
 
 -- what an advance is handed: k, and the number of its buffer's places
 pub record Call : Type 0 where
@@ -41,7 +39,7 @@ pub data End : Type 0 where
 
 -- a refusal; or the end, the steps made by this advance, the penalty after them, and the roster's letters, none where no roster is given out
 pub data Answer : Type 0 where
-  refused : No → Answer
+  refused : Refusal → Answer
   ended : End → ℕ → ℕ → List ℕ → Answer
 
 -- ---- exchanges
@@ -95,19 +93,9 @@ module _ {S : Type 0} (total : S → ℕ) (best : S → Option Step) (make : Ste
         | false ↦ elim (best s) [ none ↦ (s, End·none) | some e ↦ run k (make e s) ]
       ]
 
--- the first no of two
-abbrev pub first : Option No → Option No → Option No
-first none b = b
-first (some a) b = some a
-
--- a question that is answered yes, or a no with its number and place
-abbrev pub unless : Bool → ℕ → ℕ → Option No
-unless true q i = none
-unless false q i = some (record { question = q; place = i })
-
 -- question 7: is k allowed (0 to 10,000), and is steps so far plus k at most 1,000,000? Then 8 and 9
-unfoldable pub refusal : Phase → Call → ℕ → Option No
-refusal P c steps = first (unless (leb (c .steps) 10000 && leb (steps + c .steps) 1000000) 7 0) (P .room (c .places))
+unfoldable pub refusal : Phase → Call → ℕ → Option Refusal
+refusal P c steps = first (unless (leb (c .steps) 10000 && leb (steps + c .steps) 1000000) question.steps 0) (P .room (c .places))
 
 -- the roster's letters, given out at penalty zero only
 unfoldable pub given : Phase → (ℕ → Slot) → List ℕ

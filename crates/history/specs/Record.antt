@@ -6,8 +6,11 @@ use mathlib.Core.Option.{Option, none, some}
 use lib.Dec.{ltb, eqb}
 use lib.ListN.{length, take}
 use Rattle.numbers.specs.Range.{upFrom, all}
+use Rattle.refusals.specs.Refusals.{numbered}
+use Rattle.refusals.specs.Questions as question
 use Rattle.history.specs.Slot.{Slot}
-use Rattle.history.specs.Phase.{Step, Phase, No, Answer, ended, End, holds, exchanged, exchanges, least, run, given}
+use Rattle.history.specs.Phase.{Step, Phase, Answer, ended, End, holds, exchanged, exchanges, least, run, given}
+use Rattle.refusals.specs.declared.Refusal.{Refusal}
 use Rattle.history.specs.History.{History, inUse}
 
 -- one of the TL places: a nurse's number, from 1, with the pattern that she gave up, or with none where the step placed her
@@ -70,9 +73,9 @@ stepped tl s r =
 -- ---- questions 10 and 11
 
 -- question 10: has every nurse a pattern? The place is the lowest nurse without
-abbrev pub lacking : (ℕ → List ℕ) → List ℕ → Option No
+abbrev pub lacking : (ℕ → List ℕ) → List ℕ → Option Refusal
 lacking patterns [] = none
-lacking patterns (i ∷ is) = elim (patterns i) [ [] ↦ some (record { question = 10; place = suc i }) | p ∷ ps ↦ lacking patterns is ]
+lacking patterns (i ∷ is) = elim (patterns i) [ [] ↦ some (numbered question.patterns (suc i)) | p ∷ ps ↦ lacking patterns is ]
 
 -- is p in the list?
 abbrev pub among : List ℕ → ℕ → Bool

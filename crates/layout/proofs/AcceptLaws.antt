@@ -21,7 +21,7 @@ small-at (w ∷ ws) (suc i) h l = small-at ws i (h .1) (omega arith)
 -- what a number's questions let through
 pub let-through : (q at v : ℕ) (r : Read) (vs : List ℕ) → unless q at (prepend (v ∷ []) r) ≡ good vs → (q ≡ 0) × ((us : List ℕ) × (r ≡ good us) × (vs ≡ v ∷ us))
 let-through zero at v (good us) vs e = (refl, (us, refl, (cc)))
-let-through zero at v (bad q p) vs e = let z : _≡_ {A = ℕ} 0 1 = cc in absurd (omega arith)
+let-through zero at v (bad n) vs e = let z : _≡_ {A = ℕ} 0 1 = cc in absurd (omega arith)
 let-through (suc q) at v r vs e = let z : _≡_ {A = ℕ} 0 1 = cc in absurd (omega arith)
 
 pub record Accepted (n : ℕ) (ws vs : List ℕ) : Type 0 where

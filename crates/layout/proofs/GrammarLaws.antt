@@ -7,6 +7,7 @@ use native.Mathlib.Omega.{arith}
 use borrow.Author.Tests.{ltb-false}
 use lib.ListN.{length, drop}
 use lib.Dec.{ltb}
+use Rattle.refusals.specs.Refusals.{numbered}
 use Rattle.layout.specs.declared.Field.{Field}
 use Rattle.codec.specs.declared.Number.{Number}
 use Rattle.codec.specs.declared.Number.the-variants.{Value, Ended, Long}
@@ -58,13 +59,13 @@ within-step n g f v h e a = go n (subst (Within n) (is-number g e) h)
 
 pub prepend-nil : (r : Read) → r ≡ prepend [] r
 prepend-nil (good vs) = refl
-prepend-nil (bad q p) = refl
+prepend-nil (bad n) = refl
 
 pub prepend-more : (us vs : List ℕ) (r : Read) → prepend us (prepend vs r) ≡ prepend (us ++ vs) r
 prepend-more us vs (good ws) = ap good (sym (append-assoc us vs ws))
-prepend-more us vs (bad q p) = refl
+prepend-more us vs (bad n) = refl
 
-unless-no : (q at : ℕ) (r : Read) → (q ≡ 0 → ⊥) → unless q at r ≡ bad q at
+unless-no : (q at : ℕ) (r : Read) → (q ≡ 0 → ⊥) → unless q at r ≡ bad (numbered q at)
 unless-no zero at r h = absurd (h refl)
 unless-no (suc q) at r h = refl
 
@@ -78,13 +79,13 @@ module _ (g : Grammar) (f : Field) (at : ℕ) (bs : List ℕ) (e : wanted g ≡ 
       read g at bs ≡ prepend (v ∷ []) (read (after g v) (at + used) (drop used bs))
   read-good v used d a = next ∙ simp (d, a)
 
-  pub read-ended : decode bs ≡ Ended → read g at bs ≡ bad 1 at
+  pub read-ended : decode bs ≡ Ended → read g at bs ≡ bad (numbered 1 at)
   read-ended d = next ∙ simp d
 
-  pub read-long : decode bs ≡ Long → read g at bs ≡ bad 2 at
+  pub read-long : decode bs ≡ Long → read g at bs ≡ bad (numbered 2 at)
   read-long d = next ∙ simp d
 
-  pub read-failed : (v used : ℕ) → decode bs ≡ Value v used → (asked f v ≡ 0 → ⊥) → read g at bs ≡ bad (asked f v) at
+  pub read-failed : (v used : ℕ) → decode bs ≡ Value v used → (asked f v ≡ 0 → ⊥) → read g at bs ≡ bad (numbered (asked f v) at)
   read-failed v used d a = next ∙ simp d (unless-no (asked f v) at _ a)
 
 pub read-over : (g : Grammar) (at : ℕ) (bs : List ℕ) → wanted g ≡ Nothing → length bs ≤ 0 → read g at bs ≡ good []
@@ -92,7 +93,7 @@ unfolding read
 read-over g at [] e h = ap (λ (x : Grammar). read x at []) (is-done g e)
 read-over g at (b ∷ bs) e h = absurd (omega arith)
 
-pub read-extra : (g : Grammar) (at : ℕ) (bs : List ℕ) → wanted g ≡ Nothing → 0 < length bs → read g at bs ≡ bad 5 at
+pub read-extra : (g : Grammar) (at : ℕ) (bs : List ℕ) → wanted g ≡ Nothing → 0 < length bs → read g at bs ≡ bad (numbered 5 at)
 unfolding read
 read-extra g at [] e h = absurd (omega arith)
 read-extra g at (b ∷ bs) e h = ap (λ (x : Grammar). read x at (b ∷ bs)) (is-done g e)
@@ -132,11 +133,11 @@ module _ (g : Grammar) (f : Field) (i : ℕ) (e : wanted g ≡ Next f) where
   unfolding check
   check-good v vs a = ap (λ (x : Grammar). check x i (v ∷ vs)) (is-number g e) ∙ simp a
 
-  pub check-failed : (v : ℕ) (vs : List ℕ) → (asked f v ≡ 0 → ⊥) → check g i (v ∷ vs) ≡ bad (asked f v) i
+  pub check-failed : (v : ℕ) (vs : List ℕ) → (asked f v ≡ 0 → ⊥) → check g i (v ∷ vs) ≡ bad (numbered (asked f v) i)
   unfolding check
   check-failed v vs a = ap (λ (x : Grammar). check x i (v ∷ vs)) (is-number g e) ∙ unless-no (asked f v) i _ a
 
-  pub check-missing : check g i [] ≡ bad 1 i
+  pub check-missing : check g i [] ≡ bad (numbered 1 i)
   unfolding check
   check-missing = ap (λ (x : Grammar). check x i []) (is-number g e)
 
@@ -144,6 +145,6 @@ pub check-over : (g : Grammar) (i : ℕ) → wanted g ≡ Nothing → check g i 
 unfolding check
 check-over g i e = ap (λ (x : Grammar). check x i []) (is-done g e)
 
-pub check-extra : (g : Grammar) (i v : ℕ) (vs : List ℕ) → wanted g ≡ Nothing → check g i (v ∷ vs) ≡ bad 5 i
+pub check-extra : (g : Grammar) (i v : ℕ) (vs : List ℕ) → wanted g ≡ Nothing → check g i (v ∷ vs) ≡ bad (numbered 5 i)
 unfolding check
 check-extra g i v vs e = ap (λ (x : Grammar). check x i (v ∷ vs)) (is-done g e)

@@ -5,6 +5,7 @@ use mathlib.Core.List.{List, [], _∷_, _++_, append-assoc, append-nil}
 use native.Mathlib.Omega.{arith}
 use lib.ListN.{length, drop, length-append}
 use lib.Seq.{drop-append-seam}
+use Rattle.refusals.specs.Refusals.{numbered}
 use Rattle.codec.specs.declared.Number.{Number}
 use Rattle.codec.specs.declared.Number.the-variants.{Value, Ended, Long}
 use Rattle.codec.specs.Groups.{encode, decode}
@@ -22,7 +23,7 @@ use Rattle.layout.proofs.AskedLaws.{asked-none, none-asked, asked-fault
 -- what `read g at bs` says of the bytes
 abbrev Told : Grammar → ℕ → List ℕ → Read → Type 0
 Told g at bs (good ws) = FileGood g bs ws
-Told g at bs (bad q x) = (p : ℕ) × (x ≡ at + p) × FileFault g bs q p
+Told g at bs (bad n) = (p : ℕ) × (n .place ≡ at + p) × FileFault g bs (n .question) p
 
 here : {g : Grammar} {bs : List ℕ} {q : ℕ} (at : ℕ) → BytesFault g bs q → (p : ℕ) × (at ≡ at + p) × FileFault g bs q p
 unfolding bytesOf
@@ -38,7 +39,7 @@ module _ (f : Field) (k : ℕ → Grammar) (at : ℕ) (bs : List ℕ) (a : AllBy
         bytes = value-stands bs v used a d .bytes ∙ ap (λ (l : List ℕ). encode v ++ l) (t .bytes);
         takes = one-more (o .0) (o .1) (t .takes);
       }
-  value-told v used d zero e (bad q x) (p, is, t) =
+  value-told v used d zero e (bad n) (p, is, t) =
       let o = asked-none f v e in (
         used + p,
         omega arith,
@@ -69,7 +70,7 @@ read-told done at [] a = record { bytes = refl; takes = none-yet }
 read-told done at (b ∷ bs) a = here at (more-bytes (λ n. let z : _≡_ {A = ℕ} 0 1 = cc in absurd (omega arith)))
 read-told (number f k) at bs a = number-told f k at bs a (decode bs) refl (λ v used. read-told (k v) (at + used) (drop used bs) (all-drop used bs a))
 
-pub read-fault : (g : Grammar) (at : ℕ) (bs : List ℕ) (q x : ℕ) → AllBytes bs → read g at bs ≡ bad q x → (p : ℕ) × (x ≡ at + p) × FileFault g bs q p
+pub read-fault : (g : Grammar) (at : ℕ) (bs : List ℕ) (q x : ℕ) → AllBytes bs → read g at bs ≡ bad (numbered q x) → (p : ℕ) × (x ≡ at + p) × FileFault g bs q p
 read-fault g at bs q x a e = subst (Told g at bs) e (read-told g at bs a)
 
 pub read-takes : (g : Grammar) (at : ℕ) (bs ws : List ℕ) → AllBytes bs → read g at bs ≡ good ws → FileGood g bs ws
@@ -95,23 +96,23 @@ read-on (suc n) at rest (one-more {f} {k} {v} {vs} {left} r h t) w =
     ∙ prepend-more (v ∷ []) vs (read left (at + size + length (bytesOf vs)) rest)
     ∙ ap (λ (m : ℕ). prepend (v ∷ vs) (read left m rest)) place
 
-fault-here : {g : Grammar} {bs : List ℕ} {q : ℕ} (at : ℕ) → BytesFault g bs q → read g at bs ≡ bad q at
+fault-here : {g : Grammar} {bs : List ℕ} {q : ℕ} (at : ℕ) → BytesFault g bs q → read g at bs ≡ bad (numbered q at)
 unfolding read
 fault-here at (cut-off {f} {k} {bs} c) = read-ended (number f k) f at bs refl (cut-off-when bs .1 c)
 fault-here at (too-long {f} {k} {bs} l) = read-long (number f k) f at bs refl (too-long-when bs .1 l)
 fault-here at (BytesFault.wrong-number {f} {k} {bs} {v} {q} {after} s h) =
     let e = fault-asked f v q h in
     read-failed (number f k) f at bs refl v (length (encode v)) (stands-value bs v after s) (λ z. fault-some h (sym e ∙ z))
-    ∙ ap (λ (n : ℕ). bad n at) e
+    ∙ ap (λ (n : ℕ). bad (numbered n at)) e
 fault-here at (more-bytes {bs = []} n) = absurd (n refl)
 fault-here at (more-bytes {bs = b ∷ bs} n) = refl
 
-pub fault-read : (n : ℕ) (g : Grammar) → Within n g → (at : ℕ) (bs : List ℕ) (q p : ℕ) → FileFault g bs q p → read g at bs ≡ bad q (at + p)
+pub fault-read : (n : ℕ) (g : Grammar) → Within n g → (at : ℕ) (bs : List ℕ) (q p : ℕ) → FileFault g bs q p → read g at bs ≡ bad (numbered q (at + p))
 fault-read n g w at bs q p h =
     ap (read g at) (h .bytes)
     ∙ read-on n at (h .rest) (h .takes) w
     ∙ ap (prepend (h .taken)) (fault-here (at + length (bytesOf (h .taken))) (h .fault))
-    ∙ ap (λ (m : ℕ). bad q (at + m)) (sym (h .place))
+    ∙ ap (λ (m : ℕ). bad (numbered q (at + m))) (sym (h .place))
 
 pub takes-read : (n : ℕ) (g : Grammar) → Within n g → (at : ℕ) (bs ws : List ℕ) → FileGood g bs ws → read g at bs ≡ good ws
 unfolding read

@@ -5,6 +5,7 @@ use mathlib.Core.Path.{_≡_}
 use mathlib.Core.Logic.{_≢_, _↔_, _⊎_}
 use mathlib.Core.List.{List, [], _∷_, _++_}
 use lib.ListN.{length}
+use Rattle.refusals.specs.Questions as question
 use Rattle.codec.specs.Bytes.{CutOff, TooLong, Stands}
 use Rattle.layout.specs.declared.Rule.{Rule}
 use Rattle.layout.specs.declared.Rule.the-variants.{Any, After}
@@ -27,22 +28,22 @@ pub data Takes : Grammar → List ℕ → Grammar → Type 0 where
 
 -- the question that a number fails in its field: 3 before 4
 pub data NumberFault (f : Field) (v : ℕ) : ℕ → Type 0 where
-  out-of-range : (v < f .least) ⊎ (f .most < v) → NumberFault f v 3
-  unfit : InRange f v → (FitsBefore (f .rule) v → ⊥) → NumberFault f v 4
+  out-of-range : (v < f .least) ⊎ (f .most < v) → NumberFault f v question.range
+  unfit : InRange f v → (FitsBefore (f .rule) v → ⊥) → NumberFault f v question.duty
 
 -- the question that bytes fail where this is left of the layout
 pub data BytesFault : Grammar → List ℕ → ℕ → Type 0 where
-  cut-off : {f : Field} {k : ℕ → Grammar} {bs : List ℕ} → CutOff bs → BytesFault (number f k) bs 1
-  too-long : {f : Field} {k : ℕ → Grammar} {bs : List ℕ} → TooLong bs → BytesFault (number f k) bs 2
+  cut-off : {f : Field} {k : ℕ → Grammar} {bs : List ℕ} → CutOff bs → BytesFault (number f k) bs question.whole
+  too-long : {f : Field} {k : ℕ → Grammar} {bs : List ℕ} → TooLong bs → BytesFault (number f k) bs question.shortest
   wrong-number : {f : Field} {k : ℕ → Grammar} {bs : List ℕ} {v q : ℕ} {after : List ℕ}
       → Stands bs v after → NumberFault f v q → BytesFault (number f k) bs q
-  more-bytes : {bs : List ℕ} → bs ≢ [] → BytesFault done bs 5
+  more-bytes : {bs : List ℕ} → bs ≢ [] → BytesFault done bs question.end
 
 -- and numbers
 pub data NumbersFault : Grammar → List ℕ → ℕ → Type 0 where
-  missing : {f : Field} {k : ℕ → Grammar} → NumbersFault (number f k) [] 1
+  missing : {f : Field} {k : ℕ → Grammar} → NumbersFault (number f k) [] question.whole
   wrong-number : {f : Field} {k : ℕ → Grammar} {v q : ℕ} {after : List ℕ} → NumberFault f v q → NumbersFault (number f k) (v ∷ after) q
-  more-numbers : {ws : List ℕ} → ws ≢ [] → NumbersFault done ws 5
+  more-numbers : {ws : List ℕ} → ws ≢ [] → NumbersFault done ws question.end
 
 -- A file fails question q at offset p: after the bytes of numbers that the layout takes, so that no earlier question is a no.
 pub record FileFault (layout : Grammar) (file : List ℕ) (q p : ℕ) : Type 0 where

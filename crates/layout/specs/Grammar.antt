@@ -5,6 +5,9 @@ use mathlib.Core.Bool.{Bool, true, not, cond}
 use mathlib.Core.List.{List, [], _∷_, _++_}
 use lib.ListN.{drop}
 use lib.Dec.{ltb, eqb}
+use Rattle.refusals.specs.declared.Refusal.{Refusal}
+use Rattle.refusals.specs.Refusals.{numbered}
+use Rattle.refusals.specs.Questions as question
 use Rattle.codec.specs.declared.Number.{Number}
 use Rattle.codec.specs.declared.Number.the-variants.{Value, Ended, Long}
 use Rattle.layout.specs.declared.Rule.{Rule}
@@ -23,38 +26,38 @@ fits (After d) v = cond (eqb d 2) (eqb v 3) (not (eqb v 3))
 
 -- 0, or the first question of 3 and 4 that v fails in its field
 unfoldable pub asked : Field → ℕ → ℕ
-asked f v = cond (ltb v (f .least)) 3 (cond (ltb (f .most) v) 3 (cond (fits (f .rule) v) 0 4))
+asked f v = cond (ltb v (f .least)) question.range (cond (ltb (f .most) v) question.range (cond (fits (f .rule) v) 0 question.duty))
 
--- what reading comes to: the numbers, or a question and a place
+-- what reading comes to: the numbers, or a refusal
 pub data Read : Type 0 where
   good : List ℕ → Read
-  bad : ℕ → ℕ → Read
+  bad : Refusal → Read
 
 abbrev pub prepend : List ℕ → Read → Read
 prepend ws (good vs) = good (ws ++ vs)
-prepend ws (bad q p) = bad q p
+prepend ws (bad n) = bad n
 
 -- goes on where the question is 0
 abbrev pub unless : ℕ → ℕ → Read → Read
 unless zero at r = r
-unless (suc q) at r = bad (suc q) at
+unless (suc q) at r = bad (numbered (suc q) at)
 
 abbrev pub heard : Field → ℕ → Number → (ℕ → ℕ → Read) → Read
 heard f at (Value v used) go = unless (asked f v) at (go v used)
-heard f at Ended go = bad 1 at
-heard f at Long go = bad 2 at
+heard f at Ended go = bad (numbered question.whole at)
+heard f at Long go = bad (numbered question.shortest at)
 
 -- the numbers at the front of the bytes, of which the first is at the offset `at`; nothing may follow the last
 unfoldable pub read : Grammar → ℕ → List ℕ → Read
 read done at [] = good []
-read done at (b ∷ bs) = bad 5 at
+read done at (b ∷ bs) = bad (numbered question.end at)
 read (number f k) at bs = heard f at (decode bs) (λ v used. prepend (v ∷ []) (read (k v) (at + used) (drop used bs)))
 
 -- the questions of a list of numbers of which the first has the index i
 unfoldable pub check : Grammar → ℕ → List ℕ → Read
 check done i [] = good []
-check done i (w ∷ ws) = bad 5 i
-check (number f k) i [] = bad 1 i
+check done i (w ∷ ws) = bad (numbered question.end i)
+check (number f k) i [] = bad (numbered question.whole i)
 check (number f k) i (w ∷ ws) = unless (asked f w) i (prepend (w ∷ []) (check (k w) (i + 1) ws))
 
 unfoldable pub bytesOf : List ℕ → List ℕ

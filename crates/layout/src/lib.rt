@@ -1,4 +1,5 @@
 // The layout as a walk: the field that is wanted at a place, and the place after a number.
+use refusals::question;
 ghost use mathlib.Core.Path.{_≡_};
 ghost use Prim.Native.Nat.{_-_, _^_, _<_};
 ghost use Rattle.layout.specs.Grammar.{asked};
@@ -47,19 +48,19 @@ pub fn ask(f: Field, v: u64) -> u32
     ensures { λ r. ⌜ r ≡ asked f v ⌝ }
 {
     if v < f.least {
-        return 3;
+        return question::RANGE;
     }
     if f.most < v {
-        return 3;
+        return question::RANGE;
     }
     let rule = f.rule;
     match rule {
         Rule::Any => 0,
         Rule::After { duty } => {
             if duty == 2 {
-                if v == 3 { 0 } else { 4 }
+                if v == 3 { 0 } else { question::DUTY }
             } else {
-                if v == 3 { 4 } else { 0 }
+                if v == 3 { question::DUTY } else { 0 }
             }
         }
     }

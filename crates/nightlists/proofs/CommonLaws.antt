@@ -18,8 +18,9 @@ use Rattle.nightlists.specs.declared.Next.the-variants.{To, Never}
 use Rattle.numbers.specs.Range.{upFrom, keep}
 use Rattle.numbers.proofs.RangeLaws.{range-add, keep-append}
 use Rattle.rows.specs.Rows.{started}
-use Rattle.fields.specs.Rules.{gap}
-use Rattle.nights.specs.Nights.{starts, follow, inCommon, common}
+use Rattle.fields.specs.Fields.{days}
+use Rattle.fields.specs.Rules.{rulesOf, gap}
+use Rattle.nights.specs.Nights.{starts, follow, inCommon, common, commonOf}
 use Rattle.nights.proofs.FollowLaws.{leb-same, follow-first}
 use Rattle.nightlists.specs.CodeWalk.{closed, startAt, noneYet, onward, listed}
 
@@ -272,3 +273,7 @@ module _ (r : Rules) (n : ℕ) (l : 1 ≤ r .longest) where
 
   pub walk-from : (s : State) → s ≡ noneYet → listed r n 0 s ≡ common r n
   walk-from s e = ap (λ (t : State). listed r n 0 t) e ∙ walk-lists-common
+
+-- by rules and days that were read
+pub common-as : (w : List ℕ) {r : Rules} {n : ℕ} → r ≡ rulesOf w → n ≡ days w → common r n ≡ commonOf w
+common-as w e q = ap₂ common e q

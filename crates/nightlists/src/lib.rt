@@ -1,4 +1,5 @@
 // The common list, by a recursive walk over the days from the last to the first, not started before started.
+pub mod common;
 pub mod some;
 
 use fields::rules::Rules;

@@ -1,7 +1,7 @@
 // Prints the common list of document 01's case of 30 days, that of the ward on standard input, and how many patterns of it
 // each nurse has, by the fast test and by the plain one.
 use fields::rules::Rules;
-use ward::Answer;
+use refusals::Answer;
 ghost use Prim.Native.Nat.{_≤_, _<_};
 ghost use Rattle.fields.specs.Fields.{Accepted, nurses};
 ghost use Rattle.fields.specs.CodeRules.{Small};
@@ -148,7 +148,7 @@ fn show_file(file: &[u8]) {
     let count = reading.ward.count;
     match answer {
         Answer::Yes => show_ward(&numbers[..count]),
-        Answer::No { question, place } => number(question as u64),
+        Answer::No(n) => number(n.question as u64),
     }
 }
 

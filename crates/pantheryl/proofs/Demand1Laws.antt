@@ -7,18 +7,20 @@ use mathlib.Core.Option.{none, some, Option·none-ne-some}
 use lib.Dec.{eqb}
 use lib.ListN.{length}
 use Rattle.ward.specs.Answers.{readWard, readingOf, counted, checkWard, writingOf}
-use Rattle.ward.specs.declared.Answer.{Answer as WardAnswer}
-use Rattle.ward.specs.declared.Answer.the-variants.{Yes, No}
+use Rattle.refusals.specs.declared.Refusal.{Refusal}
+use Rattle.refusals.specs.declared.Answer.{Answer as Asked}
+use Rattle.refusals.specs.declared.Answer.the-variants.{Yes, No}
 use Rattle.ward.specs.declared.Reading.{Reading}
+use Rattle.refusals.specs.Refusals.{numbered, refusalIn}
 use Rattle.history.specs.Phase.{Answer, refused, ended}
-use Rattle.history.specs.Phase as phases
 use Rattle.search.specs.Stored.{Sized}
 use Rattle.search.specs.declared.Record.{Record as Stored}
 use Rattle.phases.specs.Outcomes.{leftBy, callOf}
-use Rattle.planner.specs.Answers.{Said, said, checkSays}
-use Rattle.planner.specs.Answers as checks
+use Rattle.planner.specs.declared.Checked.{Checked}
+use Rattle.planner.specs.declared.Checked.the-variants.{Refused, Passed, Broken}
+use Rattle.planner.specs.Answers.{checkSays}
 use Rattle.planner.specs.Left.{listOf, listsOf, nightLeft, dayLeft}
-use Rattle.planner.specs.Demand1.{noInAnswer, noInSaid}
+use Rattle.planner.specs.Demand1.{noInCheck}
 use Rattle.planner.proofs.Demand1Laws.{noIn, nights-answer, days-answer, demand1}
 use Rattle.pantheryl.specs.Words.{recordOfWords}
 use Rattle.pantheryl.specs.Answers.{countWords, readWords, numbersLeft, wardOf, writeWords, advanceWords, wordsLeft, nightsFrom, daysFrom, rosterLeft, checkWords}
@@ -28,23 +30,23 @@ use Rattle.pantheryl.specs.Demand1.{noInWords, WordsDemand1}
 -- ---- the refusal in an answer's words is that of the answer
 
 -- where the words say a refusal they are not those of question 0
-said-no : (b : Bool) (n m : phases.No) → cond b none (some n) ≡ some m → some n ≡ some m
+said-no : (b : Bool) (n m : Refusal) → cond b none (some n) ≡ some m → some n ≡ some m
 said-no true n m e = absurd (Option·none-ne-some m e)
 said-no false n m e = e
 
-count-no : (a : WardAnswer) (count : ℕ) (n : phases.No) → noInWords (countWords a count) ≡ some n → noInAnswer a ≡ some n
+count-no : (a : Asked) (count : ℕ) (n : Refusal) → noInWords (countWords a count) ≡ some n → refusalIn a ≡ some n
 count-no Yes count n e = absurd (Option·none-ne-some n e)
-count-no (No q p) count n e = said-no (eqb q 0) (record { question = q; place = p }) n e
+count-no (No m) count n e = said-no (eqb (m .question) 0) m n e
 
-advance-no : (a : Answer) (n : phases.No) → noInWords (advanceWords a) ≡ some n → noIn a ≡ some n
+advance-no : (a : Answer) (n : Refusal) → noInWords (advanceWords a) ≡ some n → noIn a ≡ some n
 unfolding advanceWords
 advance-no (refused m) n e = said-no (eqb (m .question) 0) m n e
 advance-no (ended end steps penalty letters) n e = absurd (Option·none-ne-some n e)
 
-check-no : (s : Said) (n : phases.No) → noInWords (checkWords s) ≡ some n → noInSaid s ≡ some n
-check-no (checks.refused m) n e = said-no (eqb (m .question) 0) m n e
-check-no (said true) n e = absurd (Option·none-ne-some n e)
-check-no (said false) n e = absurd (Option·none-ne-some n e)
+check-no : (s : Checked) (n : Refusal) → noInWords (checkWords s) ≡ some n → noInCheck s ≡ some n
+check-no (Refused m) n e = said-no (eqb (m .question) 0) m n e
+check-no Passed n e = absurd (Option·none-ne-some n e)
+check-no Broken n e = absurd (Option·none-ne-some n e)
 
 -- ---- a record read from words has its declared sizes
 
@@ -59,20 +61,20 @@ words-demand1 = record {
       let f = demand1 .read file bytes in
       let x = readingOf (readWard file) in
       record {
-        only = λ q p e. f .only q p (count-no (x .answer) (x .ward .count) (record { question = q; place = p }) e);
+        only = λ q p e. f .only q p (count-no (x .answer) (x .ward .count) (numbered q p) e);
         always = λ q p w. let s = f .always q p w .0 in (ap readWords s, ap (λ (x : Reading). numbersLeft x numbers) s);
       };
   write = λ numbers count buffer.
       let f = demand1 .write (wardOf numbers count) buffer in
       let x = writingOf (length buffer) (checkWard (counted (wardOf numbers count))) in
       record {
-        only = λ q p e. f .only q p (count-no (x .answer) (x .bytes) (record { question = q; place = p }) e);
+        only = λ q p e. f .only q p (count-no (x .answer) (x .bytes) (numbered q p) e);
         always = λ q p w. let s = f .always q p w in (ap writeWords (s .0), s .1);
       };
   nights = λ file bytes words l k buffer.
       let f = nights-answer file bytes (recordOfWords words) (words-sized words l) (callOf k (length buffer)) in
       record {
-        only = λ q p e. f .only q p (advance-no (nightsFrom file words k buffer .0) (record { question = q; place = p }) e);
+        only = λ q p e. f .only q p (advance-no (nightsFrom file words k buffer .0) (numbered q p) e);
         always = λ q p w.
             let s = f .always q p w in (
               ap (λ (x : Answer × Stored). advanceWords (x .0)) s,
@@ -82,7 +84,7 @@ words-demand1 = record {
   days = λ file bytes nights words l k buffer roster.
       let f = days-answer file bytes (recordOfWords words) (words-sized words l) (callOf k (length buffer)) nights in
       record {
-        only = λ q p e. f .only q p (advance-no (daysFrom file nights words k buffer .0) (record { question = q; place = p }) e);
+        only = λ q p e. f .only q p (advance-no (daysFrom file nights words k buffer .0) (numbered q p) e);
         always = λ q p w.
             let s = f .always q p w in (
               ap (λ (x : Answer × Stored). advanceWords (x .0)) s,
@@ -96,7 +98,7 @@ words-demand1 = record {
   check = λ file bytes roster.
       let f = demand1 .check file bytes roster in
       record {
-        only = λ q p e. f .only q p (check-no (checkSays file roster) (record { question = q; place = p }) e);
+        only = λ q p e. f .only q p (check-no (checkSays file roster) (numbered q p) e);
         always = λ q p w. (ap checkWords (f .always q p w .0), tt);
       };
 }

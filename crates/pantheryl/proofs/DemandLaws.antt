@@ -8,7 +8,8 @@ use lib.ListN.{length, replicate, length-take}
 use Rattle.layout.specs.Grammar.{good, bad}
 use Rattle.ward.specs.Answers.{readWard}
 use Rattle.ward.proofs.ReadingLaws.{read-accepted}
-use Rattle.history.specs.Phase.{Phase, Step, Call, No, Answer, refused, refusal, inTurn}
+use Rattle.history.specs.Phase.{Phase, Step, Call, Answer, refused, refusal, inTurn}
+use Rattle.refusals.specs.declared.Refusal.{Refusal}
 use Rattle.history.specs.Record.{Record, total, best, stepped, proceed, replyOf}
 use Rattle.history.specs.Claim.{Demand3, orTen, AllRefused, Refusing}
 use Rattle.search.specs.Stored.{viewOf, store, allZero, refusalStored, replyStored, advanceStored, Sized}
@@ -51,7 +52,7 @@ module _ (P : Phase) (fits : Fits P) where
   advanced-sized : (c : Call) (r : Stored) → Sized r → Sized (advanceStored P c r .1)
   advanced-sized c r z = go (refusalStored P c r) refl
     where
-      go : (o : Option No) → refusalStored P c r ≡ o → Sized (advanceStored P c r .1)
+      go : (o : Option Refusal) → refusalStored P c r ≡ o → Sized (advanceStored P c r .1)
       go none e = subst (λ (x : Answer × Stored). Sized (x .1)) (sym (stored-goes P c r e)) (reply-sized (c .steps) r z)
       go (some n) e = subst (λ (x : Answer × Stored). Sized (x .1)) (sym (stored-refused P c r n e)) z
 
@@ -65,7 +66,7 @@ module _ (P : Phase) (fits : Fits P) where
   unfolding wordsLeft
   words-left c r = go (refusalStored P c r) refl
     where
-      go : (o : Option No) → refusalStored P c r ≡ o → wordsLeft (advanceStored P c r) (wordsOfRecord r) ≡ wordsOfRecord (advanceStored P c r .1)
+      go : (o : Option Refusal) → refusalStored P c r ≡ o → wordsLeft (advanceStored P c r) (wordsOfRecord r) ≡ wordsOfRecord (advanceStored P c r .1)
       go none e = rw (stored-goes P c r e) (reply-left (c .steps) r (wordsOfRecord r))
       go (some n) e = rw (stored-refused P c r n e)
 
@@ -111,7 +112,7 @@ module _ (phase : List ℕ → Phase) (file w : List ℕ) (reads : readWard file
       (by-words (phase w) fits cs (subst (λ (adv : Call → Stored → Answer × Stored). Demand3 (phase w) allZero adv store cs) same d))
 
 -- a refused advance leaves the words as they were
-refused-words : (advance : Call → Stored → Answer × Stored) (n : No) (c : Call) → advance c allZero ≡ (refused n, allZero)
+refused-words : (advance : Call → Stored → Answer × Stored) (n : Refusal) (c : Call) → advance c allZero ≡ (refused n, allZero)
     → byWords advance c (replicate 289 0) ≡ (refused n, replicate 289 0)
 unfolding wordsLeft
 refused-words advance n c e = rw (read-back .fresh, e)
@@ -121,11 +122,11 @@ words-without phase file w e =
     refusing (phase w) (replicate 289 0) (byWords (advanceOver phase (readWard file)))
     (λ i h c. refused-words (advanceOver phase (readWard file)) (orTen i (refusal (phase w) c 0)) c (advance-without phase file w e i h c))
 
-words-unread : (phase : List ℕ → Phase) (file : List ℕ) (q p : ℕ) → readWard file ≡ bad q p → (cs : List Call)
-    → AllRefused (replicate 289 0) (byWords (advanceOver phase (readWard file))) (λ c. record { question = q; place = p }) cs
-words-unread phase file q p e cs =
-    all-refused (replicate 289 0) (byWords (advanceOver phase (readWard file))) (λ c. record { question = q; place = p })
-    (λ c. refused-words (advanceOver phase (readWard file)) (record { question = q; place = p }) c (advance-unread phase file q p c allZero e)) cs
+words-unread : (phase : List ℕ → Phase) (file : List ℕ) (n : Refusal) → readWard file ≡ bad n → (cs : List Call)
+    → AllRefused (replicate 289 0) (byWords (advanceOver phase (readWard file))) (λ c. n) cs
+words-unread phase file n e cs =
+    all-refused (replicate 289 0) (byWords (advanceOver phase (readWard file))) (λ c. n)
+    (λ c. refused-words (advanceOver phase (readWard file)) n c (advance-unread phase file n c allZero e)) cs
 
 pub words-demand : WordsDemanded
 words-demand = record {
@@ -146,8 +147,8 @@ words-demand = record {
             };
         no-days = λ nights. words-without (λ v. dayPhase v (nightOf nights)) file w e;
       };
-  unread = λ file q p e. record {
-    nights = λ cs. words-unread nightPhase file q p e cs;
-    days = λ nights cs. words-unread (λ v. dayPhase v (nightOf nights)) file q p e cs;
+  unread = λ file n e. record {
+    nights = λ cs. words-unread nightPhase file n e cs;
+    days = λ nights cs. words-unread (λ v. dayPhase v (nightOf nights)) file n e cs;
   };
 }

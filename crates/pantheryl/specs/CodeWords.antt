@@ -11,13 +11,13 @@ use Rattle.pantheryl.specs.Answers.{refusalWords, doneWords}
 
 -- the words of an advance's outcome
 abbrev pub outcomeWords : Outcome → ℕ → ℕ → ℕ → List ℕ
-outcomeWords (Refused question place) steps penalty count = refusalWords question place
+outcomeWords (Refused n) steps penalty count = refusalWords n
 outcomeWords Zero steps penalty count = doneWords 1 steps penalty count
 outcomeWords Asked steps penalty count = doneWords 2 steps penalty count
 outcomeWords None steps penalty count = doneWords 3 steps penalty count
 
 abbrev pub isRefused : Outcome → Bool
-isRefused (Refused question place) = true
+isRefused (Refused n) = true
 isRefused Zero = false
 isRefused Asked = false
 isRefused None = false

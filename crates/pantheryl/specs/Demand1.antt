@@ -1,4 +1,5 @@
 -- Demand 1 through the C interface: what the contracts say of the answer's words and of all memory that a call is lent, where it refuses.
+use Rattle.refusals.specs.Refusals.{numbered}
 use Prim.Native.Nat.{ℕ}
 use mathlib.Core.Path.{_≡_}
 use mathlib.Core.Bool.{cond}
@@ -9,7 +10,7 @@ use lib.ListN.{length, getD}
 use Rattle.layout.specs.Layout.{ward}
 use Rattle.layout.specs.Faults.{FileFault}
 use Rattle.ward.specs.Answers.{readWard, readingOf, counted, checkWard, writingOf, leftOf}
-use Rattle.history.specs.Phase.{No}
+use Rattle.refusals.specs.declared.Refusal.{Refusal}
 use Rattle.phases.specs.Phases.{nightOf}
 use Rattle.phases.specs.Outcomes.{callOf}
 use Rattle.planner.specs.Answers.{checkSays}
@@ -20,11 +21,11 @@ use Rattle.pantheryl.specs.Words.{recordOfWords}
 use Rattle.pantheryl.specs.Answers.{refusalWords, readWords, numbersLeft, wardOf, writeWords, advanceWords, wordsLeft, nightsFrom, daysFrom, rosterLeft, checkWords}
 
 -- an answer's words are a refusal's where the first is not 0: question and place
-abbrev pub noInWords : List ℕ → Option No
-noInWords answer = cond (eqb (getD answer 0 0) 0) none (some (record { question = getD answer 0 0; place = getD answer 1 0 }))
+abbrev pub noInWords : List ℕ → Option Refusal
+noInWords answer = cond (eqb (getD answer 0 0) 0) none (some (numbered (getD answer 0 0) (getD answer 1 0)))
 
 abbrev pub WordsRefuse : (ℕ → ℕ → Type 0) → List ℕ → Type 0 → Type 0
-WordsRefuse Fault answer Left = Refuses Fault answer noInWords refusalWords Left
+WordsRefuse Fault answer Left = Refuses Fault answer noInWords (λ q p. refusalWords (numbered q p)) Left
 
 -- proofs/Demand1Laws shows it
 pub record WordsDemand1 : Type 0 where

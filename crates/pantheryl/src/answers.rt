@@ -1,21 +1,27 @@
 // The six words of an answer.
 use planner::Checked;
 use planner::Outcome;
-use ward::Answer;
+use refusals::Answer;
+use refusals::Refusal;
 ghost use mathlib.Core.Path.{_≡_};
 ghost use mathlib.Core.List.{_++_};
 ghost use Prim.Native.Nat.{_≤_};
 ghost use lib.ListN.{take, drop};
-ghost use Rattle.planner.specs.Answers.{saidBy};
-ghost use Rattle.pantheryl.specs.Answers.{countWords, checkWords};
+ghost use Rattle.pantheryl.specs.Answers.{refusalWords, countWords, checkWords};
 ghost use Rattle.pantheryl.specs.CodeWords.{outcomeWords, isRefused};
+
+fn refusal_words(n: Refusal) -> [u64; 6]
+    ensures { λ r. ⌜ r ≡ refusalWords n ⌝ }
+{
+    [n.question as u64, n.place as u64, 0, 0, 0, 0]
+}
 
 // The reader's and the writer's.
 pub(crate) fn count_words(said: Answer, count: u64) -> [u64; 6]
     ensures { λ r. ⌜ r ≡ countWords said count ⌝ }
 {
     match said {
-        Answer::No { question, place } => [question as u64, place as u64, 0, 0, 0, 0],
+        Answer::No(n) => refusal_words(n),
         Answer::Yes => [0, 0, 0, 0, 0, count],
     }
 }
@@ -25,7 +31,7 @@ pub(crate) fn outcome_words(outcome: Outcome, steps: u32, penalty: u64, count: u
     ensures { λ r. ⌜ r ≡ outcomeWords outcome steps penalty count ⌝ }
 {
     match outcome {
-        Outcome::Refused { question, place } => [question as u64, place as u64, 0, 0, 0, 0],
+        Outcome::Refused(n) => refusal_words(n),
         Outcome::Zero => [0, 0, 1, steps as u64, penalty, count],
         Outcome::Asked => [0, 0, 2, steps as u64, penalty, count],
         Outcome::None => [0, 0, 3, steps as u64, penalty, count],
@@ -36,10 +42,7 @@ pub(crate) fn is_refused(outcome: Outcome) -> bool
     ensures { λ r. ⌜ r ≡ isRefused outcome ⌝ }
 {
     match outcome {
-        Outcome::Refused {
-            question: _,
-            place: _,
-        } => true,
+        Outcome::Refused(_) => true,
         Outcome::Zero => false,
         Outcome::Asked => false,
         Outcome::None => false,
@@ -72,10 +75,10 @@ pub(crate) fn put_letters(roster: &mut [u8; 1488], letters: [u8; 1488], count: u
 
 // The check's.
 pub(crate) fn check_words(checked: Checked) -> [u64; 6]
-    ensures { λ r. ⌜ r ≡ checkWords (saidBy checked) ⌝ }
+    ensures { λ r. ⌜ r ≡ checkWords checked ⌝ }
 {
     match checked {
-        Checked::Refused { question, place } => [question as u64, place as u64, 0, 0, 0, 0],
+        Checked::Refused(n) => refusal_words(n),
         Checked::Passed => [0, 0, 1, 0, 0, 0],
         Checked::Broken => [0, 0, 2, 0, 0, 0],
     }

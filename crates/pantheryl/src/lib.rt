@@ -2,7 +2,7 @@
 mod answers;
 mod words;
 
-use ward::Answer;
+use refusals::Answer;
 ghost use mathlib.Core.Path.{_≡_};
 ghost use lib.ListN.{length};
 ghost use Rattle.ward.specs.Answers.{readingOf, readWard, counted, checkWard, writingOf, leftOf};
@@ -18,17 +18,14 @@ pub extern "C" fn pantheryl_read(file: &[u8], numbers: &mut [u64; 4094], answer:
     ensures leaves { λ _. ⌜ now (numbers .exit) ≡ numbersLeft (readingOf (readWard (now (file .entry)))) (now (numbers .entry)) ⌝ }
 {
     let reading = planner::read(file);
-    let asked = reading.answer;
-    let said = answers::count_words(asked, reading.ward.count as u64);
+    let read = reading.answer;
+    let said = answers::count_words(read, reading.ward.count as u64);
     *answer = said;
-    match asked {
-        Answer::No {
-            question: _,
-            place: _,
-        } => {}
+    match read {
+        Answer::No(_) => {}
         Answer::Yes => {
-            let read = reading.ward.numbers;
-            *numbers = read;
+            let filled = reading.ward.numbers;
+            *numbers = filled;
         }
     }
 }
@@ -50,8 +47,8 @@ pub extern "C" fn pantheryl_write(
         count: count as usize,
     };
     let writing = planner::write(ward, buffer);
-    let asked = writing.answer;
-    let said = answers::count_words(asked, writing.bytes as u64);
+    let written = writing.answer;
+    let said = answers::count_words(written, writing.bytes as u64);
     *answer = said;
 }
 
@@ -72,11 +69,11 @@ pub extern "C" fn pantheryl_advance_nights(
     let rec = words::record_of(before);
     let done = planner::advance_nights(rec, file, k, buffer);
     let outcome = done.outcome;
-    let said = answers::outcome_words(outcome, done.steps, done.penalty, 0);
+    let said = answers::outcome_words(outcome, done.steps, done.penalty, done.roster.count as u64);
     *answer = said;
     if !answers::is_refused(outcome) {
-        let kept = done.kept;
-        let after = words::words_of(kept);
+        let rec = done.after;
+        let after = words::words_of(rec);
         *words = after;
     }
 }
@@ -107,8 +104,8 @@ pub extern "C" fn pantheryl_advance_days(
     *answer = said;
     answers::put_letters(roster, letters, count);
     if !answers::is_refused(outcome) {
-        let kept = done.kept;
-        let after = words::words_of(kept);
+        let rec = done.after;
+        let after = words::words_of(rec);
         *words = after;
     }
 }

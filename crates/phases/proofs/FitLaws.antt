@@ -11,7 +11,7 @@ use lib.Dec.{leb, eqb}
 use lib.ListN.{length}
 use Rattle.daylists.specs.Lists.{upTo, firstOver}
 use Rattle.daylists.proofs.ListsLaws.{up-none, up-mono}
-use Rattle.history.specs.Phase.{unless}
+use Rattle.refusals.specs.Refusals.{unless}
 use Rattle.history.proofs.FirstLaws.{Answers, answers-same, unless-answers}
 use Rattle.phases.specs.Phases.{listsFit}
 

@@ -3,7 +3,7 @@ use Prim.Native.Nat.{ℕ, zero, suc, _+_, _-_, _^_, _≤_, _<_, min}
 use mathlib.Core.Path.{_≡_, refl, sym, ap, ap₂, _∙_, subst}
 use mathlib.Core.Bool.{Bool, true, false, cond, _&&_}
 use mathlib.Core.List.{List, [], _∷_}
-use mathlib.Core.Option.{Option, some}
+use mathlib.Core.Option.{Option, none, some}
 use native.Mathlib.Nat.{not-suc-le-zero, le-of-suc-le-suc}
 use native.Mathlib.Numerals.{add-one}
 use native.Mathlib.Omega.{arith}
@@ -16,8 +16,11 @@ use Rattle.fields.specs.Fields.{Accepted, nurses, days, tabu}
 use Rattle.nights.specs.Hers.{hers as hersBy, hersOf, nightList}
 use Rattle.days.specs.Days.{dayRuleOf, dayList}
 use Rattle.days.proofs.SheetLaws.{rule-below}
+use Rattle.refusals.specs.Refusals.{numbered}
+use Rattle.refusals.specs.Questions as question
 use Rattle.history.specs.Slot.{Slot}
-use Rattle.history.specs.Phase.{Phase, No}
+use Rattle.history.specs.Phase.{Phase}
+use Rattle.refusals.specs.declared.Refusal.{Refusal}
 use Rattle.history.specs.Record.{among, hers, names, lacking}
 use Rattle.removals.specs.Removals.{slot}
 use Rattle.search.specs.Stored.{slotAt, held, namesAt, unusedZero, soundStored, Sized}
@@ -26,7 +29,7 @@ use Rattle.search.specs.declared.Record.{Record as Stored}
 use Rattle.history.proofs.TestLaws.{not-both, or-right}
 use Rattle.search.proofs.QuestionLaws.{question-eleven}
 use Rattle.phases.specs.Phases.{nightPhase, dayPhase}
-use Rattle.phases.specs.CodeQuestions.{phaseOf, lackedAt}
+use Rattle.phases.specs.CodeQuestions.{phaseOf}
 use Rattle.phases.proofs.PhaseLaws.{night-fits, day-fits}
 
 -- ---- one of her own
@@ -189,7 +192,7 @@ lacking-begin lists {m} {n} e =
     let q : n ≡ m - 0 = omega arith in
     ap (λ (k : ℕ). lacking lists (upFrom 0 k)) q
 
-module _ (lists : ℕ → List ℕ) {m n : ℕ} (count : m ≡ n) (i : ℕ) {W : Option No} (left : W ≡ lacking lists (upFrom i (m - i))) where
+module _ (lists : ℕ → List ℕ) {m : ℕ} (i : ℕ) {W : Option Refusal} (left : W ≡ lacking lists (upFrom i (m - i))) where
   lacking-here : i < m → W ≡ lacking lists (i ∷ upFrom (i + 1) (m - (i + 1)))
   lacking-here h = left ∙ ap (lacking lists) (range-here m i h)
 
@@ -200,14 +203,14 @@ module _ (lists : ℕ → List ℕ) {m n : ℕ} (count : m ≡ n) (i : ℕ) {W :
       go [] q = let z : ltb 0 (length {A = ℕ} []) ≡ true = subst (λ (l : List ℕ). ltb 0 (length l) ≡ true) q e in absurd (not-both z refl)
       go (p ∷ ps) q = rw (q, lacking)
 
-  pub lacking-stop : i < m → ltb 0 (length (lists i)) ≡ false → lackedAt n i ≡ W
-  lacking-stop h e = rw (lt-ltb i n (omega arith)) (sym (lacking-here h ∙ go (lists i) refl))
+  pub lacking-stop : i < m → ltb 0 (length (lists i)) ≡ false → some (numbered question.patterns (i + 1)) ≡ W
+  lacking-stop h e = ap (λ (p : ℕ). some (numbered question.patterns p)) (add-one i) ∙ sym (lacking-here h ∙ go (lists i) refl)
     where
-      go : (l : List ℕ) → lists i ≡ l → lacking lists (i ∷ upFrom (i + 1) (m - (i + 1))) ≡ some (record { question = 10; place = suc i })
+      go : (l : List ℕ) → lists i ≡ l → lacking lists (i ∷ upFrom (i + 1) (m - (i + 1))) ≡ some (numbered question.patterns (suc i))
       go [] q = rw (q, lacking)
       go (p ∷ ps) q =
           let z : ltb 0 (length (p ∷ ps)) ≡ false = subst (λ (l : List ℕ). ltb 0 (length l) ≡ false) q e in
           absurd (not-both (lt-ltb 0 (length (p ∷ ps)) (omega arith)) z)
 
-  pub lacking-end : m ≤ i → lackedAt n m ≡ W
-  lacking-end h = rw (le-ltb m n (omega arith)) (sym (left ∙ ap (lacking lists) (range-past m i h)))
+  pub lacking-end : m ≤ i → none ≡ W
+  lacking-end h = sym (left ∙ ap (lacking lists) (range-past m i h))

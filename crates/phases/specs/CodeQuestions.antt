@@ -9,32 +9,33 @@ use lib.ListN.{length, getD}
 use Rattle.numbers.specs.Range.{upFrom}
 use Rattle.fields.specs.Fields.{nurses}
 use Rattle.daylists.specs.Lists.{upTo}
-use Rattle.history.specs.Phase.{Phase, No, first, unless}
+use Rattle.history.specs.Phase.{Phase}
+use Rattle.refusals.specs.declared.Refusal.{Refusal}
+use Rattle.refusals.specs.Refusals.{numbered, first, unless}
+use Rattle.refusals.specs.Questions as question
 use Rattle.history.specs.Record.{lacking}
 use Rattle.search.specs.Stored.{soundStored}
 use Rattle.search.specs.declared.Record.{Record as Stored}
+use Rattle.search.specs.declared.Ending.{Ending}
+use Rattle.search.specs.declared.Ending.the-variants as endings
 use Rattle.phases.specs.Phases.{nightPhase, dayPhase, nightsOpen, listsFit, dayListOver}
-use Rattle.phases.specs.declared.questions.Question.{Question}
-use Rattle.phases.specs.declared.questions.Question.the-variants as variants
+use Rattle.phases.specs.declared.outcomes.Outcome.{Outcome}
+use Rattle.phases.specs.declared.outcomes.Outcome.the-variants as outcomes
 
 -- by night (false) the nights; by day (true) the days over these night patterns, one for each nurse
 unfoldable pub phaseOf : Bool → List ℕ → List ℕ → Phase
 phaseOf false w nights = nightPhase w
 phaseOf true w nights = dayPhase w (λ i. getD nights i 0)
 
--- question 10, where r is the first of m nurses without a pattern, or m
-abbrev pub lackedAt : ℕ → ℕ → Option No
-lackedAt m r = cond (ltb r m) (some (record { question = 10; place = suc r })) none
-
 -- ---- by day: the questions before the lists are counted, 7 and 8, and those after, 9 to 11
 
-unfoldable pub beforeLists : List ℕ → (ℕ → ℕ) → ℕ → Stored → Option No
-beforeLists w nights k r = first (unless (leb k 10000 && leb (r .steps + k) 1000000) 7 0) (unless (nightsOpen w nights) 8 0)
+unfoldable pub beforeLists : List ℕ → (ℕ → ℕ) → ℕ → Stored → Option Refusal
+beforeLists w nights k r = first (unless (leb k 10000 && leb (r .steps + k) 1000000) question.steps 0) (unless (nightsOpen w nights) question.nights 0)
 
-unfoldable pub afterLists : List ℕ → (ℕ → ℕ) → ℕ → Stored → Option No
+unfoldable pub afterLists : List ℕ → (ℕ → ℕ) → ℕ → Stored → Option Refusal
 afterLists w nights places r =
     first (listsFit (dayListOver w nights) (nurses w) places)
-    (first (lacking (dayListOver w nights) (upFrom 0 (nurses w))) (unless (soundStored (dayPhase w nights) r) 11 0))
+    (first (lacking (dayListOver w nights) (upFrom 0 (nurses w))) (unless (soundStored (dayPhase w nights) r) question.record-sound 0))
 
 -- list i of m stands from place i of these ends to the next
 unfoldable pub EndsOf : (ℕ → List ℕ) → ℕ → List ℕ → Type 0
@@ -44,7 +45,8 @@ EndsOf lists m ends = (k : ℕ) → k ≤ m → getD ends k 0 ≡ length (upTo l
 unfoldable pub UnplacedZero : List ℕ → Stored → Type 0
 UnplacedZero w r = (i : ℕ) → i < nurses w → getD (r .placed) i false ≡ false → getD (r .patterns) i 0 ≡ 0
 
--- a question's no, with its number and place
-abbrev pub noOf : Question → Option No
-noOf variants.Pass = none
-noOf (variants.No q p) = some (record { question = q; place = p })
+-- the outcome of an advance that ended so
+abbrev pub outcomeBy : Ending → Outcome
+outcomeBy endings.Zero = outcomes.Zero
+outcomeBy endings.Asked = outcomes.Asked
+outcomeBy endings.None = outcomes.None

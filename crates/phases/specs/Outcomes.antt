@@ -8,7 +8,6 @@ use Rattle.letters.specs.declared.written.Roster.{Roster}
 use Rattle.phases.specs.declared.outcomes.Outcome.{Outcome}
 use Rattle.phases.specs.declared.outcomes.Outcome.the-variants.{Refused, Zero, Asked, None}
 use Rattle.phases.specs.declared.outcomes.Advance.{Advance}
-use Rattle.phases.specs.declared.outcomes.DayAdvance.{DayAdvance}
 
 -- the end of an advance as the outcome says it
 abbrev pub outcomeOf : End → Outcome
@@ -16,19 +15,19 @@ outcomeOf End·zero = Zero
 outcomeOf End·asked = Asked
 outcomeOf End·none = None
 
--- The answer and the record as the call gives them. A no gives the question's number and its place; the record comes back as it was, and all else is 0.
-unfoldable pub advanceOf : Answer → Stored → Advance
-advanceOf (refused n) r = record { kept = r; penalty = 0; steps = 0; outcome = Refused (n .question) (n .place) }
-advanceOf (ended e made pen roster) r = record { kept = r; penalty = pen; steps = made; outcome = outcomeOf e }
-
 -- a roster's letters from the start, 0 after them, and their count
 unfoldable pub rosterOf : List ℕ → Roster
 rosterOf l = record { letters = l ++ replicate (1488 - length l) 0; count = length l }
 
--- the same by day, with the roster
-unfoldable pub dayAdvanceOf : Answer → Stored → DayAdvance
-dayAdvanceOf (refused n) r = record { kept = r; penalty = 0; steps = 0; outcome = Refused (n .question) (n .place); roster = rosterOf [] }
-dayAdvanceOf (ended e made pen roster) r = record { kept = r; penalty = pen; steps = made; outcome = outcomeOf e; roster = rosterOf roster }
+-- The answer and the record as the call gives them. A no gives the refusal; the record comes back as it was, and all else is 0.
+unfoldable pub advanceOf : Answer × Stored → Advance
+advanceOf (refused n, r) = record { after = r; penalty = 0; steps = 0; outcome = Refused n; roster = rosterOf [] }
+advanceOf (ended e made pen letters, r) = record { after = r; penalty = pen; steps = made; outcome = outcomeOf e; roster = rosterOf letters }
+
+-- the letters that are given out: by day at penalty zero, else none
+abbrev pub lettersOf : Answer → List ℕ
+lettersOf (refused n) = []
+lettersOf (ended e made pen letters) = letters
 
 -- a list written from the buffer's start, the rest untouched; a refused call writes nothing
 unfoldable pub leftBy : Answer → List ℕ → List ℕ → List ℕ

@@ -12,15 +12,18 @@ use Rattle.nights.specs.Hers.{hersOf, nightList}
 use Rattle.days.specs.Days.{dayList}
 use Rattle.daylists.specs.Lists.{firstOver}
 use Rattle.penalty.specs.Penalty.{nightPenalty, dayPenalty}
-use Rattle.history.specs.Phase.{Phase, No, first, unless}
+use Rattle.history.specs.Phase.{Phase}
+use Rattle.refusals.specs.declared.Refusal.{Refusal}
+use Rattle.refusals.specs.Refusals.{first, unless}
+use Rattle.refusals.specs.Questions as question
 use Rattle.removals.specs.Removals.{patternOf}
 use Rattle.letters.specs.Letters.{letters}
 
 -- ---- nights
 
 -- question 9: does the buffer hold the common list?
-unfoldable pub commonFits : List ℕ → ℕ → Option No
-commonFits w places = unless (leb (length (commonOf w)) places) 9 0
+unfoldable pub commonFits : List ℕ → ℕ → Option Refusal
+commonFits w places = unless (leb (length (commonOf w)) places) question.lists 0
 
 unfoldable pub nightPhase : List ℕ → Phase
 nightPhase w =
@@ -44,8 +47,8 @@ unfoldable pub nightsOpen : List ℕ → (ℕ → ℕ) → Bool
 nightsOpen w nights = all (λ i. hersOf w i (nights i)) (upFrom 0 (nurses w)) && eqb (nightPenalty w (λ i. some (nights i))) 0
 
 -- question 9: does the buffer hold the lists, each after the one before? The place is the first nurse who doesn't fit
-unfoldable pub listsFit : (ℕ → List ℕ) → ℕ → ℕ → Option No
-listsFit lists m places = let over = firstOver lists places 0 m in unless (eqb over m) 9 (suc over)
+unfoldable pub listsFit : (ℕ → List ℕ) → ℕ → ℕ → Option Refusal
+listsFit lists m places = let over = firstOver lists places 0 m in unless (eqb over m) question.lists (suc over)
 
 -- her day list over her night pattern
 abbrev pub dayListOver : List ℕ → (ℕ → ℕ) → ℕ → List ℕ
@@ -59,5 +62,5 @@ dayPhase w nights =
       patterns = dayListOver w nights;
       cost = dayPenalty w;
       letters = λ slots. letters w nights (λ i. patternOf (slots i)) (nurses w);
-      room = λ places. first (unless (nightsOpen w nights) 8 0) (listsFit (dayListOver w nights) (nurses w) places);
+      room = λ places. first (unless (nightsOpen w nights) question.nights 0) (listsFit (dayListOver w nights) (nurses w) places);
     }

@@ -1,8 +1,12 @@
 // Question 8: whether the day search opens on a choice of nights.
+use refusals::Answer;
+use refusals::question;
 use search::Record;
 ghost use mathlib.Core.Path.{_≡_};
 ghost use mathlib.Core.Option.{some};
 ghost use Rattle.numbers.specs.Range.{upFrom, all};
+ghost use Rattle.refusals.specs.Refusals.{refusalIn, unless};
+ghost use Rattle.refusals.specs.Questions as question;
 ghost use Rattle.fields.specs.Fields.{Accepted, nurses};
 ghost use Rattle.nights.specs.Hers.{hersOf};
 ghost use Rattle.penalty.specs.Penalty.{nightPenalty};
@@ -38,7 +42,7 @@ fn night_penalty(w: &[u64], nights: &[u32; 48]) -> u64
     search::slots::penalty_of(w, rec, false)
 }
 
-pub fn nights_open(w: &[u64], nights: &[u32; 48]) -> bool
+fn nights_open(w: &[u64], nights: &[u32; 48]) -> bool
     requires { ⌜ Accepted (now w) ⌝ }
     ensures { λ r. ⌜ r ≡ nightsOpen (now (w .entry)) (nightOf (now (nights .entry))) ⌝ }
 {
@@ -46,4 +50,11 @@ pub fn nights_open(w: &[u64], nights: &[u32; 48]) -> bool
         return night_penalty(w, nights) == 0;
     }
     false
+}
+
+pub fn nights_asked(w: &[u64], nights: &[u32; 48]) -> Answer
+    requires { ⌜ Accepted (now w) ⌝ }
+    ensures { λ r. ⌜ refusalIn r ≡ unless (nightsOpen (now (w .entry)) (nightOf (now (nights .entry)))) question.nights 0 ⌝ }
+{
+    refusals::unless(nights_open(w, nights), question::NIGHTS, 0)
 }

@@ -1,25 +1,77 @@
 // What an advance hands back.
-// How an advance ended: refused with the question's number and its place, at penalty zero, with the steps asked, or with no exchange left.
+use letters::written::Roster;
+use refusals::Refusal;
+use search::Advanced;
+use search::Ending;
+use search::Record;
+ghost use mathlib.Core.Path.{_≡_};
+ghost use mathlib.Core.List.{[]};
+ghost use Rattle.history.specs.Phase.{Phase, refused};
+ghost use Rattle.search.specs.CodeSeek.{answerOf};
+ghost use Rattle.phases.specs.Outcomes.{rosterOf, lettersOf, advanceOf};
+ghost use Rattle.phases.specs.CodeQuestions.{outcomeBy};
+
+// How an advance ended: refused, at penalty zero, with the steps asked, or with no exchange left.
 pub enum Outcome {
-    Refused { question: u32, place: usize },
+    Refused(Refusal),
     Zero,
     Asked,
     None,
 }
 
-// The record, its penalty, and the steps made by the advance.
+// The record after it, its penalty, the steps made by the advance, and the roster: by day its letters and their count where the
+// advance leaves penalty zero, else 0.
 pub struct Advance {
-    pub kept: search::Record,
+    pub after: Record,
     pub penalty: u64,
     pub steps: u32,
     pub outcome: Outcome,
+    pub roster: Roster,
 }
 
-// The same by day, with the roster: its letters and their count where the advance leaves penalty zero, else 0.
-pub struct DayAdvance {
-    pub kept: search::Record,
-    pub penalty: u64,
-    pub steps: u32,
-    pub outcome: Outcome,
-    pub roster: letters::written::Roster,
+pub fn no_roster() -> Roster
+    ensures { λ r. ⌜ r ≡ rosterOf [] ⌝ }
+{
+    Roster {
+        letters: [0; 1488],
+        count: 0,
+    }
+}
+
+// A refusal: the record as it was, and all else 0.
+pub fn refuse(rec: Record, refusal: Refusal) -> Advance
+    ensures { λ r. ⌜ r ≡ advanceOf (refused refusal, rec) ⌝ }
+{
+    Advance {
+        after: rec,
+        penalty: 0,
+        steps: 0,
+        outcome: Outcome::Refused(refusal),
+        roster: no_roster(),
+    }
+}
+
+fn outcome_by(ending: Ending) -> Outcome
+    ensures { λ r. ⌜ r ≡ outcomeBy ending ⌝ }
+{
+    match ending {
+        Ending::Zero => Outcome::Zero,
+        Ending::Asked => Outcome::Asked,
+        Ending::None => Outcome::None,
+    }
+}
+
+// What an advance that ran comes to, with the roster that it gives out.
+pub fn finished(x: Advanced, roster: Roster) -> Advance
+    ensures { λ r. ⌜ ((P : Phase) → roster ≡ rosterOf (lettersOf (answerOf P x)) → r ≡ advanceOf (answerOf P x, x .after)) ⌝ }
+{
+    let after = x.after;
+    let ending = x.ending;
+    Advance {
+        after,
+        penalty: x.penalty,
+        steps: x.steps,
+        outcome: outcome_by(ending),
+        roster,
+    }
 }

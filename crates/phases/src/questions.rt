@@ -1,5 +1,7 @@
 // The questions that an advance asks of its steps, its record and its nurses. Where `daily` is false they are asked by night,
 // and the night patterns are not looked at; where it is true, by day over those patterns.
+use refusals::Answer;
+use refusals::question;
 ghost use mathlib.Core.Path.{_≡_};
 ghost use mathlib.Core.Bool.{_&&_};
 ghost use Prim.Native.Nat.{_+_, _<_, _≤_};
@@ -10,16 +12,12 @@ ghost use Rattle.nights.specs.Hers.{nightList};
 ghost use Rattle.history.specs.Record.{among, hers, names, lacking};
 ghost use Rattle.removals.specs.Removals.{slot};
 ghost use Rattle.search.specs.Stored.{slotAt, held, namesAt, soundStored};
-ghost use Rattle.phases.specs.CodeQuestions.{phaseOf, lackedAt};
+ghost use Rattle.refusals.specs.Refusals.{refusalIn, unless};
+ghost use Rattle.refusals.specs.Questions as question;
+ghost use Rattle.phases.specs.CodeQuestions.{phaseOf};
 
-// A question's no, or none.
-pub enum Question {
-    Pass,
-    No { question: u32, place: usize },
-}
-
-// Question 7: k is allowed, and so are the steps so far with k more.
-pub fn steps_allowed(steps: u32, k: u32) -> bool
+// k is allowed, and so are the steps so far with k more.
+fn steps_allowed(steps: u32, k: u32) -> bool
     ensures { λ r. ⌜ r ≡ (leb k 10000 && leb (steps + k) 1000000) ⌝ }
 {
     if 10000 < k {
@@ -114,8 +112,8 @@ pub(crate) fn removals_name(w: &[u64], nights: &[u32; 48], daily: bool, rec: sea
     true
 }
 
-// Question 11: each placed nurse holds one of her own, each removal held names a nurse, and unused fields are 0.
-pub fn record_sound(w: &[u64], nights: &[u32; 48], daily: bool, rec: search::Record) -> bool
+// Each placed nurse holds one of her own, each removal held names a nurse, and unused fields are 0.
+pub(crate) fn record_sound(w: &[u64], nights: &[u32; 48], daily: bool, rec: search::Record) -> bool
     requires { ⌜ Accepted (now w) ⌝ }
     ensures { λ r. ⌜ r ≡ soundStored (phaseOf daily (now (w .entry)) (now (nights .entry))) rec ⌝ }
 {
@@ -128,11 +126,19 @@ pub fn record_sound(w: &[u64], nights: &[u32; 48], daily: bool, rec: search::Rec
     false
 }
 
-// Question 10 by night: the first nurse with no night pattern, or m.
-pub fn first_without_nights(w: &[u64]) -> usize
+// ---- the questions that an advance asks, by their number and place
+
+// Question 7.
+pub fn steps_asked(steps: u32, k: u32) -> Answer
+    ensures { λ r. ⌜ refusalIn r ≡ unless (leb k 10000 && leb (steps + k) 1000000) question.steps 0 ⌝ }
+{
+    refusals::unless(steps_allowed(steps, k), question::STEPS, 0)
+}
+
+// Question 10 by night.
+pub fn nights_lacking(w: &[u64]) -> Answer
     requires { ⌜ Accepted (now w) ⌝ }
-    ensures is { λ r. ⌜ lackedAt (nurses (now (w .entry))) r ≡ lacking (nightList (now (w .entry))) (upFrom 0 (nurses (now (w .entry)))) ⌝ }
-    ensures within { λ r. ⌜ r ≤ nurses (now (w .entry)) ⌝ }
+    ensures { λ r. ⌜ refusalIn r ≡ lacking (nightList (now (w .entry))) (upFrom 0 (nurses (now (w .entry)))) ⌝ }
 {
     let m = fields::nurses(w);
     let mut i: usize = 0;
@@ -140,8 +146,16 @@ pub fn first_without_nights(w: &[u64]) -> usize
         if nightlists::some::has_pattern(w, i) {
             i += 1;
         } else {
-            return i;
+            return refusals::no(question::PATTERNS, i + 1);
         }
     }
-    m
+    Answer::Yes
+}
+
+// Question 11.
+pub fn record_asked(w: &[u64], nights: &[u32; 48], daily: bool, rec: search::Record) -> Answer
+    requires { ⌜ Accepted (now w) ⌝ }
+    ensures { λ r. ⌜ refusalIn r ≡ unless (soundStored (phaseOf daily (now (w .entry)) (now (nights .entry))) rec) question.record-sound 0 ⌝ }
+{
+    refusals::unless(record_sound(w, nights, daily, rec), question::RECORD, 0)
 }

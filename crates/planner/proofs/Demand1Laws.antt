@@ -1,7 +1,7 @@
 -- Demand 1: each call refuses exactly by its first fault.
 use Prim.Native.Nat.{ℕ, _+_, _*_, _≤_, _<_}
 use mathlib.Core.Path.{_≡_, refl, sym, ap, ap₂, _∙_, subst}
-use mathlib.Core.Bool.{Bool, true, false, _&&_, true≢false}
+use mathlib.Core.Bool.{Bool, true, false, cond, _&&_, true≢false}
 use mathlib.Core.Logic.{_≢_, _↔_, _⊎_, inl, inr}
 use mathlib.Core.List.{List}
 use mathlib.Core.Option.{Option, none, some, Option·none-ne-some, Option·some-injective}
@@ -15,8 +15,7 @@ use Rattle.layout.specs.Grammar.{Read, good, bad, bytesOf}
 use Rattle.layout.specs.Layout.{ward}
 use Rattle.layout.specs.Faults.{FileFault, ListFault}
 use Rattle.layout.proofs.LongestLaws.{longest-file, longest-there}
-use Rattle.ward.specs.Answers.{readWard, readingOf, refusedOf, counted, checkWard, writingOf, leftOf}
-use Rattle.ward.specs.declared.Answer.the-variants as ward-variants
+use Rattle.ward.specs.Answers.{readWard, readingOf, refusedOf, counted, checkWard, unwritten, writingOf, leftOf}
 use Rattle.ward.specs.declared.Ward.{Ward}
 use Rattle.codec.proofs.NumberLaws.{all-bytes}
 use Rattle.ward.proofs.FaultLaws.{file-fault, fault-file, file-good, good-file, list-fault, fault-list, list-good, good-list, good-accepted}
@@ -26,11 +25,15 @@ use Rattle.nights.specs.NightRule.{NightHers}
 use Rattle.nights.proofs.RuleLaws.{hers-when}
 use Rattle.penalty.specs.Penalty.{nightPenalty}
 use Rattle.letters.specs.Letters.{misplaced}
-use Rattle.history.specs.Phase.{Phase, Call, No, Answer, refused, ended, End·zero, End·asked, End·none, first, unless, refusal}
+use Rattle.rosters.specs.CodeCheck.{holds}
+use Rattle.history.specs.Phase.{Phase, Call, Answer, refused, ended, End·zero, End·asked, End·none, refusal}
+use Rattle.refusals.proofs.OrderLaws.{first-last}
+use Rattle.refusals.specs.declared.Refusal.{Refusal}
+use Rattle.refusals.specs.Refusals.{numbered, refusalIn, first, unless}
+use Rattle.refusals.specs.Questions as question
 use Rattle.history.specs.Record.{lacking, replyOf}
 use Rattle.history.specs.Questions.{Questions, end, ask, FirstNo}
 use Rattle.history.proofs.TestLaws.{and-true, false-of, false-when}
-use Rattle.history.proofs.FollowLaws.{first-none}
 use Rattle.history.proofs.FirstLaws.{Answers, AnswersAll, none-answers, first-answers, assoc-answers, unless-answers, lacking-answers}
 use Rattle.search.specs.Stored.{soundStored, refusalStored, advanceStored, replyStored, Sized}
 use Rattle.search.proofs.Fits.{Fits}
@@ -38,15 +41,15 @@ use Rattle.search.specs.declared.Record.{Record as Stored}
 use Rattle.search.proofs.SoundLaws.{sound-when}
 use Rattle.search.proofs.AdvanceLaws.{stored-refused, stored-goes}
 use Rattle.phases.specs.Phases.{nightPhase, dayPhase, nightsOpen, commonFits, listsFit, dayListOver, nightOf}
-use Rattle.phases.specs.Outcomes.{advanceOf, dayAdvanceOf, rosterOf, leftBy, callOf}
+use Rattle.phases.specs.Outcomes.{advanceOf, rosterOf, leftBy, callOf}
 use Rattle.phases.proofs.FitLaws.{over-answers}
 use Rattle.phases.proofs.PhaseLaws.{night-fits, day-fits}
 use Rattle.planner.specs.Advances.{advanceOver, advanceNights, advanceDays}
 use Rattle.planner.specs.Answers.{checkLetters, checkOver, checkSays}
-use Rattle.planner.specs.Answers as checks
+use Rattle.planner.specs.declared.Checked.the-variants as checks
 use Rattle.planner.specs.Left.{listOf, nightLeft, listsOf, dayLeft}
 use Rattle.planner.specs.Faults.{StepsFault, NightsFault, CommonFault, ListsFault, PatternFault, RecordFault, LettersFault, nightQuestions, dayQuestions, checkQuestions, FileNo, in-file, in-call, WriterNo, in-numbers, in-buffer}
-use Rattle.planner.specs.Demand1.{Bytes, noInAnswer, noInOutcome, noInSaid, ReadRefuses, WriteRefuses, NightsRefuse, DaysRefuse, CheckRefuses, Demand1}
+use Rattle.planner.specs.Demand1.{Refuses, Bytes, noInOutcome, noInCheck, refusedBy, ReadRefuses, WriteRefuses, NightsRefuse, DaysRefuse, CheckRefuses, Demand1}
 use Rattle.planner.proofs.LetterFaultLaws.{misplaced-fault, fault-misplaced}
 
 -- ---- each question of an advance
@@ -92,30 +95,30 @@ module _ (w : List ℕ) (a : Accepted w) (nights : ℕ → ℕ) where
 -- ---- the questions of an advance, in their order
 
 module _ (c : Call) (r : Stored) (sized : Sized r) where
-  abbrev no7 : Option No
-  no7 = unless (leb (c .steps) 10000 && leb (r .steps + c .steps) 1000000) 7 0
+  abbrev no7 : Option Refusal
+  no7 = unless (leb (c .steps) 10000 && leb (r .steps + c .steps) 1000000) question.steps 0
 
-  seven : Answers no7 7 (StepsFault (r .steps) (c .steps))
-  seven = unless-answers (leb (c .steps) 10000 && leb (r .steps + c .steps) 1000000) 7 0 _ (steps-when (r .steps) (c .steps))
+  seven : Answers no7 question.steps (StepsFault (r .steps) (c .steps))
+  seven = unless-answers (leb (c .steps) 10000 && leb (r .steps + c .steps) 1000000) question.steps 0 _ (steps-when (r .steps) (c .steps))
 
   -- the last two, of any phase
   module _ (P : Phase) (fits : Fits P) where
-    abbrev no10 : Option No
+    abbrev no10 : Option Refusal
     no10 = lacking (P .patterns) (upFrom 0 (P .nurses))
 
-    abbrev no11 : Option No
-    no11 = unless (soundStored P r) 11 0
+    abbrev no11 : Option Refusal
+    no11 = unless (soundStored P r) question.record-sound 0
 
     abbrev asks11 : Questions
-    asks11 = ask 11 (RecordFault P r) end
+    asks11 = ask question.record-sound (RecordFault P r) end
 
     eleven : AnswersAll no11 asks11
     eleven =
-        subst (λ (o : Option No). AnswersAll o asks11) (first-none no11)
-        (first-answers no11 none 11 (RecordFault P r) end (unless-answers (soundStored P r) 11 0 _ (false-when (soundStored P r) (sound-when P r sized fits))) none-answers)
+        subst (λ (o : Option Refusal). AnswersAll o asks11) (first-last no11)
+        (first-answers no11 none question.record-sound (RecordFault P r) end (unless-answers (soundStored P r) question.record-sound 0 _ (false-when (soundStored P r) (sound-when P r sized fits))) none-answers)
 
-    last-two : AnswersAll (first no10 no11) (ask 10 (PatternFault P) asks11)
-    last-two = first-answers no10 no11 10 (PatternFault P) asks11 (lacking-answers P) eleven
+    last-two : AnswersAll (first no10 no11) (ask question.patterns (PatternFault P) asks11)
+    last-two = first-answers no10 no11 question.patterns (PatternFault P) asks11 (lacking-answers P) eleven
 
   night-asked : (w : List ℕ) → Accepted w → AnswersAll (refusalStored (nightPhase w) c r) (nightQuestions c r w)
   unfolding refusalStored refusal nightPhase commonFits
@@ -123,12 +126,12 @@ module _ (c : Call) (r : Stored) (sized : Sized r) where
       let P = nightPhase w in
       let fits = night-fits w a in
       let rest = first (no10 P fits) (no11 P fits) in
-      let asks10 = ask 10 (PatternFault P) (asks11 P fits) in
-      let no9 = unless (leb (length (commonOf w)) (c .places)) 9 0 in
-      let nine = unless-answers (leb (length (commonOf w)) (c .places)) 9 0 _ (common-when w (c .places)) in
+      let asks10 = ask question.patterns (PatternFault P) (asks11 P fits) in
+      let no9 = unless (leb (length (commonOf w)) (c .places)) question.lists 0 in
+      let nine = unless-answers (leb (length (commonOf w)) (c .places)) question.lists 0 _ (common-when w (c .places)) in
       assoc-answers no7 no9 rest (nightQuestions c r w)
-      (first-answers no7 (first no9 rest) 7 (StepsFault (r .steps) (c .steps)) (ask 9 (CommonFault w (c .places)) asks10) seven
-      (first-answers no9 rest 9 (CommonFault w (c .places)) asks10 nine (last-two P fits)))
+      (first-answers no7 (first no9 rest) question.steps (StepsFault (r .steps) (c .steps)) (ask question.lists (CommonFault w (c .places)) asks10) seven
+      (first-answers no9 rest question.lists (CommonFault w (c .places)) asks10 nine (last-two P fits)))
 
   day-asked : (nights : ℕ → ℕ) (w : List ℕ) → Accepted w → AnswersAll (refusalStored (dayPhase w nights) c r) (dayQuestions nights c r w)
   unfolding refusalStored refusal dayPhase
@@ -136,29 +139,26 @@ module _ (c : Call) (r : Stored) (sized : Sized r) where
       let P = dayPhase w nights in
       let fits = day-fits w nights a in
       let rest = first (no10 P fits) (no11 P fits) in
-      let asks10 = ask 10 (PatternFault P) (asks11 P fits) in
+      let asks10 = ask question.patterns (PatternFault P) (asks11 P fits) in
       let Over = ListsFault (dayListOver w nights) (nurses w) (c .places) in
-      let no8 = unless (nightsOpen w nights) 8 0 in
+      let no8 = unless (nightsOpen w nights) question.nights 0 in
       let no9 = listsFit (dayListOver w nights) (nurses w) (c .places) in
-      let eight = unless-answers (nightsOpen w nights) 8 0 _ (open-when w a nights) in
+      let eight = unless-answers (nightsOpen w nights) question.nights 0 _ (open-when w a nights) in
       let nine = over-answers (dayListOver w nights) (nurses w) (c .places) in
-      let asks8 = ask 8 (NightsFault w nights) (ask 9 Over asks10) in
+      let asks8 = ask question.nights (NightsFault w nights) (ask question.lists Over asks10) in
       assoc-answers no7 (first no8 no9) rest (dayQuestions nights c r w)
-      (first-answers no7 (first (first no8 no9) rest) 7 (StepsFault (r .steps) (c .steps)) asks8 seven
+      (first-answers no7 (first (first no8 no9) rest) question.steps (StepsFault (r .steps) (c .steps)) asks8 seven
       (assoc-answers no8 no9 rest asks8
-      (first-answers no8 (first no9 rest) 8 (NightsFault w nights) (ask 9 Over asks10) eight
-      (first-answers no9 rest 9 Over asks10 nine (last-two P fits)))))
+      (first-answers no8 (first no9 rest) question.nights (NightsFault w nights) (ask question.lists Over asks10) eight
+      (first-answers no9 rest question.lists Over asks10 nine (last-two P fits)))))
 
 -- ---- over a file
 
-abbrev numbered : ℕ → ℕ → No
-numbered question place = record { question = question; place = place }
-
-some-no : {n m : No} → some n ≡ some m → n ≡ m
+some-no : {n m : Refusal} → some n ≡ some m → n ≡ m
 some-no {n} {m} e = Option·some-injective n m e
 
 -- the refusal in an advance's answer
-abbrev pub noIn : Answer → Option No
+abbrev pub noIn : Answer → Option Refusal
 noIn (refused n) = some n
 noIn (ended e steps penalty roster) = none
 
@@ -168,25 +168,25 @@ pub record AnswerRefuses (Fault : ℕ → ℕ → Type 0) (a : Answer × Stored)
   pub always : (q p : ℕ) → Fault q p → a ≡ (refused (numbered q p), r)
 
 module _ (file : List ℕ) (bytes : Bytes file) (questions : List ℕ → Questions) where
-  unread : (n : No) (q p : ℕ) → readWard file ≡ bad q p → some (numbered q p) ≡ some n → FileNo file questions (n .question) (n .place)
-  unread n q p e x =
-      subst (λ (m : No). FileNo file questions (m .question) (m .place)) (some-no x) (in-file (file-fault file (all-bytes file bytes) q p e))
+  unread : (n m : Refusal) → readWard file ≡ bad m → some m ≡ some n → FileNo file questions (n .question) (n .place)
+  unread n m e x =
+      subst (λ (l : Refusal). FileNo file questions (l .question) (l .place)) (some-no x) (in-file (file-fault file (all-bytes file bytes) (m .question) (m .place) e))
 
   module _ (phase : List ℕ → Phase) (c : Call) (r : Stored) (asks : (w : List ℕ) → Accepted w → AnswersAll (refusalStored (phase w) c r) (questions w)) where
-    stored-no : (w : List ℕ) (n : No) → noIn (advanceStored (phase w) c r .0) ≡ some n → refusalStored (phase w) c r ≡ some n
+    stored-no : (w : List ℕ) (n : Refusal) → noIn (advanceStored (phase w) c r .0) ≡ some n → refusalStored (phase w) c r ≡ some n
     unfolding replyStored replyOf
     stored-no w n e = go (refusalStored (phase w) c r) refl
       where
-        go : (o : Option No) → refusalStored (phase w) c r ≡ o → refusalStored (phase w) c r ≡ some n
+        go : (o : Option Refusal) → refusalStored (phase w) c r ≡ o → refusalStored (phase w) c r ≡ some n
         go none q = absurd (Option·none-ne-some n (sym (ap (λ (x : Answer × Stored). noIn (x .0)) (stored-goes (phase w) c r q)) ∙ e))
         go (some m) q = q ∙ sym (ap (λ (x : Answer × Stored). noIn (x .0)) (stored-refused (phase w) c r m q)) ∙ e
 
-    advance-only : (n : No) → noIn (advanceOver phase (readWard file) c r .0) ≡ some n → FileNo file questions (n .question) (n .place)
+    advance-only : (n : Refusal) → noIn (advanceOver phase (readWard file) c r .0) ≡ some n → FileNo file questions (n .question) (n .place)
     unfolding advanceOver
     advance-only n e = go (readWard file) refl e
       where
         go : (x : Read) → readWard file ≡ x → noIn (advanceOver phase x c r .0) ≡ some n → FileNo file questions (n .question) (n .place)
-        go (bad q p) s x = unread n q p s x
+        go (bad m) s x = unread n m s x
         go (good w) s x =
             let g = file-good file w (all-bytes file bytes) s in
             in-call w g (asks w (good-accepted file w g) n .0 (stored-no w n x))
@@ -202,19 +202,23 @@ module _ (file : List ℕ) (bytes : Bytes file) (questions : List ℕ → Questi
 
 -- ---- the calls
 
-night-no : (a : Answer) (r : Stored) → noInOutcome (advanceOf a r .outcome) ≡ noIn a
+advance-no : (a : Answer × Stored) → noInOutcome (advanceOf a .outcome) ≡ noIn (a .0)
 unfolding advanceOf
-night-no (refused n) r = refl
-night-no (ended End·zero steps penalty roster) r = refl
-night-no (ended End·asked steps penalty roster) r = refl
-night-no (ended End·none steps penalty roster) r = refl
+advance-no (refused n, r) = refl
+advance-no (ended End·zero steps penalty roster, r) = refl
+advance-no (ended End·asked steps penalty roster, r) = refl
+advance-no (ended End·none steps penalty roster, r) = refl
 
-day-no : (a : Answer) (r : Stored) → noInOutcome (dayAdvanceOf a r .outcome) ≡ noIn a
-unfolding dayAdvanceOf
-day-no (refused n) r = refl
-day-no (ended End·zero steps penalty roster) r = refl
-day-no (ended End·asked steps penalty roster) r = refl
-day-no (ended End·none steps penalty roster) r = refl
+-- an advance whose answer refuses so: what it gives, and what it leaves where `list` is what it would write
+module _ (Fault : ℕ → ℕ → Type 0) (a : Answer × Stored) (r : Stored) (list buffer : List ℕ) (f : AnswerRefuses Fault a r) where
+  refuses : Refuses Fault (advanceOf a) (λ x. noInOutcome (x .outcome)) (refusedBy r) (leftBy (a .0) list buffer ≡ buffer)
+  unfolding advanceOf leftBy rosterOf
+  refuses = record {
+    only = λ q p e. f .only q p (sym (advance-no a) ∙ e);
+    always = λ q p w.
+        let s = f .always q p w in
+        (ap advanceOf s, ap (λ (x : Answer × Stored). leftBy (x .0) list buffer) s);
+  }
 
 module _ (file : List ℕ) (bytes : Bytes file) (r : Stored) (sized : Sized r) (c : Call) where
   pub nights-answer : AnswerRefuses (FileNo file (nightQuestions c r)) (advanceNights file c r) r
@@ -225,56 +229,47 @@ module _ (file : List ℕ) (bytes : Bytes file) (r : Stored) (sized : Sized r) (
       answer-refuses file bytes (dayQuestions (nightOf nights) c r) (λ w. dayPhase w (nightOf nights)) c r (day-asked c r sized (nightOf nights))
 
 nights-refuse : (file : List ℕ) → Bytes file → (r : Stored) → Sized r → (k : ℕ) (buffer : List ℕ) → NightsRefuse file r k buffer
-unfolding advanceOf nightLeft leftBy
+unfolding nightLeft
 nights-refuse file bytes r sized k buffer =
     let c = callOf k (length buffer) in
-    let a = advanceNights file c r in
-    let f = nights-answer file bytes r sized c in
-    record {
-      only = λ q p e. f .only q p (sym (night-no (a .0) (a .1)) ∙ e);
-      always = λ q p w.
-          let s = f .always q p w in
-          (ap (λ (x : Answer × Stored). advanceOf (x .0) (x .1)) s, ap (λ (x : Answer × Stored). leftBy (x .0) (listOf (readWard file)) buffer) s);
-    }
+    refuses (FileNo file (nightQuestions c r)) (advanceNights file c r) r (listOf (readWard file)) buffer (nights-answer file bytes r sized c)
 
 days-refuse : (file : List ℕ) → Bytes file → (nights : List ℕ) (r : Stored) → Sized r → (k : ℕ) (buffer : List ℕ) → DaysRefuse file nights r k buffer
-unfolding dayAdvanceOf dayLeft leftBy rosterOf
+unfolding dayLeft
 days-refuse file bytes nights r sized k buffer =
     let c = callOf k (length buffer) in
-    let a = advanceDays file nights c r in
-    let f = days-answer file bytes r sized c nights in
-    record {
-      only = λ q p e. f .only q p (sym (day-no (a .0) (a .1)) ∙ e);
-      always = λ q p w.
-          let s = f .always q p w in
-          (ap (λ (x : Answer × Stored). dayAdvanceOf (x .0) (x .1)) s, ap (λ (x : Answer × Stored). leftBy (x .0) (listsOf (readWard file) nights) buffer) s);
-    }
+    refuses (FileNo file (dayQuestions (nightOf nights) c r)) (advanceDays file nights c r) r (listsOf (readWard file) nights) buffer
+    (days-answer file bytes r sized c nights)
+
+no-refusal : (b : Bool) → noInCheck (cond b checks.Passed checks.Broken) ≡ none
+no-refusal true = refl
+no-refusal false = refl
 
 check-refuses : (file : List ℕ) → Bytes file → (roster : List ℕ) → CheckRefuses file roster
 unfolding checkOver checkLetters FirstNo
 check-refuses file bytes roster = record { only = only; always = λ q p f. (always q p f, tt) }
   where
-    letters-no : (w : List ℕ) (n : No) (o : Option ℕ) → misplaced (nurses w * days w) roster ≡ o → noInSaid (checkLetters w roster) ≡ some n
+    letters-no : (w : List ℕ) (n : Refusal) (o : Option ℕ) → misplaced (nurses w * days w) roster ≡ o → noInCheck (checkLetters w roster) ≡ some n
         → FirstNo (checkQuestions roster w) (n .question) (n .place)
-    letters-no w n none q e = absurd (Option·none-ne-some n (sym (rw (q, checkLetters)) ∙ e))
+    letters-no w n none q e = absurd (Option·none-ne-some n (sym (rw (q, checkLetters) (no-refusal (holds w roster))) ∙ e))
     letters-no w n (some place) q e =
-        let x : some (numbered 12 place) ≡ some n = sym (rw (q, checkLetters)) ∙ e in
-        let same : numbered 12 place ≡ n = some-no x in
-        inl (sym (ap (λ (m : No). m .question) same), subst (LettersFault (nurses w * days w) roster) (ap (λ (m : No). m .place) same) (misplaced-fault (nurses w * days w) roster place q))
+        let x : some (numbered question.letters place) ≡ some n = sym (rw (q, checkLetters)) ∙ e in
+        let same : numbered question.letters place ≡ n = some-no x in
+        inl (sym (ap (λ (m : Refusal). m .question) same), subst (LettersFault (nurses w * days w) roster) (ap (λ (m : Refusal). m .place) same) (misplaced-fault (nurses w * days w) roster place q))
 
-    only : (q p : ℕ) → noInSaid (checkSays file roster) ≡ some (numbered q p) → FileNo file (checkQuestions roster) q p
+    only : (q p : ℕ) → noInCheck (checkSays file roster) ≡ some (numbered q p) → FileNo file (checkQuestions roster) q p
     only q p e = go (readWard file) refl e
       where
-        go : (x : Read) → readWard file ≡ x → noInSaid (checkOver x roster) ≡ some (numbered q p) → FileNo file (checkQuestions roster) q p
-        go (bad a b) s x = unread file bytes (checkQuestions roster) (numbered q p) a b s x
+        go : (x : Read) → readWard file ≡ x → noInCheck (checkOver x roster) ≡ some (numbered q p) → FileNo file (checkQuestions roster) q p
+        go (bad m) s x = unread file bytes (checkQuestions roster) (numbered q p) m s x
         go (good w) s x =
             in-call w (file-good file w (all-bytes file bytes) s) (letters-no w (numbered q p) (misplaced (nurses w * days w) roster) refl x)
 
-    always : (q p : ℕ) → FileNo file (checkQuestions roster) q p → checkSays file roster ≡ checks.refused (numbered q p)
+    always : (q p : ℕ) → FileNo file (checkQuestions roster) q p → checkSays file roster ≡ checks.Refused (numbered q p)
     always q p (in-file f) = ap (λ (x : Read). checkOver x roster) (fault-file file q p f)
     always q p (in-call w g (inl f)) =
         ap (λ (x : Read). checkOver x roster) (good-file file w g) ∙ rw (fault-misplaced (nurses w * days w) roster p (f .1), checkLetters)
-        (ap (λ (k : ℕ). checks.refused (numbered k p)) (sym (f .0)))
+        (ap (λ (k : ℕ). checks.Refused (numbered k p)) (sym (f .0)))
     always q p (in-call w g (inr f)) = absurd (f .1)
 
 read-refuses : (file : List ℕ) → Bytes file → ReadRefuses file
@@ -284,39 +279,40 @@ read-refuses file bytes = record {
   always = λ q p f. (ap readingOf (fault-file file q p f), tt);
 }
   where
-    go : (x : Read) → readWard file ≡ x → (q p : ℕ) → noInAnswer (readingOf x .answer) ≡ some (numbered q p) → FileFault ward file q p
+    go : (x : Read) → readWard file ≡ x → (q p : ℕ) → refusalIn (readingOf x .answer) ≡ some (numbered q p) → FileFault ward file q p
     go (good w) s q p e = absurd (Option·none-ne-some _ e)
-    go (bad a b) s q p e =
-        let f = file-fault file (all-bytes file bytes) a b s in
-        subst (λ (m : No). FileFault ward file (m .question) (m .place)) (some-no e) f
+    go (bad m) s q p e =
+        let f = file-fault file (all-bytes file bytes) (m .question) (m .place) s in
+        subst (λ (l : Refusal). FileFault ward file (l .question) (l .place)) (some-no e) f
 
 -- the writer's questions of the numbers ws, with so many places
 module _ (ws buffer : List ℕ) where
   abbrev Says : Read → ℕ → ℕ → Type 0
-  Says x q p = noInAnswer (writingOf (length buffer) x .answer) ≡ some (numbered q p)
+  Says x q p = refusalIn (writingOf (length buffer) x .answer) ≡ some (numbered q p)
 
   room : (vs : List ℕ) (b : Bool) → ltb (length buffer) (length (bytesOf vs)) ≡ b → checkWard ws ≡ good vs → (q p : ℕ) → Says (good vs) q p → WriterNo ws (length buffer) q p
   unfolding writingOf
   room vs true e s q p x =
-      let n : some (numbered 6 0) ≡ some (numbered q p) = sym (rw e) ∙ x in
+      let n : some (numbered question.bytes 0) ≡ some (numbered q p) = sym (rw e) ∙ x in
       let same = some-no n in
       let g = list-good ws vs s in
-      in-buffer (sym (ap (λ (m : No). m .question) same))
-      (sym (ap (λ (m : No). m .place) same), g .1, subst (λ (l : List ℕ). length buffer < length (bytesOf l)) (g .0) (ltb-true _ _ e))
+      in-buffer (sym (ap (λ (m : Refusal). m .question) same))
+      (sym (ap (λ (m : Refusal). m .place) same), g .1, subst (λ (l : List ℕ). length buffer < length (bytesOf l)) (g .0) (ltb-true _ _ e))
   room vs false e s q p x = absurd (Option·none-ne-some _ (sym (rw e) ∙ x))
 
   write-only : (x : Read) → checkWard ws ≡ x → (q p : ℕ) → Says x q p → WriterNo ws (length buffer) q p
   unfolding writingOf
   write-only (good vs) s q p e = room vs (ltb (length buffer) (length (bytesOf vs))) refl s q p e
-  write-only (bad a b) s q p e = in-numbers (subst (λ (m : No). ListFault ward ws (m .question) (m .place)) (some-no e) (list-fault ws a b s))
+  write-only (bad m) s q p e =
+      in-numbers (subst (λ (l : Refusal). ListFault ward ws (l .question) (l .place)) (some-no e) (list-fault ws (m .question) (m .place) s))
 
   write-always : (q p : ℕ) → WriterNo ws (length buffer) q p
-      → (writingOf (length buffer) (checkWard ws) ≡ record { answer = ward-variants.No q p; bytes = 0 }) × (leftOf buffer (checkWard ws) ≡ buffer)
+      → (writingOf (length buffer) (checkWard ws) ≡ unwritten (numbered q p)) × (leftOf buffer (checkWard ws) ≡ buffer)
   unfolding writingOf leftOf
   write-always q p (in-numbers f) = rw (fault-list ws q p f) (refl, refl)
   write-always q p (in-buffer e f) =
       rw (good-list ws (f .1), lt-ltb (length buffer) (length (bytesOf ws)) (f .2))
-      (ap₂ (λ (a b : ℕ). record { answer = ward-variants.No a b; bytes = 0 }) (sym e) (sym (f .0)), refl)
+      (ap₂ (λ (a b : ℕ). unwritten (numbered a b)) (sym e) (sym (f .0)), refl)
 
 write-refuses : (w : Ward) (buffer : List ℕ) → WriteRefuses w buffer
 write-refuses w buffer = record { only = λ q p e. write-only (counted w) buffer (checkWard (counted w)) refl q p e; always = write-always (counted w) buffer }

@@ -1,7 +1,9 @@
 -- Demand 2: each of its parts, as the layers prove it.
+use Rattle.refusals.specs.Refusals.{numbered}
+use Rattle.refusals.specs.Questions as question
 use Prim.Native.Nat.{ℕ, _*_}
 use mathlib.Core.Path.{_≡_, refl, sym, ap, _∙_}
-use mathlib.Core.Bool.{Bool, true, false, false≢true}
+use mathlib.Core.Bool.{Bool, true, false, cond, false≢true}
 use mathlib.Core.List.{List}
 use mathlib.Core.Option.{Option, none, some}
 use Rattle.fields.specs.Fields.{nurses, days, longestDays, block}
@@ -21,36 +23,43 @@ use Rattle.letters.proofs.LetterLaws.{placed-long}
 use Rattle.rosters.specs.Check.{Holds}
 use Rattle.rosters.specs.CodeCheck.{holds}
 use Rattle.rosters.proofs.CheckLaws.{holds-sound, holds-complete}
-use Rattle.planner.specs.Answers.{Said, refused, said, checkLetters, checkOver, checkSays}
+use Rattle.planner.specs.declared.Checked.{Checked}
+use Rattle.planner.specs.declared.Checked.the-variants.{Refused, Passed, Broken}
+use Rattle.planner.specs.Answers.{checkLetters, checkOver, checkSays}
 use Rattle.planner.specs.Demand2.{Passes, Demand2}
 
 -- ---- the check
 
-abbrev is-yes : Said → Bool
-is-yes (refused n) = false
-is-yes (said b) = b
+abbrev is-yes : Checked → Bool
+is-yes (Refused n) = false
+is-yes Passed = true
+is-yes Broken = false
+
+yes-when : (b : Bool) → is-yes (cond b Passed Broken) ≡ b
+yes-when true = refl
+yes-when false = refl
 
 module _ (w roster : List ℕ) where
   abbrev place : Option ℕ
   place = misplaced (nurses w * days w) roster
 
-  letters-yes : checkLetters w roster ≡ said true → (place ≡ none) × Holds w roster
+  letters-yes : checkLetters w roster ≡ Passed → (place ≡ none) × Holds w roster
   unfolding checkLetters
   letters-yes e = go place refl
     where
       go : (o : Option ℕ) → place ≡ o → (place ≡ none) × Holds w roster
       go none q =
-          let y : said (holds w roster) ≡ checkLetters w roster = sym (rw (q, checkLetters)) in
-          (q, holds-sound w roster (placed-long (nurses w * days w) roster q) (ap is-yes (y ∙ e)))
+          let y : cond (holds w roster) Passed Broken ≡ checkLetters w roster = sym (rw (q, checkLetters)) in
+          (q, holds-sound w roster (placed-long (nurses w * days w) roster q) (sym (yes-when (holds w roster)) ∙ ap is-yes (y ∙ e)))
       go (some p) q =
-          let y : refused (record { question = 12; place = p }) ≡ checkLetters w roster = sym (rw (q, checkLetters)) in
+          let y : Refused (numbered question.letters p) ≡ checkLetters w roster = sym (rw (q, checkLetters)) in
           absurd (false≢true (ap is-yes (y ∙ e)))
 
-  yes-letters : place ≡ none → Holds w roster → checkLetters w roster ≡ said true
+  yes-letters : place ≡ none → Holds w roster → checkLetters w roster ≡ Passed
   unfolding checkLetters
   yes-letters q h = rw (q, checkLetters, holds-complete w roster (placed-long (nurses w * days w) roster q) h)
 
-yes-passes : (file roster : List ℕ) → checkSays file roster ≡ said true → Passes file roster
+yes-passes : (file roster : List ℕ) → checkSays file roster ≡ Passed → Passes file roster
 unfolding checkOver
 yes-passes file roster e = go (readWard file) refl
   where
@@ -58,9 +67,9 @@ yes-passes file roster e = go (readWard file) refl
     go (good w) q =
         let y = letters-yes w roster (sym (ap (λ (x : Read). checkOver x roster) q) ∙ e) in
         record { ward = w; reads = q; lettered = y .0; holds = y .1 }
-    go (bad k p) q = absurd (false≢true (ap is-yes (sym (ap (λ (x : Read). checkOver x roster) q) ∙ e)))
+    go (bad n) q = absurd (false≢true (ap is-yes (sym (ap (λ (x : Read). checkOver x roster) q) ∙ e)))
 
-passes-yes : (file roster : List ℕ) → Passes file roster → checkSays file roster ≡ said true
+passes-yes : (file roster : List ℕ) → Passes file roster → checkSays file roster ≡ Passed
 unfolding checkOver
 passes-yes file roster p = ap (λ (x : Read). checkOver x roster) (p .reads) ∙ yes-letters (p .ward) roster (p .lettered) (p .holds)
 

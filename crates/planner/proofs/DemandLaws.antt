@@ -20,7 +20,10 @@ use Rattle.history.specs.Slot.{Slot, isNone}
 use Rattle.penalty.specs.Penalty.{workedIn, atDay, nightPenalty, dayPenalty}
 use Rattle.penalty.specs.Held.{DayHeld}
 use Rattle.penalty.proofs.HeldLaws.{day-zero, day-held}
-use Rattle.history.specs.Phase.{Phase, Call, Answer, End, End·zero, End·asked, End·none, first, unless, refusal, refused, ended}
+use Rattle.history.specs.Phase.{Phase, Call, Answer, End, End·zero, End·asked, End·none, refusal, refused, ended}
+use Rattle.refusals.specs.declared.Refusal.{Refusal}
+use Rattle.refusals.specs.Refusals.{first, unless}
+use Rattle.refusals.specs.Questions as question
 use Rattle.history.specs.History.{History, inUse, penalty}
 use Rattle.history.specs.Claim.{Steps, Made, refuses, goes, Turns, done, turn, Demand3, Without, orTen}
 use Rattle.removals.specs.Removals.{patternOf}
@@ -31,13 +34,14 @@ use Rattle.history.proofs.DemandLaws.{zero≢asked}
 use Rattle.history.proofs.TurnLaws.{steps-then, in-use-hers}
 use Rattle.history.proofs.WithoutLaws.{all-refused, refusing}
 use Rattle.search.proofs.AdvanceLaws.{stored-without, demand3-stored}
-use Rattle.phases.proofs.OutcomeLaws.{first-none, unless-none}
+use Rattle.refusals.proofs.OrderLaws.{first-none, unless-none}
 use Rattle.letters.specs.Letters.{misplaced}
 use Rattle.rosters.specs.CodeCheck.{holds}
 use Rattle.rosters.proofs.GivenLaws.{duty-alike, members-alike, Patterns, placedAll, given-at-zero}
 use Rattle.phases.specs.Phases.{nightPhase, nightsOpen, listsFit, dayListOver, dayPhase, nightOf}
 use Rattle.planner.specs.Advances.{advanceOver, advanceNights, advanceDays}
-use Rattle.planner.specs.Answers.{said, checkLetters, checkOver, checkSays}
+use Rattle.planner.specs.declared.Checked.the-variants.{Passed}
+use Rattle.planner.specs.Answers.{checkLetters, checkOver, checkSays}
 use Rattle.planner.specs.Demand3.{NightPatterns, DayPatterns, Rightly, Settled, UnlessRefused, Each, DayDemand, Demanded}
 use Rattle.phases.proofs.PhaseLaws.{night-fits, night-lawful, day-fits, day-lawful}
 
@@ -62,10 +66,10 @@ module _ (w : List ℕ) (nights : ℕ → ℕ) where
   pub nights-open : (c : Call) (steps : ℕ) → refusal (dayPhase w nights) c steps ≡ none → nightsOpen w nights ≡ true
   unfolding refusal dayPhase
   nights-open c steps e =
-      let eight = unless (nightsOpen w nights) 8 0 in
+      let eight = unless (nightsOpen w nights) question.nights 0 in
       let nine = listsFit (dayListOver w nights) (nurses w) (c .places) in
-      let seven = unless (leb (c .steps) 10000 && leb (steps + c .steps) 1000000) 7 0 in
-      unless-none (nightsOpen w nights) 8 0 (first-none eight nine (first-none seven (first eight nine) e .1) .0)
+      let seven = unless (leb (c .steps) 10000 && leb (steps + c .steps) 1000000) question.steps 0 in
+      unless-none (nightsOpen w nights) question.nights 0 (first-none eight nine (first-none seven (first eight nine) e .1) .0)
 
   settled : nightsOpen w nights ≡ true → Settled w nights
   unfolding nightsOpen
@@ -124,7 +128,7 @@ module _ (w : List ℕ) (nights : ℕ → ℕ) where
         (g .placed, g .yes-said)
 
     module _ (file : List ℕ) (reads : readWard file ≡ good w) where
-      check-yes : (l : List ℕ) → YesTo l → checkSays file l ≡ said true
+      check-yes : (l : List ℕ) → YesTo l → checkSays file l ≡ Passed
       unfolding checkOver checkLetters
       check-yes l y = ap (λ (x : Read). checkOver x l) reads ∙ rw (y .0, checkLetters, y .1)
 
@@ -176,10 +180,10 @@ advance-without phase file w reads i h c =
     ap (λ (adv : Call → Stored → Answer × Stored). adv c allZero) (advance-read phase file w reads) ∙ stored-without (phase w) c allZero i h
 
 -- a file that is not read
-pub advance-unread : (phase : List ℕ → Phase) (file : List ℕ) (q p : ℕ) (c : Call) (r : Stored) → readWard file ≡ bad q p
-    → advanceOver phase (readWard file) c r ≡ (refused (record { question = q; place = p }), r)
+pub advance-unread : (phase : List ℕ → Phase) (file : List ℕ) (n : Refusal) (c : Call) (r : Stored) → readWard file ≡ bad n
+    → advanceOver phase (readWard file) c r ≡ (refused n, r)
 unfolding advanceOver
-advance-unread phase file q p c r e = rw e
+advance-unread phase file n c r e = rw e
 
 pub demand : Demanded
 demand = record {
@@ -192,10 +196,10 @@ demand = record {
         no-days = λ nights.
             refusing (dayPhase w (nightOf nights)) allZero (advanceDays file nights) (advance-without (λ v. dayPhase v (nightOf nights)) file w e);
       };
-  unread = λ file q p e. record {
-    nights = λ cs. all-refused allZero (advanceNights file) (λ c. record { question = q; place = p }) (λ c. advance-unread nightPhase file q p c allZero e) cs;
+  unread = λ file n e. record {
+    nights = λ cs. all-refused allZero (advanceNights file) (λ c. n) (λ c. advance-unread nightPhase file n c allZero e) cs;
     days = λ nights cs.
-        all-refused allZero (advanceDays file nights) (λ c. record { question = q; place = p })
-        (λ c. advance-unread (λ v. dayPhase v (nightOf nights)) file q p c allZero e) cs;
+        all-refused allZero (advanceDays file nights) (λ c. n)
+        (λ c. advance-unread (λ v. dayPhase v (nightOf nights)) file n c allZero e) cs;
   };
 }

@@ -10,7 +10,7 @@ use Rattle.phases.specs.Phases.{nightPhase, dayPhase, nightOf}
 
 -- over what the reader says of the file
 unfoldable pub advanceOver : (List ℕ → Phase) → Read → Call → Stored → Answer × Stored
-advanceOver phase (bad question place) c r = (refused (record { question = question; place = place }), r)
+advanceOver phase (bad n) c r = (refused n, r)
 advanceOver phase (good w) c r = advanceStored (phase w) c r
 
 abbrev pub advanceNights : List ℕ → Call → Stored → Answer × Stored

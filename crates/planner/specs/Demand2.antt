@@ -24,7 +24,8 @@ use Rattle.penalty.specs.Penalty.{nightPenalty, dayPenalty}
 use Rattle.penalty.specs.Held.{NightHeld, DayHeld}
 use Rattle.letters.specs.Letters.{misplaced}
 use Rattle.rosters.specs.Check.{Holds}
-use Rattle.planner.specs.Answers.{said, checkSays}
+use Rattle.planner.specs.Answers.{checkSays}
+use Rattle.planner.specs.declared.Checked.the-variants.{Passed}
 
 -- a penalty is zero exactly where nothing is broken, and is never above 485,059,200
 pub record Weighs (penalty : (ℕ → Slot) → ℕ) (Held : (ℕ → Slot) → Type 0) : Type 0 where
@@ -62,4 +63,4 @@ pub record Demand2 : Type 0 where
   -- the rules and the penalties, of every ward that the reader says yes to
   pub means : (file w : List ℕ) → ((i : ℕ) → getD file i 0 < 256) → readWard file ≡ good w → WardMeans w
   -- the check says yes exactly when every rule holds
-  pub check-yes : (file roster : List ℕ) → (checkSays file roster ≡ said true) ↔ Passes file roster
+  pub check-yes : (file roster : List ℕ) → (checkSays file roster ≡ Passed) ↔ Passes file roster

@@ -12,13 +12,15 @@ use Rattle.layout.specs.Grammar.{good, bad}
 use Rattle.ward.specs.Answers.{readWard}
 use Rattle.nights.specs.Hers.{hersOf, nightList}
 use Rattle.penalty.specs.Penalty.{nightPenalty}
-use Rattle.history.specs.Phase.{Call, No, Answer, refused, ended, End·zero, End·asked, End·none, inTurn}
+use Rattle.history.specs.Phase.{Call, Answer, refused, ended, End·zero, End·asked, End·none, inTurn}
+use Rattle.refusals.specs.declared.Refusal.{Refusal}
 use Rattle.history.specs.Record.{Record}
 use Rattle.history.specs.Claim.{Demand3, AllRefused, Refusing}
 use Rattle.search.specs.Stored.{allZero, store}
 use Rattle.phases.specs.Phases.{nightPhase, dayPhase, dayListOver, nightOf}
 use Rattle.planner.specs.Advances.{advanceNights, advanceDays}
-use Rattle.planner.specs.Answers.{said, checkSays}
+use Rattle.planner.specs.Answers.{checkSays}
+use Rattle.planner.specs.declared.Checked.the-variants.{Passed}
 
 -- by night, every nurse has a pattern
 abbrev pub NightPatterns : List ℕ → Type 0
@@ -31,7 +33,7 @@ DayPatterns w nights = (i : ℕ) → i < nurses w → dayListOver w nights i ≢
 -- an advance gives out a roster exactly at zero, and the check says yes to it
 abbrev pub Rightly : List ℕ → Answer → Type 0
 Rightly file (refused n) = Unit
-Rightly file (ended End·zero steps penalty roster) = checkSays file roster ≡ said true
+Rightly file (ended End·zero steps penalty roster) = checkSays file roster ≡ Passed
 Rightly file (ended End·asked steps penalty roster) = roster ≡ []
 Rightly file (ended End·none steps penalty roster) = roster ≡ []
 
@@ -67,7 +69,7 @@ pub record Demand (file w : List ℕ) {R : Type 0} (start : R) (by-night : Call 
   pub no-days : (nights : List ℕ) → Refusing (dayPhase w (nightOf nights)) start (by-day nights)
 
 -- a file that the reader refuses: so is every advance over it, with the same question and place
-pub record Unread {R : Type 0} (start : R) (by-night : Call → R → Answer × R) (by-day : List ℕ → Call → R → Answer × R) (n : No) : Type 0 where
+pub record Unread {R : Type 0} (start : R) (by-night : Call → R → Answer × R) (by-day : List ℕ → Call → R → Answer × R) (n : Refusal) : Type 0 where
   pub nights : (cs : List Call) → AllRefused start by-night (λ c. n) cs
   pub days : (nights : List ℕ) (cs : List Call) → AllRefused start (by-day nights) (λ c. n) cs
 
@@ -75,8 +77,7 @@ pub record Unread {R : Type 0} (start : R) (by-night : Call → R → Answer × 
 pub record DemandedOf {R : Type 0} (start : R) (by-night : List ℕ → Call → R → Answer × R) (by-day : List ℕ → List ℕ → Call → R → Answer × R)
     (kept : Record → R) : Type 0 where
   pub accepted : (file w : List ℕ) → ((i : ℕ) → getD file i 0 < 256) → readWard file ≡ good w → Demand file w start (by-night file) (by-day file) kept
-  pub unread : (file : List ℕ) (question place : ℕ) → readWard file ≡ bad question place
-      → Unread start (by-night file) (by-day file) (record { question = question; place = place })
+  pub unread : (file : List ℕ) (n : Refusal) → readWard file ≡ bad n → Unread start (by-night file) (by-day file) n
 
 -- of the published calls; proofs/DemandLaws shows it
 abbrev pub Demanded : Type 0

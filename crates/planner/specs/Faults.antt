@@ -6,6 +6,7 @@ use mathlib.Core.Logic.{_≢_, _⊎_}
 use mathlib.Core.List.{List}
 use mathlib.Core.Option.{some}
 use lib.ListN.{length, getD}
+use Rattle.refusals.specs.Questions as question
 use Rattle.fields.specs.Fields.{nurses, days}
 use Rattle.layout.specs.Grammar.{done, bytesOf}
 use Rattle.layout.specs.Layout.{ward}
@@ -66,16 +67,16 @@ pub data LettersFault (size : ℕ) (roster : List ℕ) (place : ℕ) : Type 0 wh
 
 abbrev pub nightQuestions : Call → Stored → List ℕ → Questions
 nightQuestions c r w =
-    ask 7 (StepsFault (r .steps) (c .steps)) (ask 9 (CommonFault w (c .places))
-    (ask 10 (PatternFault (nightPhase w)) (ask 11 (RecordFault (nightPhase w) r) end)))
+    ask question.steps (StepsFault (r .steps) (c .steps)) (ask question.lists (CommonFault w (c .places))
+    (ask question.patterns (PatternFault (nightPhase w)) (ask question.record-sound (RecordFault (nightPhase w) r) end)))
 
 abbrev pub dayQuestions : (ℕ → ℕ) → Call → Stored → List ℕ → Questions
 dayQuestions nights c r w =
-    ask 7 (StepsFault (r .steps) (c .steps)) (ask 8 (NightsFault w nights) (ask 9 (ListsFault (dayListOver w nights) (nurses w) (c .places))
-    (ask 10 (PatternFault (dayPhase w nights)) (ask 11 (RecordFault (dayPhase w nights) r) end))))
+    ask question.steps (StepsFault (r .steps) (c .steps)) (ask question.nights (NightsFault w nights) (ask question.lists (ListsFault (dayListOver w nights) (nurses w) (c .places))
+    (ask question.patterns (PatternFault (dayPhase w nights)) (ask question.record-sound (RecordFault (dayPhase w nights) r) end))))
 
 abbrev pub checkQuestions : List ℕ → List ℕ → Questions
-checkQuestions roster w = ask 12 (LettersFault (nurses w * days w) roster) end
+checkQuestions roster w = ask question.letters (LettersFault (nurses w * days w) roster) end
 
 -- a call over a ward file asks 1 to 5 of the file, and then the others over the ward that it holds
 pub data FileNo (file : List ℕ) (questions : List ℕ → Questions) (q p : ℕ) : Type 0 where
@@ -85,4 +86,4 @@ pub data FileNo (file : List ℕ) (questions : List ℕ → Questions) (q p : �
 -- the writer asks 1, 3, 4 and 5 of the numbers, and then 6
 pub data WriterNo (ws : List ℕ) (places q p : ℕ) : Type 0 where
   in-numbers : ListFault ward ws q p → WriterNo ws places q p
-  in-buffer : q ≡ 6 → BufferFault ws places p → WriterNo ws places q p
+  in-buffer : q ≡ question.bytes → BufferFault ws places p → WriterNo ws places q p

@@ -15,7 +15,7 @@ use Rattle.planner.specs.Advances.{advanceNights, advanceDays}
 
 -- the common list of the file's ward
 abbrev pub listOf : Read → List ℕ
-listOf (bad q p) = []
+listOf (bad n) = []
 listOf (good w) = commonOf w
 
 unfoldable pub nightLeft : List ℕ → Stored → ℕ → List ℕ → List ℕ
@@ -24,7 +24,7 @@ nightLeft file r k buffer = leftBy (advanceNights file (callOf k (length buffer)
 -- ---- what the day advance leaves: all nurses' day lists over these nights, each where the one before it ends
 
 abbrev pub listsOf : Read → List ℕ → List ℕ
-listsOf (bad q p) nights = []
+listsOf (bad n) nights = []
 listsOf (good w) nights = upTo (dayLists w nights) (nurses w)
 
 unfoldable pub dayLeft : List ℕ → List ℕ → Stored → ℕ → List ℕ → List ℕ

@@ -22,6 +22,7 @@ use Rattle.penalty.specs.Penalty.{onDuty, members, shortOn, overOn, unplacedIn,
 use Rattle.letters.specs.Letters.{letters, rowLettersOf, letter, isLetter, firstBad, misplaced}
 use Rattle.rosters.specs.Check.{lettered}
 use Rattle.rosters.specs.CodeCheck.{lettersIn, sameRow, rowHolds, rowsHold, groupHolds, dutyHolds, dayHolds, daysHold, holds}
+use Rattle.refusals.specs.Refusals.{numbered}
 use Rattle.history.specs.Phase.{Step, Call, Answer, refused, ended, End·zero, End·asked, End·none, run, refusal, given, inTurn}
 use Rattle.history.specs.History.{History, penalty, allowed, next, extend, reply, advance, answers, history}
 use Rattle.history.specs.Record.{recordOf, mayTake, total, best, stepped, sound, proceed, replyOf}
@@ -29,8 +30,9 @@ use Rattle.removals.specs.Removals.{noRemoval}
 use Rattle.search.specs.Stored.{view, store, allZero, unusedZero, soundStored, refusalStored, replyStored, advanceStored}
 use Rattle.phases.specs.Phases.{nightPhase, dayPhase, nightOf, nightsOpen, commonFits, listsFit}
 use Rattle.planner.specs.Advances.{advanceOver, advanceNights, advanceDays}
-use Rattle.planner.specs.Answers as answered
-use Rattle.planner.specs.Answers.{Said, said, checkLetters, checkOver, checkSays}
+use Rattle.planner.specs.declared.Checked.{Checked}
+use Rattle.planner.specs.declared.Checked.the-variants.{Refused, Passed, Broken}
+use Rattle.planner.specs.Answers.{checkLetters, checkOver, checkSays}
 
 abbrev call : ℕ → ℕ → Call
 call k n = record { steps = k; places = n }
@@ -48,10 +50,10 @@ after penalty = ended End·asked 1 penalty []
 
 -- an advance that is refused, and a roster that the check refuses, with the question's number and place
 abbrev refuses : ℕ → ℕ → Answer
-refuses q p = refused (record { question = q; place = p })
+refuses q p = refused (numbered q p)
 
-abbrev checkRefuses : ℕ → ℕ → Said
-checkRefuses q p = answered.refused (record { question = q; place = p })
+abbrev checkRefuses : ℕ → ℕ → Checked
+checkRefuses q p = Refused (numbered q p)
 
 -- ---- the ward worked through in document 01
 
@@ -67,8 +69,8 @@ pub record WorkedThrough : Type 0 where
   pub file-read : readWard worked ≡ good worked
   pub numbers-checked : checkWard worked ≡ good worked
   pub written-back : bytesOf worked ≡ worked
-  pub empty : readWard [] ≡ bad 1 0
-  pub edition-two : readWard (0 ∷ 2 ∷ []) ≡ bad 3 0
+  pub empty : readWard [] ≡ bad (numbered 1 0)
+  pub edition-two : readWard (0 ∷ 2 ∷ []) ≡ bad (numbered 3 0)
   -- by night: from 20,000,001, nurse 1 takes 1, 10,000,000; nurse 2 takes 0, and the penalty is 0
   pub night-first : next (nightPhase worked) [] ≡ some (did 0 1)
   pub night-second : next (nightPhase worked) (did 0 1 ∷ []) ≡ some (did 1 0)
@@ -90,12 +92,12 @@ pub record WorkedThrough : Type 0 where
       ≡ ended End·asked 0 20000002 [] ∷ ended End·asked 1 10000000 [] ∷ refuses 9 2 ∷ ended End·zero 1 0 roster ∷ []
   pub day-steps : history (dayPhase worked (nightOf nights)) (call 9 5 ∷ []) ≡ did 0 0 ∷ did 1 3 ∷ []
   -- the check of the roster; with a letter of none of the five after the six; with a letter too few
-  pub roster-checked : checkSays worked roster ≡ said true
+  pub roster-checked : checkSays worked roster ≡ Passed
   pub extra-letter : checkSays worked (78 ∷ 110 ∷ 47 ∷ 45 ∷ 45 ∷ 47 ∷ 47 ∷ 48 ∷ []) ≡ checkRefuses 12 7
   pub letter-missing : checkSays worked (78 ∷ 110 ∷ 47 ∷ 45 ∷ 45 ∷ []) ≡ checkRefuses 12 5
   -- day 2 of nurse 2 a rest: the day need of day 2 is not met; day 3 of nurse 1 other duty: her row follows from no patterns
-  pub need-unmet : checkSays worked (78 ∷ 110 ∷ 47 ∷ 45 ∷ 47 ∷ 47 ∷ []) ≡ said false
-  pub row-unfollowed : checkSays worked (78 ∷ 110 ∷ 43 ∷ 45 ∷ 45 ∷ 47 ∷ []) ≡ said false
+  pub need-unmet : checkSays worked (78 ∷ 110 ∷ 47 ∷ 45 ∷ 47 ∷ 47 ∷ []) ≡ Broken
+  pub row-unfollowed : checkSays worked (78 ∷ 110 ∷ 43 ∷ 45 ∷ 45 ∷ 47 ∷ []) ≡ Broken
 
 pub worked-through : WorkedThrough
 unfolding worked encode decode read check asked bytesOf readWard checkWard nightPhase dayPhase nightsOpen commonFits listsFit firstOver upTo answers history advance reply extend run refusal given next penalty allowed advanceOver advanceStored refusalStored replyStored soundStored unusedZero view store recordOf proceed replyOf best total mayTake stepped sound common nightList hers inCommon starts follow shifted through lastRun marksAllow sumTo numberOf keep all upFrom blockAt block groupsAt masks needsAt needs rowState availableOn dutyOn onDuty members shortOn overOn unplacedIn nightParts nightPenalty dayParts dayPenalty dayList dayRule choice rowDuty same anyOf freeOf windowsHold rests letters rowLettersOf letter isLetter firstBad misplaced checkLetters checkOver holds rowsHold rowHolds lettersIn sameRow daysHold dayHolds dutyHolds groupHolds lettered
@@ -141,11 +143,11 @@ pub record SecondWorked : Type 0 where
   -- its file is read and written back; cut off, not in the shortest form, most nights below the least, a 3 after no 2, a byte too many
   pub file-read : readWard second ≡ good second
   pub written-back : bytesOf second ≡ second
-  pub cut-off : readWard (take 103 second) ≡ bad 1 103
-  pub not-shortest : readWard (131 ∷ 0 ∷ []) ≡ bad 2 0
-  pub most-below-least : readWard (set second 24 0) ≡ bad 3 24
-  pub duty-unfit : readWard (set second 18 3) ≡ bad 4 18
-  pub byte-too-many : readWard (second ++ (0 ∷ [])) ≡ bad 5 104
+  pub cut-off : readWard (take 103 second) ≡ bad (numbered 1 103)
+  pub not-shortest : readWard (131 ∷ 0 ∷ []) ≡ bad (numbered 2 0)
+  pub most-below-least : readWard (set second 24 0) ≡ bad (numbered 3 24)
+  pub duty-unfit : readWard (set second 18 3) ≡ bad (numbered 4 18)
+  pub byte-too-many : readWard (second ++ (0 ∷ [])) ≡ bad (numbered 5 104)
   -- the common list: V leaves out the starts 1, 3 and 5, g1 leaves out 1 and 4; then each nurse's own
   pub common-list : commonOf second ≡ 0 ∷ 1 ∷ 2 ∷ 4 ∷ 5 ∷ 8 ∷ 10 ∷ 16 ∷ 17 ∷ 20 ∷ 32 ∷ 33 ∷ 34 ∷ 40 ∷ []
   pub nights-1 : nightList second 0 ≡ 1 ∷ 8 ∷ 16 ∷ 17 ∷ []
@@ -192,17 +194,17 @@ pub record SecondWorked : Type 0 where
   pub not-hers-penalty : nightPenalty second (λ i. some (nightOf (0 ∷ 8 ∷ 32 ∷ []) i)) ≡ 0
   pub not-hers : answers (dayPhase second (nightOf (0 ∷ 8 ∷ 32 ∷ []))) (call 1 10 ∷ []) ≡ refuses 8 0 ∷ []
   -- the check of the roster
-  pub roster-checked : checkSays second secondRoster ≡ said true
+  pub roster-checked : checkSays second secondRoster ≡ Passed
   -- One rule is broken in each. Nurse 1: three days running; a start under her mark 5.
-  pub days-running : checkSays second (set secondRoster 5 45) ≡ said false
-  pub against-mark-5 : checkSays second (set secondRoster 5 78) ≡ said false
+  pub days-running : checkSays second (set secondRoster 5 45) ≡ Broken
+  pub against-mark-5 : checkSays second (set secondRoster 5 78) ≡ Broken
   -- nurse 2: a rest under her mark 2; nurse 3: a rest too many, and no rest in seven days
-  pub against-mark-2 : checkSays second (set secondRoster 8 47) ≡ said false
-  pub rest-too-many : checkSays second (set secondRoster 14 47) ≡ said false
-  pub no-rest-in-seven : checkSays second (set (set secondRoster 12 45) 14 47) ≡ said false
+  pub against-mark-2 : checkSays second (set secondRoster 8 47) ≡ Broken
+  pub rest-too-many : checkSays second (set secondRoster 14 47) ≡ Broken
+  pub no-rest-in-seven : checkSays second (set (set secondRoster 12 45) 14 47) ≡ Broken
   -- day 5: the day need, and the group's high by day
-  pub need-unmet : checkSays second (set secondRoster 4 47) ≡ said false
-  pub above-high : checkSays second (set (set secondRoster 14 47) 16 45) ≡ said false
+  pub need-unmet : checkSays second (set secondRoster 4 47) ≡ Broken
+  pub above-high : checkSays second (set (set secondRoster 14 47) 16 45) ≡ Broken
 
 pub second-worked : SecondWorked
 unfolding second encode decode read check asked bytesOf readWard checkWard nightPhase dayPhase nightsOpen commonFits listsFit firstOver upTo answers history advance reply extend run refusal given next penalty allowed advanceOver advanceStored refusalStored replyStored soundStored unusedZero view store recordOf proceed replyOf best total mayTake stepped sound common nightList hers inCommon starts follow shifted through lastRun marksAllow sumTo numberOf keep all upFrom blockAt block groupsAt masks needsAt needs rowState availableOn dutyOn onDuty members shortOn overOn unplacedIn nightParts nightPenalty dayParts dayPenalty dayList dayRule choice rowDuty same anyOf freeOf windowsHold rests letters rowLettersOf letter isLetter firstBad misplaced checkLetters checkOver holds rowsHold rowHolds lettersIn sameRow daysHold dayHolds dutyHolds groupHolds lettered

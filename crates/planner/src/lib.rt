@@ -1,16 +1,18 @@
 // The published calls.
 use letters::Place;
+use phases::outcomes;
 pub use phases::outcomes::Advance;
-pub use phases::outcomes::DayAdvance;
 pub use phases::outcomes::Outcome;
-use ward::Answer;
+use refusals::Answer;
+use refusals::Refusal;
+use refusals::question;
 ghost use mathlib.Core.Path.{_≡_};
 ghost use lib.ListN.{length};
 ghost use Rattle.fields.specs.Fields.{Accepted};
 ghost use Rattle.ward.specs.Answers.{readingOf, readWard, counted, checkWard, writingOf, leftOf};
-ghost use Rattle.planner.specs.Answers.{saidBy, checkLetters, checkSays};
+ghost use Rattle.planner.specs.Answers.{checkLetters, checkSays};
 ghost use Rattle.planner.specs.Advances.{advanceNights, advanceDays};
-ghost use Rattle.phases.specs.Outcomes.{advanceOf, dayAdvanceOf, callOf};
+ghost use Rattle.phases.specs.Outcomes.{advanceOf, callOf};
 ghost use Rattle.planner.specs.Left.{nightLeft, dayLeft};
 
 // The ward of a file, or the first of questions 1 to 5 that it fails.
@@ -30,7 +32,7 @@ pub fn write(ward: ward::Ward, buffer: &mut [u8]) -> ward::Writing
 
 // What the check answers: a refusal; or that the roster keeps the rules, or that a rule is broken.
 pub enum Checked {
-    Refused { question: u32, place: usize },
+    Refused(Refusal),
     Passed,
     Broken,
 }
@@ -38,15 +40,15 @@ pub enum Checked {
 // Question 12, then the rules, over an accepted ward.
 fn check_letters(w: &[u64], roster: &[u8]) -> Checked
     requires { ⌜ Accepted (now w) ⌝ }
-    ensures { λ r. ⌜ saidBy r ≡ checkLetters (now (w .entry)) (now (roster .entry)) ⌝ }
+    ensures { λ r. ⌜ r ≡ checkLetters (now (w .entry)) (now (roster .entry)) ⌝ }
 {
     let m = fields::nurses(w);
     let n = fields::days(w);
     match letters::misplaced_at(roster, m * n) {
-        Place::At(place) => Checked::Refused {
-            question: 12,
+        Place::At(place) => Checked::Refused(Refusal {
+            question: question::LETTERS,
             place,
-        },
+        }),
         Place::Nowhere => {
             if rosters::roster_holds(w, roster) {
                 return Checked::Passed;
@@ -58,12 +60,12 @@ fn check_letters(w: &[u64], roster: &[u8]) -> Checked
 
 // Whether a roster keeps the rules of a ward, or the first of questions 1 to 5 and 12 that is a no.
 pub fn check(file: &[u8], roster: &[u8]) -> Checked
-    ensures { λ r. ⌜ saidBy r ≡ checkSays (now (file .entry)) (now (roster .entry)) ⌝ }
+    ensures { λ r. ⌜ r ≡ checkSays (now (file .entry)) (now (roster .entry)) ⌝ }
 {
     let reading = ward::read(file);
     let answer = reading.answer;
     match answer {
-        Answer::No { question, place } => Checked::Refused { question, place },
+        Answer::No(n) => Checked::Refused(n),
         Answer::Yes => {
             let numbers = reading.ward.numbers;
             let count = reading.ward.count;
@@ -75,13 +77,13 @@ pub fn check(file: &[u8], roster: &[u8]) -> Checked
 // Advances a night search by up to k steps, or says the first of questions 1 to 5, 7, 9, 10 and 11 that is a no.
 // The buffer then has the common list from its start; a refused call leaves it as it was.
 pub fn advance_nights(rec: search::Record, file: &[u8], k: u32, buffer: &mut [u32]) -> Advance
-    ensures says { λ r. ⌜ r ≡ advanceOf (advanceNights (now (file .entry)) (callOf k (length (now (buffer .entry)))) rec .0) (advanceNights (now (file .entry)) (callOf k (length (now (buffer .entry)))) rec .1) ⌝ }
+    ensures says { λ r. ⌜ r ≡ advanceOf (advanceNights (now (file .entry)) (callOf k (length (now (buffer .entry)))) rec) ⌝ }
     ensures leaves { λ _. ⌜ now (buffer .exit) ≡ nightLeft (now (file .entry)) rec k (now (buffer .entry)) ⌝ }
 {
     let reading = ward::read(file);
     let answer = reading.answer;
     match answer {
-        Answer::No { question, place } => nightadvance::refuse(rec, question, place),
+        Answer::No(n) => outcomes::refuse(rec, n),
         Answer::Yes => {
             let numbers = reading.ward.numbers;
             let count = reading.ward.count;
@@ -98,14 +100,14 @@ pub fn advance_days(
     nights: &[u32; 48],
     k: u32,
     buffer: &mut [u32],
-) -> DayAdvance
-    ensures says { λ r. ⌜ r ≡ dayAdvanceOf (advanceDays (now (file .entry)) (now (nights .entry)) (callOf k (length (now (buffer .entry)))) rec .0) (advanceDays (now (file .entry)) (now (nights .entry)) (callOf k (length (now (buffer .entry)))) rec .1) ⌝ }
+) -> Advance
+    ensures says { λ r. ⌜ r ≡ advanceOf (advanceDays (now (file .entry)) (now (nights .entry)) (callOf k (length (now (buffer .entry)))) rec) ⌝ }
     ensures leaves { λ _. ⌜ now (buffer .exit) ≡ dayLeft (now (file .entry)) (now (nights .entry)) rec k (now (buffer .entry)) ⌝ }
 {
     let reading = ward::read(file);
     let answer = reading.answer;
     match answer {
-        Answer::No { question, place } => dayadvance::refuse(rec, question, place),
+        Answer::No(n) => outcomes::refuse(rec, n),
         Answer::Yes => {
             let numbers = reading.ward.numbers;
             let count = reading.ward.count;

@@ -1,6 +1,7 @@
 // Plans the ward on standard input: 1,000 steps in each phase with 16,384 places. Prints nurse and row, then the night and the
 // day steps; or what is left, with the phase, its penalty and its steps; or the question that refused and its place.
 use planner::Outcome;
+use refusals::Refusal;
 use search::Record;
 
 fn number(n: u64) {
@@ -8,10 +9,10 @@ fn number(n: u64) {
     io::print_decimal(1, n);
 }
 
-fn show_no(question: u32, place: usize) {
+fn show_no(n: Refusal) {
     io::write_all(1, b"no");
-    number(question as u64);
-    number(place as u64);
+    number(n.question as u64);
+    number(n.place as u64);
     io::write_all(1, b"\n");
 }
 
@@ -64,8 +65,8 @@ fn plan_days(file: &[u8], nights: &[u32; 48], made: u32, buffer: &mut [u32]) {
     let x = planner::advance_days(Record::fresh(), file, nights, 1000, buffer);
     let end = x.outcome;
     match end {
-        Outcome::Refused { question, place } => {
-            show_no(question, place);
+        Outcome::Refused(n) => {
+            show_no(n);
         }
         Outcome::Zero => {
             let letters = x.roster.letters;
@@ -86,11 +87,11 @@ fn plan(file: &[u8]) {
     let x = planner::advance_nights(Record::fresh(), file, 1000, &mut buffer);
     let end = x.outcome;
     match end {
-        Outcome::Refused { question, place } => {
-            show_no(question, place);
+        Outcome::Refused(n) => {
+            show_no(n);
         }
         Outcome::Zero => {
-            let nights = x.kept.patterns;
+            let nights = x.after.patterns;
             plan_days(file, &nights, x.steps, &mut buffer);
         }
         Outcome::Asked => {

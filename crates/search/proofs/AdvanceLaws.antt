@@ -12,8 +12,12 @@ use lib.ListN.{length}
 use borrow.Author.Tests.{eq-eqb, ne-eqb, eqb-true}
 use Rattle.numbers.specs.Range.{Ascending, upFrom}
 use Rattle.numbers.proofs.AllLaws.{all-each}
+use Rattle.refusals.proofs.OrderLaws.{first-last}
+use Rattle.refusals.specs.Refusals.{numbered}
+use Rattle.refusals.specs.Questions as question
 use Rattle.history.specs.Slot.{Slot}
-use Rattle.history.specs.Phase.{Step, Phase, Call, No, Answer, refused, ended, End, End·zero, End·asked, End·none, exchanges, run, refusal, given}
+use Rattle.history.specs.Phase.{Step, Phase, Call, Answer, refused, ended, End, End·zero, End·asked, End·none, exchanges, run, refusal, given}
+use Rattle.refusals.specs.declared.Refusal.{Refusal}
 use Rattle.history.specs.History.{History, penalty, extend, reply, advance}
 use Rattle.history.specs.Record.{Record, recordOf, mayTake, costAfter, total, best, stepped, proceed, among, hers, allName, lacking, sound, replyOf}
 use Rattle.history.specs.Claim.{Demand3, Without, orTen}
@@ -29,7 +33,7 @@ use Rattle.best.specs.declared.Best.the-variants.{Nothing, Exchange}
 use Rattle.history.proofs.TestLaws.{and-true}
 use Rattle.history.proofs.ChooseLaws.{least-first, offers-only, range-only}
 use Rattle.history.proofs.RunLaws.{run-zero, run-asked, run-none-left, run-on}
-use Rattle.history.proofs.FollowLaws.{Grown, first-none, among-member, fresh-record, removals-held, none-past, lacking-none, sound-record, advance-refused, advance-goes, proceed-extend}
+use Rattle.history.proofs.FollowLaws.{Grown, among-member, fresh-record, removals-held, none-past, lacking-none, sound-record, advance-refused, advance-goes, proceed-extend}
 use Rattle.history.proofs.DemandLaws.{demand3-of}
 use Rattle.history.proofs.WithoutLaws.{lacking-lowest}
 use Rattle.best.proofs.BestLaws.{found-best}
@@ -209,7 +213,7 @@ module _ (P : Phase) (k : ℕ) (r₀ : Stored) {r : Stored} {made : ℕ} (u : Ru
 -- ---- one advance
 
 module _ (P : Phase) (c : Call) (r : Stored) where
-  pub stored-refused : (n : No) → refusalStored P c r ≡ some n → advanceStored P c r ≡ (refused n, r)
+  pub stored-refused : (n : Refusal) → refusalStored P c r ≡ some n → advanceStored P c r ≡ (refused n, r)
   unfolding advanceStored
   stored-refused n e = rw (e, advanceStored)
 
@@ -222,25 +226,25 @@ module _ (P : Phase) (c : Call) (r : Stored) where
   unfolding refusalStored
   stored-without i w = go (refusal P c (r .steps)) refl
     where
-      go : (o : Option No) → refusal P c (r .steps) ≡ o → advanceStored P c r ≡ (refused (orTen i o), r)
-      go none e = stored-refused (record { question = 10; place = suc i }) (rw (e, lacking-lowest P i w))
+      go : (o : Option Refusal) → refusal P c (r .steps) ≡ o → advanceStored P c r ≡ (refused (orTen i o), r)
+      go none e = stored-refused (numbered question.patterns (suc i)) (rw (e, lacking-lowest P i w))
       go (some n) e = stored-refused n (rw e)
 
   -- the questions in turn
-  pub asks-seven : (leb (c .steps) 10000 && leb (r .steps + c .steps) 1000000) ≡ false → refusalStored P c r ≡ some (record { question = 7; place = 0 })
+  pub asks-seven : (leb (c .steps) 10000 && leb (r .steps + c .steps) 1000000) ≡ false → refusalStored P c r ≡ some (numbered question.steps 0)
   unfolding refusalStored refusal
   asks-seven e = rw e
 
-  pub asks-room : {n : No} → (leb (c .steps) 10000 && leb (r .steps + c .steps) 1000000) ≡ true → P .room (c .places) ≡ some n → refusalStored P c r ≡ some n
+  pub asks-room : {n : Refusal} → (leb (c .steps) 10000 && leb (r .steps + c .steps) 1000000) ≡ true → P .room (c .places) ≡ some n → refusalStored P c r ≡ some n
   unfolding refusalStored refusal
   asks-room e f = rw (e, f)
 
   module _ (e : (leb (c .steps) 10000 && leb (r .steps + c .steps) 1000000) ≡ true) (f : P .room (c .places) ≡ none) where
-    pub asks-lacking : {n : No} → lacking (P .patterns) (upFrom 0 (P .nurses)) ≡ some n → refusalStored P c r ≡ some n
+    pub asks-lacking : {n : Refusal} → lacking (P .patterns) (upFrom 0 (P .nurses)) ≡ some n → refusalStored P c r ≡ some n
     unfolding refusalStored refusal
     asks-lacking g = rw (e, f, g)
 
-    pub asks-sound : lacking (P .patterns) (upFrom 0 (P .nurses)) ≡ none → soundStored P r ≡ false → refusalStored P c r ≡ some (record { question = 11; place = 0 })
+    pub asks-sound : lacking (P .patterns) (upFrom 0 (P .nurses)) ≡ none → soundStored P r ≡ false → refusalStored P c r ≡ some (numbered question.record-sound 0)
     unfolding refusalStored refusal
     asks-sound g h = rw (e, f, g, h)
 
@@ -270,7 +274,7 @@ module _ (P : Phase) (w : Lawful P) (f : Fits P) where
   refusal-stored : {h : History} → Grown P h → (c : Call) → refusalStored P c (store (recordOf P h)) ≡ refusal P c (length h)
   unfolding refusalStored
   refusal-stored {h} g c =
-      rw (lacking-none P w, sound-stored g) (first-none (refusal P c ((store (recordOf P h)) .steps)) ∙ ap (refusal P c) (stored-steps P h))
+      rw (lacking-none P w, sound-stored g) (first-last (refusal P c ((store (recordOf P h)) .steps)) ∙ ap (refusal P c) (stored-steps P h))
 
   reply-stored : {h : History} → Grown P h → (k : ℕ) → replyStored P k (store (recordOf P h)) ≡ ((reply P h (extend P k h)) .0, store (recordOf P ((reply P h (extend P k h)) .1)))
   unfolding replyStored replyOf reply recordOf total penalty
@@ -279,7 +283,7 @@ module _ (P : Phase) (w : Lawful P) (f : Fits P) where
   follows : (h : History) → Grown P h → (c : Call) → advanceStored P c (store (recordOf P h)) ≡ ((advance P c h) .0, store (recordOf P ((advance P c h) .1)))
   follows h g c = go (refusal P c (length h)) refl
     where
-      go : (o : Option No) → refusal P c (length h) ≡ o → advanceStored P c (store (recordOf P h)) ≡ ((advance P c h) .0, store (recordOf P ((advance P c h) .1)))
+      go : (o : Option Refusal) → refusal P c (length h) ≡ o → advanceStored P c (store (recordOf P h)) ≡ ((advance P c h) .0, store (recordOf P ((advance P c h) .1)))
       go none e =
           stored-goes P c (store (recordOf P h)) (refusal-stored g c ∙ e) ∙ reply-stored g (c .steps)
           ∙ ap (λ (x : Answer × History). (x .0, store (recordOf P (x .1)))) (sym (advance-goes P c h e))

@@ -8,7 +8,10 @@ use lib.Dec.{ltb}
 use lib.ListN.{length, getD, take, replicate}
 use Rattle.numbers.specs.Range.{upFrom, all}
 use Rattle.history.specs.Slot.{Slot}
-use Rattle.history.specs.Phase.{Phase, Call, No, Answer, refused, refusal, first, unless}
+use Rattle.history.specs.Phase.{Phase, Call, Answer, refused, refusal}
+use Rattle.refusals.specs.declared.Refusal.{Refusal}
+use Rattle.refusals.specs.Refusals.{first, unless}
+use Rattle.refusals.specs.Questions as question
 use Rattle.history.specs.Record.{Record, lacking, names, sound, proceed, replyOf}
 use Rattle.removals.specs.Removals.{slot, removalOf, patternOf, flagOf, storedRemoval, noRemoval, slotZero, removalZero}
 use Rattle.search.specs.declared.Record.{Record as Stored}
@@ -71,9 +74,9 @@ unfoldable pub soundStored : Phase → Stored → Bool
 soundStored P r = sound P (viewOf P r) && unusedZero (P .nurses) (P .tabu) r
 
 -- questions 7 to 11
-unfoldable pub refusalStored : Phase → Call → Stored → Option No
+unfoldable pub refusalStored : Phase → Call → Stored → Option Refusal
 refusalStored P c r =
-    first (refusal P c (r .steps)) (first (lacking (P .patterns) (upFrom 0 (P .nurses))) (unless (soundStored P r) 11 0))
+    first (refusal P c (r .steps)) (first (lacking (P .patterns) (upFrom 0 (P .nurses))) (unless (soundStored P r) question.record-sound 0))
 
 -- the answers of an advance of k steps that is not refused, and the record that it hands back
 unfoldable pub replyStored : Phase → ℕ → Stored → Answer × Stored

@@ -9,10 +9,13 @@ use lib.Dec.{ltb}
 use lib.ListN.{length, take, drop, replicate}
 use lib.Seq.{take-at}
 use Rattle.ward.specs.declared.Writing.{Writing}
-use Rattle.ward.specs.declared.Answer.the-variants.{Yes, No}
+use Rattle.refusals.specs.declared.Answer.the-variants.{Yes, No}
+use Rattle.refusals.specs.declared.Refusal.{Refusal}
+use Rattle.refusals.specs.Refusals.{numbered}
+use Rattle.refusals.specs.Questions as question
 use Rattle.layout.specs.Grammar.{Read, good, bad, bytesOf}
 use Rattle.layout.specs.Layout.{ward}
-use Rattle.ward.specs.Answers.{readWard, readingOf, refusedOf, counted, checkWard, writingOf, leftOf}
+use Rattle.ward.specs.Answers.{readWard, readingOf, refusedOf, counted, checkWard, unwritten, writingOf, leftOf}
 use Rattle.ward.specs.BothWays.{BothWays}
 use Rattle.codec.proofs.NumberLaws.{AllBytes, all-bytes}
 use Rattle.layout.proofs.AcceptLaws.{accepted}
@@ -23,8 +26,8 @@ pub counted-read : (ws : List ℕ) → counted (readingOf (good ws) .ward) ≡ w
 unfolding counted readingOf
 counted-read ws = rw append-assoc (take-at ws (replicate (4094 - length ws) 0 ++ replicate (length ws - 4094) 0) (length ws) refl)
 
-no-yes : (q p : ℕ) → No q p ≡ Yes → ⊥
-no-yes q p e = let z : _≡_ {A = ℕ} 0 1 = cc in omega arith
+no-yes : (n : Refusal) → No n ≡ Yes → ⊥
+no-yes n e = let z : _≡_ {A = ℕ} 0 1 = cc in omega arith
 
 -- the numbers that are let through are those that were asked
 same-numbers : (ws vs : List ℕ) → checkWard ws ≡ good vs → vs ≡ ws
@@ -36,15 +39,15 @@ unfolding writingOf
 fits-in m w e = go (ltb m (length (bytesOf w))) refl e
   where
     at : Bool → Writing
-    at b = cond b (record { answer = No 6 0; bytes = 0 }) (record { answer = Yes; bytes = length (bytesOf w) })
+    at b = cond b (unwritten (numbered question.bytes 0)) (record { answer = Yes; bytes = length (bytesOf w) })
 
     go : (b : Bool) → ltb m (length (bytesOf w)) ≡ b → (at b) .answer ≡ Yes → ((at b) .bytes ≡ length (bytesOf w)) × (b ≡ false)
-    go true q y = absurd (no-yes 6 0 y)
+    go true q y = absurd (no-yes (numbered question.bytes 0) y)
     go false q y = (refl, refl)
 
-refused-no : (m q p : ℕ) → writingOf m (bad q p) .answer ≡ Yes → ⊥
+refused-no : (m : ℕ) (n : Refusal) → writingOf m (bad n) .answer ≡ Yes → ⊥
 unfolding writingOf
-refused-no m q p e = no-yes q p e
+refused-no m n e = no-yes n e
 
 module _ (buffer : List ℕ) where
   written : (ws : List ℕ) (r : Read) → checkWard ws ≡ r → writingOf (length buffer) r .answer ≡ Yes → readWard (take (writingOf (length buffer) r .bytes) (leftOf buffer r)) ≡ good ws
@@ -54,7 +57,7 @@ module _ (buffer : List ℕ) where
       let f = fits-in (length buffer) vs y in
       let c : checkWard vs ≡ good vs = ap checkWard s ∙ e in
       rw (f .0, f .1, take-at (bytesOf vs) (drop (length (bytesOf vs)) buffer) (length (bytesOf vs)) refl) (ward-out vs c ∙ ap good s)
-  written ws (bad q p) e y = absurd (refused-no (length buffer) q p y)
+  written ws (bad n) e y = absurd (refused-no (length buffer) n y)
 
   back : (file : List ℕ) (r : Read) → readWard file ≡ r → AllBytes file → readingOf r .answer ≡ Yes → length file ≤ length buffer
       → (writingOf (length buffer) (checkWard (counted (readingOf r .ward))) ≡ record { answer = Yes; bytes = length file })
@@ -67,7 +70,7 @@ module _ (buffer : List ℕ) where
         ap (writingOf (length buffer)) c ∙ simp (le-ltb _ _ room) (ap (λ (x : List ℕ). record { answer = Yes; bytes = length x }) (b .0)),
         ap (leftOf buffer) c ∙ simp (le-ltb _ _ room) (ap (λ (x : List ℕ). x ++ drop (length x) buffer) (b .0)),
       )
-  back file (bad q p) e a y l = absurd (no-yes q p y)
+  back file (bad n) e a y l = absurd (no-yes n y)
 
 pub both-ways : BothWays
 both-ways = record {

@@ -3,6 +3,7 @@ use Prim.Native.Nat.{ℕ, _+_}
 use mathlib.Core.Path.{_≡_, ap, _∙_, subst}
 use mathlib.Core.List.{List}
 use native.Mathlib.Omega.{arith}
+use Rattle.refusals.specs.Refusals.{numbered}
 use Rattle.codec.proofs.NumberLaws.{AllBytes}
 use Rattle.fields.specs.Fields.{Accepted}
 use Rattle.layout.specs.Grammar.{good, bad, done}
@@ -17,16 +18,16 @@ use Rattle.ward.proofs.AcceptedLaws.{accepted-ward}
 -- ---- a file
 
 module _ (file : List ℕ) where
-  pub file-fault : AllBytes file → (q p : ℕ) → readWard file ≡ bad q p → FileFault ward file q p
+  pub file-fault : AllBytes file → (q p : ℕ) → readWard file ≡ bad (numbered q p) → FileFault ward file q p
   unfolding readWard
   file-fault a q p e =
       let f = read-fault ward 0 file q p a e in
       let same : f .0 ≡ p = omega (arith, f .1) in
       subst (FileFault ward file q) same (f .2)
 
-  pub fault-file : (q p : ℕ) → FileFault ward file q p → readWard file ≡ bad q p
+  pub fault-file : (q p : ℕ) → FileFault ward file q p → readWard file ≡ bad (numbered q p)
   unfolding readWard
-  fault-file q p f = fault-read 4094 ward within-ward 0 file q p f ∙ let z : 0 + p ≡ p = omega arith in ap (bad q) z
+  fault-file q p f = fault-read 4094 ward within-ward 0 file q p f ∙ let z : 0 + p ≡ p = omega arith in ap (λ (x : ℕ). bad (numbered q x)) z
 
   pub file-good : (w : List ℕ) → AllBytes file → readWard file ≡ good w → FileGood ward file w
   unfolding readWard
@@ -39,16 +40,16 @@ module _ (file : List ℕ) where
 -- ---- a list of numbers
 
 module _ (ws : List ℕ) where
-  pub list-fault : (q p : ℕ) → checkWard ws ≡ bad q p → ListFault ward ws q p
+  pub list-fault : (q p : ℕ) → checkWard ws ≡ bad (numbered q p) → ListFault ward ws q p
   unfolding checkWard
   list-fault q p e =
       let f = check-fault ward 0 ws q p e in
       let same : f .0 ≡ p = omega (arith, f .1) in
       subst (ListFault ward ws q) same (f .2)
 
-  pub fault-list : (q p : ℕ) → ListFault ward ws q p → checkWard ws ≡ bad q p
+  pub fault-list : (q p : ℕ) → ListFault ward ws q p → checkWard ws ≡ bad (numbered q p)
   unfolding checkWard
-  fault-list q p f = fault-check ward 0 ws q p f ∙ let z : 0 + p ≡ p = omega arith in ap (bad q) z
+  fault-list q p f = fault-check ward 0 ws q p f ∙ let z : 0 + p ≡ p = omega arith in ap (λ (x : ℕ). bad (numbered q x)) z
 
   pub list-good : (vs : List ℕ) → checkWard ws ≡ good vs → (vs ≡ ws) × Takes ward ws done
   unfolding checkWard

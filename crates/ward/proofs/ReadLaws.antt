@@ -6,8 +6,10 @@ use native.Mathlib.Numerals.{add-one}
 use native.Mathlib.Omega.{arith}
 use lib.ListN.{length, take, drop, set, replicate, length-drop, length-set, length-replicate, take-append-drop}
 use lib.Seq.{take-suc-set, drop-set-lt, drop-drop, length-take-le}
+use Rattle.refusals.specs.Refusals.{numbered}
+use Rattle.refusals.specs.Questions as question
 use Rattle.layout.specs.declared.Field.{Field}
-use Rattle.ward.specs.declared.Answer.the-variants.{Yes}
+use Rattle.refusals.specs.declared.Answer.the-variants.{Yes}
 use Rattle.codec.specs.declared.Number.the-variants.{Value, Ended, Long}
 use Rattle.layout.specs.declared.Want.the-variants.{Next, Nothing}
 use Rattle.ward.specs.declared.Reading.{Reading}
@@ -53,7 +55,7 @@ module _ (file numbers : List ℕ) (count at : ℕ) (g : Grammar) (so : So file 
       pub moves : 0 < used
       moves = inside (drop at file) v used d .0
 
-      pub failed : (asked f v ≡ 0 → ⊥) → refusedOf (asked f v) at ≡ readingOf (readWard file)
+      pub failed : (asked f v ≡ 0 → ⊥) → refusedOf (numbered (asked f v) at) ≡ readingOf (readWard file)
       unfolding readingOf
       failed n = sym (ap readingOf (so .same ∙ ap (prepend (take count numbers)) (read-failed g f at (drop at file) e v used d n)))
 
@@ -88,16 +90,16 @@ module _ (file numbers : List ℕ) (count at : ℕ) (g : Grammar) (so : So file 
             onward =
                 rw (add-one count, take-suc-set numbers count v (subst (λ (n : ℕ). count < n) (sym (so .long)) space), drop-drop used at file)
 
-    pub ended : decode (drop at file) ≡ Ended → refusedOf 1 at ≡ readingOf (readWard file)
+    pub ended : decode (drop at file) ≡ Ended → refusedOf (numbered question.whole at) ≡ readingOf (readWard file)
     unfolding readingOf
     ended d = sym (ap readingOf (so .same ∙ ap (prepend (take count numbers)) (read-ended g f at (drop at file) e d)))
 
-    pub long-form : decode (drop at file) ≡ Long → refusedOf 2 at ≡ readingOf (readWard file)
+    pub long-form : decode (drop at file) ≡ Long → refusedOf (numbered question.shortest at) ≡ readingOf (readWard file)
     unfolding readingOf
     long-form d = sym (ap readingOf (so .same ∙ ap (prepend (take count numbers)) (read-long g f at (drop at file) e d)))
 
   module _ (e : wanted g ≡ Nothing) where
-    pub extra : at < length file → refusedOf 5 at ≡ readingOf (readWard file)
+    pub extra : at < length file → refusedOf (numbered question.end at) ≡ readingOf (readWard file)
     unfolding readingOf
     extra h = sym (ap readingOf (so .same ∙ ap (prepend (take count numbers)) (read-extra g at (drop at file) e (omega (arith, length-drop at file)))))
 

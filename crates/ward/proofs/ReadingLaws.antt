@@ -5,7 +5,7 @@ use mathlib.Core.List.{List}
 use native.Mathlib.Omega.{arith}
 use lib.ListN.{length, getD, take, length-append}
 use lib.Seq.{take-at}
-use Rattle.ward.specs.declared.Answer.the-variants.{Yes, No}
+use Rattle.refusals.specs.declared.Answer.the-variants.{Yes, No}
 use Rattle.ward.specs.declared.Reading.{Reading}
 use Rattle.layout.specs.Grammar.{Read, good, bad}
 use Rattle.ward.specs.Answers.{refusedOf, readingOf, readWard}
@@ -27,9 +27,9 @@ reading-accepted file r bytes e told = go (readWard file) refl
         let same : r ≡ readingOf (good ws) = e ∙ ap readingOf q in
         let is : take (r .ward .count) (r .ward .numbers) ≡ ws = ap (λ (y : Reading). take (y .ward .count) (y .ward .numbers)) same ∙ take-at ws _ (length ws) refl in
         subst Accepted (sym is) (read-accepted file ws bytes q)
-    go (bad k p) q =
-        let same : r ≡ readingOf (bad k p) = e ∙ ap readingOf q in
-        let refused : r .answer ≡ No k p = ap (λ (y : Reading). y .answer) same in
+    go (bad n) q =
+        let same : r ≡ readingOf (bad n) = e ∙ ap readingOf q in
+        let refused : r .answer ≡ No n = ap (λ (y : Reading). y .answer) same in
         let z : _≡_ {A = ℕ} 0 1 = cc in
         absurd (omega arith)
 
@@ -40,4 +40,4 @@ reading-fits file r e = subst (λ (y : Reading). y .ward .count ≤ length (y .w
   where
     go : (x : Read) → readingOf x .ward .count ≤ length (readingOf x .ward .numbers)
     go (good ws) = simp length-append (omega arith)
-    go (bad k p) = omega arith
+    go (bad n) = omega arith

@@ -6,16 +6,19 @@ use native.Mathlib.Numerals.{add-one}
 use native.Mathlib.Omega.{arith}
 use lib.ListN.{length, take, drop, getD, length-append, length-take, length-replicate, drop-of-length-le, List·getD-append}
 use lib.Seq.{drop-cons, take-suc, getD-take, take-all}
+use Rattle.refusals.specs.declared.Refusal.{Refusal}
+use Rattle.refusals.specs.Refusals.{numbered}
+use Rattle.refusals.specs.Questions as question
 use Rattle.layout.specs.declared.Field.{Field}
 use Rattle.ward.specs.declared.Ward.{Ward}
-use Rattle.ward.specs.declared.Checked.{Checked}
-use Rattle.ward.specs.declared.Answer.the-variants.{Yes, No}
+use Rattle.ward.specs.declared.Writing.{Writing}
+use Rattle.refusals.specs.declared.Answer.the-variants.{Yes}
 use Rattle.layout.specs.declared.Want.the-variants.{Next, Nothing}
 use Rattle.codec.specs.Groups.{encode}
 use Rattle.layout.specs.Grammar.{Grammar, asked, good, bad, prepend, check, bytesOf}
 use Rattle.layout.specs.CodeWant.{wanted, after, Within, Small}
 use Rattle.layout.specs.Layout.{ward}
-use Rattle.ward.specs.Answers.{counted, checkWard}
+use Rattle.ward.specs.Answers.{counted, checkWard, unwritten}
 use Rattle.ward.specs.CodeChecked.{checkedOf}
 use Rattle.layout.proofs.GrammarLaws.{in-range, small, within-some, within-step, prepend-nil, prepend-more, check-good, check-failed, check-missing, check-over, check-extra}
 use Rattle.layout.proofs.WithinLaws.{within-ward}
@@ -84,13 +87,13 @@ begin w l = record {
 }
 
 module _ (w : Ward) (i bytes : ℕ) (g : Grammar) (so : Walked w i bytes g) where
-  ended-with : (q p : ℕ) → check g i (drop i (counted w)) ≡ bad q p → _≡_ {A = Checked} (record { answer = No q p; bytes = 0 }) (checkedOf (checkWard (counted w)))
+  ended-with : (n : Refusal) → check g i (drop i (counted w)) ≡ bad n → unwritten n ≡ checkedOf (checkWard (counted w))
   unfolding checkedOf
-  ended-with q p e = sym (ap checkedOf (so .same ∙ ap (prepend (take i (counted w))) e))
+  ended-with n e = sym (ap checkedOf (so .same ∙ ap (prepend (take i (counted w))) e))
 
   module _ (f : Field) (e : wanted g ≡ Next f) where
-    pub missing : w .count ≤ i → _≡_ {A = Checked} (record { answer = No 1 i; bytes = 0 }) (checkedOf (checkWard (counted w)))
-    missing h = ended-with 1 i (ap (check g i) (counted-none w (so .long) i h) ∙ check-missing g f i e)
+    pub missing : w .count ≤ i → unwritten (numbered question.whole i) ≡ checkedOf (checkWard (counted w))
+    missing h = ended-with (numbered question.whole i) (ap (check g i) (counted-none w (so .long) i h) ∙ check-missing g f i e)
 
     pub room-here : i < 4094
     room-here = let s = within-some (4094 - i) g (so .room) e in omega arith
@@ -98,8 +101,8 @@ module _ (w : Ward) (i bytes : ℕ) (g : Grammar) (so : Walked w i bytes g) wher
     module _ (h : i < w .count) where
       pub failed :
           (asked f (getD (w .numbers) i 0) ≡ 0 → ⊥) →
-          _≡_ {A = Checked} (record { answer = No (asked f (getD (w .numbers) i 0)) i; bytes = 0 }) (checkedOf (checkWard (counted w)))
-      failed n = ended-with _ i (ap (check g i) (counted-next w (so .long) i h room-here) ∙ check-failed g f i e _ _ n)
+          unwritten (numbered (asked f (getD (w .numbers) i 0)) i) ≡ checkedOf (checkWard (counted w))
+      failed n = ended-with (numbered (asked f (getD (w .numbers) i 0)) i) (ap (check g i) (counted-next w (so .long) i h room-here) ∙ check-failed g f i e _ _ n)
 
       module _ (a : asked f (getD (w .numbers) i 0) ≡ 0) where
         pub below : getD (w .numbers) i 0 < 2 ^ 49
@@ -136,10 +139,10 @@ module _ (w : Ward) (i bytes : ℕ) (g : Grammar) (so : Walked w i bytes g) wher
             onward = prepend-more (take i (counted w)) (getD (w .numbers) i 0 ∷ []) (check (after g (getD (w .numbers) i 0)) (i + 1) (drop (i + 1) (counted w))) ∙ rw (← front)
 
   module _ (e : wanted g ≡ Nothing) where
-    pub extra : i < w .count → _≡_ {A = Checked} (record { answer = No 5 i; bytes = 0 }) (checkedOf (checkWard (counted w)))
-    extra h = ended-with 5 i (ap (check g i) (drop-cons (counted w) i 0 (subst (λ (n : ℕ). i < n) (sym (counted-length w (so .long))) h)) ∙ check-extra g i _ _ e)
+    pub extra : i < w .count → unwritten (numbered question.end i) ≡ checkedOf (checkWard (counted w))
+    extra h = ended-with (numbered question.end i) (ap (check g i) (drop-cons (counted w) i 0 (subst (λ (n : ℕ). i < n) (sym (counted-length w (so .long))) h)) ∙ check-extra g i _ _ e)
 
-    pub whole : w .count ≤ i → _≡_ {A = Checked} (record { answer = Yes; bytes = bytes }) (checkedOf (checkWard (counted w)))
+    pub whole : w .count ≤ i → _≡_ {A = Writing} (record { answer = Yes; bytes = bytes }) (checkedOf (checkWard (counted w)))
     unfolding checkedOf
     whole h =
         sym (ap checkedOf (so .same ∙ ap (prepend (take i (counted w))) (ap (check g i) (counted-none w (so .long) i h) ∙ check-over g i e) ∙ ap good (append-nil (take i (counted w))))

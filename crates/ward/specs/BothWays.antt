@@ -3,7 +3,7 @@ use Prim.Native.Nat.{ℕ, _≤_, _<_}
 use mathlib.Core.Path.{_≡_}
 use mathlib.Core.List.{List, _++_}
 use lib.ListN.{length, getD, take, drop}
-use Rattle.ward.specs.declared.Answer.the-variants.{Yes}
+use Rattle.refusals.specs.declared.Answer.the-variants.{Yes}
 use Rattle.ward.specs.declared.Ward.{Ward}
 use Rattle.layout.specs.Grammar.{good}
 use Rattle.ward.specs.Answers.{readWard, readingOf, counted, checkWard, writingOf, leftOf}

@@ -2,15 +2,14 @@
 
 use codec::Number;
 use layout::Want;
+use refusals::Answer;
+use refusals::Refusal;
+use refusals::question;
 ghost use mathlib.Core.Path.{_≡_};
 ghost use lib.ListN.{length};
-ghost use Rattle.ward.specs.Answers.{refusedOf, readingOf, readWard, counted, checkWard, writingOf, leftOf};
+ghost use Rattle.refusals.specs.Refusals.{numbered};
+ghost use Rattle.ward.specs.Answers.{refusedOf, readingOf, readWard, counted, checkWard, unwritten, writingOf, leftOf};
 ghost use Rattle.ward.specs.CodeChecked.{checkedOf};
-
-pub enum Answer {
-    Yes,
-    No { question: u32, place: usize },
-}
 
 pub struct Ward {
     pub numbers: [u64; 4094],
@@ -23,10 +22,10 @@ pub struct Reading {
 }
 
 fn refused(question: u32, place: usize) -> Reading
-    ensures { λ r. ⌜ r ≡ refusedOf question place ⌝ }
+    ensures { λ r. ⌜ r ≡ refusedOf (numbered question place) ⌝ }
 {
     Reading {
-        answer: Answer::No { question, place },
+        answer: Answer::No(Refusal { question, place }),
         ward: Ward {
             numbers: [0; 4094],
             count: 0,
@@ -46,7 +45,7 @@ pub fn read(file: &[u8]) -> Reading
         match layout::wanted_at(c) {
             Want::Nothing => {
                 if at < file.len() {
-                    return refused(5, at);
+                    return refused(question::END, at);
                 }
                 return Reading {
                     answer: Answer::Yes,
@@ -54,12 +53,12 @@ pub fn read(file: &[u8]) -> Reading
                 };
             }
             Want::Next(f) => match codec::number_at(file, at) {
-                Number::Ended => return refused(1, at),
-                Number::Long => return refused(2, at),
+                Number::Ended => return refused(question::WHOLE, at),
+                Number::Long => return refused(question::SHORTEST, at),
                 Number::Value { value, used } => {
-                    let question = layout::ask(f, value);
-                    if question != 0 {
-                        return refused(question, at);
+                    let failed = layout::ask(f, value);
+                    if failed != 0 {
+                        return refused(failed, at);
                     }
                     numbers[count] = value;
                     count += 1;
@@ -71,29 +70,23 @@ pub fn read(file: &[u8]) -> Reading
     }
 }
 
-// What the questions of a ward's numbers come to, and how many bytes they take.
-pub struct Checked {
-    pub answer: Answer,
-    pub bytes: usize,
-}
-
-// What the writer answers: how many bytes it wrote.
+// What the writer answers, and how many bytes the numbers take.
 pub struct Writing {
     pub answer: Answer,
     pub bytes: usize,
 }
 
-fn no(question: u32, place: usize) -> Checked
-    ensures { λ r. ⌜ r ≡ record { answer = Answer.No question place; bytes = 0 } ⌝ }
+fn no(question: u32, place: usize) -> Writing
+    ensures { λ r. ⌜ r ≡ unwritten (numbered question place) ⌝ }
 {
-    Checked {
-        answer: Answer::No { question, place },
+    Writing {
+        answer: Answer::No(Refusal { question, place }),
         bytes: 0,
     }
 }
 
 // The questions 1, 3, 4 and 5 of a ward's counted numbers.
-fn questions(ward: Ward) -> Checked
+fn questions(ward: Ward) -> Writing
     ensures { λ r. ⌜ r ≡ checkedOf (checkWard (counted ward)) ⌝ }
 {
     let count = ward.count;
@@ -104,21 +97,21 @@ fn questions(ward: Ward) -> Checked
         match layout::wanted_at(c) {
             Want::Nothing => {
                 if i < count {
-                    return no(5, i);
+                    return no(question::END, i);
                 }
-                return Checked {
+                return Writing {
                     answer: Answer::Yes,
                     bytes,
                 };
             }
             Want::Next(f) => {
                 if i >= count {
-                    return no(1, i);
+                    return no(question::WHOLE, i);
                 }
                 let v = ward.numbers[i];
-                let question = layout::ask(f, v);
-                if question != 0 {
-                    return no(question, i);
+                let failed = layout::ask(f, v);
+                if failed != 0 {
+                    return no(failed, i);
                 }
                 bytes += codec::size(v);
                 i += 1;
@@ -137,19 +130,10 @@ pub fn write(ward: Ward, buf: &mut [u8]) -> Writing
     let bytes = checked.bytes;
     let answer = checked.answer;
     match answer {
-        Answer::No { question, place } => Writing {
-            answer: Answer::No { question, place },
-            bytes: 0,
-        },
+        Answer::No(_) => checked,
         Answer::Yes => {
             if buf.len() < bytes {
-                return Writing {
-                    answer: Answer::No {
-                        question: 6,
-                        place: 0,
-                    },
-                    bytes: 0,
-                };
+                return no(question::BYTES, 0);
             }
             let count = ward.count;
             let mut i: usize = 0;

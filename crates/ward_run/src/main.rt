@@ -1,5 +1,5 @@
 // Reads a ward file from standard input, and damaged copies of it, and prints what the reader and the writer say.
-use ward::Answer;
+use refusals::Answer;
 
 // How often each question refused, yes as 0, and the sum of the places.
 pub struct Tally {
@@ -26,7 +26,7 @@ fn wide_byte(x: u8) -> u64 {
 fn told(t: Tally, answer: Answer) -> Tally {
     match answer {
         Answer::Yes => more(t, 0, 0),
-        Answer::No { question, place } => more(t, question, wide(place)),
+        Answer::No(n) => more(t, n.question, wide(n.place)),
     }
 }
 

@@ -1,21 +1,27 @@
 -- `dayadvance::advance_on` meets its contract: questions 7 and 8 before the lists are counted.
 use mathlib.Core.Path.{sym, ap, _∙_}
+use Rattle.refusals.specs.Refusals.{refusalIn}
 use Rattle.fields.specs.Fields.{nurses}
 use Rattle.daylists.specs.Lists.{upTo}
 use Rattle.phases.specs.Phases.{dayListOver, dayPhase, nightOf}
-use Rattle.phases.specs.Outcomes.{dayAdvanceOf}
-use Rattle.phases.specs.CodeQuestions.{noOf}
 use Rattle.phases.proofs.OutcomeLaws.{told-refused}
 use Rattle.dayadvance.proofs.DayLaws.{two-before}
 use borrow.Author.Needs.{needs}
 use Rattle.dayadvance.proofs.advance_on.Statement.{statement}
 use Rattle.dayadvance.proofs.advance_on.Tie as tie
 
+-- the places, each from the next
+abbrev at-start : tie.After-first-no → tie.Start
+at-start c = c .before .before .before
+
+abbrev at-questions : tie.After-enum-told → tie.After-first-no
+at-questions c = c .before .before
+
 first-no-requires : tie.Need-first-no-requires
 first-no-requires c κs = search needs
 
-enum-known-question : tie.Need-enum-known-question
-enum-known-question c = search needs
+enum-known-n : tie.Need-enum-known-n
+enum-known-n c = search needs
 
 refuse-requires : tie.Need-refuse-requires
 refuse-requires c κs = search needs
@@ -27,12 +33,21 @@ lists-count-requires : tie.Need-lists-count-requires
 lists-count-requires c κs = search needs
 
 with-lists-requires : tie.Need-with-lists-requires
-with-lists-requires c κs = (c .before .before .before .before .before .before .before .pre, sym (c .before .before .before .before .first-no .ensures) ∙ ap noOf (c .before .before .enum-told .given .1), c .before .lists-count .ensures)
+with-lists-requires c κs =
+    let counted = c .before in
+    let told = counted .before in
+    let asked = at-questions told in
+    (at-start asked .pre, sym (asked .first-no .ensures) ∙ ap refusalIn (told .enum-told .given .1), counted .lists-count .ensures)
 
 returns : tie.Need-returns
-returns c = let w = c .before .before .before .before .before .before .before .args .w .now in
-    let nights = nightOf (c .before .before .before .before .before .before .before .args .nights .now) in
-    told-refused (dayPhase w nights) (c .before .before .before .before .before .before .before .args .rec) (c .before .before .before .before .before .before .before .args .k) (upTo (dayListOver w nights) (nurses w)) (c .before .before .before .before .before .before .before .args .buffer .now) dayAdvanceOf _ (two-before w nights (c .before .before .before .before .before .before .before .args .k) _ (c .before .before .before .before .before .before .before .args .rec) (c .before .before .before .before .first-no .ensures) (ap noOf (c .before .before .question .given .1))) (c .refuse .ensures)
+returns c =
+    let refusing = c .before .before in
+    let asked = refusing .before .before in
+    let s = at-start asked .args in
+    let w = s .w .now in
+    let nights = nightOf (s .nights .now) in
+    told-refused (dayPhase w nights) (s .rec) (s .k) (upTo (dayListOver w nights) (nurses w)) (s .buffer .now) _
+    (two-before w nights (s .k) _ (s .rec) (asked .first-no .ensures) (ap refusalIn (refusing .n .given .1))) (c .refuse .ensures)
 
 same-length : tie.Need-same-length
 same-length c = search needs
@@ -45,7 +60,7 @@ advance-on-spec =
     tie.close
     (tie.spec
     first-no-requires
-    enum-known-question
+    enum-known-n
     refuse-requires
     enum-told
     lists-count-requires

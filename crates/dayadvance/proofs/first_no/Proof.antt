@@ -1,25 +1,44 @@
 -- `dayadvance::first_no` meets its contract: question 7, then 8.
-use borrow.Author.Tests.{not-true, not-false}
-use Rattle.dayadvance.proofs.DayLaws.{before-seven, before-eight, before-none}
+use mathlib.Core.Path.{_∙_}
+use Rattle.refusals.proofs.OrderLaws.{first-no, first-yes}
+use Rattle.phases.specs.CodeQuestions.{beforeLists}
 use borrow.Author.Needs.{needs}
 use Rattle.dayadvance.proofs.first_no.Statement.{statement}
 use Rattle.dayadvance.proofs.first_no.Tie as tie
 
-steps-allowed-requires : tie.Need-steps-allowed-requires
-steps-allowed-requires c κs = search needs
+steps-asked-requires : tie.Need-steps-asked-requires
+steps-asked-requires c κs = search needs
+
+enum-known-n : tie.Need-enum-known-n
+enum-known-n c = search needs
+
+enum-told : tie.Need-enum-told
+enum-told c = search needs
+
+nights-asked-requires : tie.Need-nights-asked-requires
+nights-asked-requires c κs = search needs
 
 returns : tie.Need-returns
-returns c = before-seven (c .before .before .before .args .w .now) _ (c .before .before .before .args .k) (c .before .before .before .args .rec) (c .before .steps-allowed .ensures) (not-true _ (c .if1 .taken))
-
-nights-open-requires : tie.Need-nights-open-requires
-nights-open-requires c κs = search needs
+unfolding beforeLists
+returns c =
+    let refusing = c .before in
+    let asked = refusing .before .before in
+    first-no _ (asked .steps-asked .ensures) (refusing .n .given .1)
 
 returns-2 : tie.Need-returns-2
-returns-2 c = before-eight (c .before .before .before .before .before .args .w .now) _ (c .before .before .before .before .before .args .k) (c .before .before .before .before .before .args .rec) (c .before .before .before .steps-allowed .ensures) (not-false _ (c .before .before .if1 .left)) (c .before .nights-open .ensures) (not-true _ (c .if2 .taken))
-
-returns-3 : tie.Need-returns-3
-returns-3 c = before-none (c .before .before .before .before .before .args .w .now) _ (c .before .before .before .before .before .args .k) (c .before .before .before .before .before .args .rec) (c .before .before .before .steps-allowed .ensures) (not-false _ (c .before .before .if1 .left)) (c .before .nights-open .ensures) (not-false _ (c .if2 .left))
+unfolding beforeLists
+returns-2 c =
+    let told = c .before in
+    let asked = told .before .before in
+    c .nights-asked .ensures ∙ first-yes _ (asked .steps-asked .ensures) (told .enum-told .given .1)
 
 pub first-no-spec : {M : Type 1} → statement M
 first-no-spec =
-    tie.close (tie.spec steps-allowed-requires returns nights-open-requires returns-2 returns-3)
+    tie.close
+    (tie.spec
+    steps-asked-requires
+    enum-known-n
+    enum-told
+    nights-asked-requires
+    returns
+    returns-2)

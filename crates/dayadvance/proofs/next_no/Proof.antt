@@ -1,47 +1,86 @@
 -- `dayadvance::next_no` meets its contract: questions 9, 10 and 11.
-use borrow.Author.Tests.{not-true, not-false}
-use Rattle.dayadvance.proofs.DayLaws.{after-nine, ends-of, after-ten, after-eleven, after-none, day-sound}
+use Prim.Native.Nat.{ℕ}
+use mathlib.Core.Path.{refl, ap, _∙_}
+use Rattle.refusals.specs.Refusals.{refusalIn}
+use Rattle.refusals.proofs.OrderLaws.{first-no, first-yes}
+use Rattle.phases.specs.Phases.{nightOf}
+use Rattle.dayadvance.proofs.DayLaws.{after-nine, ends-of, after-ten}
 use borrow.Author.Needs.{needs}
 use Rattle.dayadvance.proofs.next_no.Statement.{statement}
 use Rattle.dayadvance.proofs.next_no.Tie as tie
 
+-- the places, each from the next
+abbrev at-start : tie.After-nurses → tie.Start
+at-start c = c .before .before
+
+abbrev at-fit : tie.After-days-lacking → tie.Else1
+at-fit c = c .before .before
+
+abbrev at-lacking : tie.After-enum-told → tie.After-days-lacking
+at-lacking c = c .before .before
+
 nurses-requires : tie.Need-nurses-requires
 nurses-requires c κs = search needs
 
-add-t10 : tie.Need-add-t10
-add-t10 c = search needs
+add-no : tie.Need-add-no
+add-no c = search needs
+
+no-requires : tie.Need-no-requires
+no-requires c κs = search needs
 
 returns : tie.Need-returns
-returns c = λ places n. after-nine (c .before .before .before .args .w .now) _ (c .before .before .before .args .rec) (c .before .nurses .ensures .0) n (c .if1 .taken)
+returns c =
+    let at-if = c .before in
+    let nurses = at-if .before in
+    let s = at-start nurses .args in
+    λ places n. ap refusalIn (c .no .ensures) ∙ after-nine (s .w .now) _ (s .rec) (nurses .nurses .ensures .0) n (at-if .if1 .taken)
 
-first-without-requires : tie.Need-first-without-requires
-first-without-requires c κs = search needs
+days-lacking-requires : tie.Need-days-lacking-requires
+days-lacking-requires c κs = search needs
 
-add-t11 : tie.Need-add-t11
-add-t11 c = search needs
+enum-known-n : tie.Need-enum-known-n
+enum-known-n c = search needs
+
+enum-told : tie.Need-enum-told
+enum-told c = search needs
+
+record-asked-requires : tie.Need-record-asked-requires
+record-asked-requires c κs = search needs
 
 returns-2 : tie.Need-returns-2
-returns-2 c = λ places n. after-ten (c .before .before .before .before .before .before .args .w .now) _ (c .before .before .before .before .before .before .args .rec) (c .before .before .before .before .nurses .ensures .0) n (c .before .before .before .if1 .left) (c .before .first-without .ensures .0 _ (ends-of (c .before .before .before .before .before .before .args .w .now) _ (c .before .before .before .before .before .before .args .rec) (c .before .before .before .before .nurses .ensures .0) n (c .before .before .before .if1 .left))) (c .if2 .taken)
-
-record-sound-requires : tie.Need-record-sound-requires
-record-sound-requires c κs = search needs
+returns-2 c =
+    let refusing = c .before in
+    let asked = refusing .before .before in
+    let fit = at-fit asked in
+    let nurses = fit .before in
+    let s = at-start nurses .args in
+    λ places n.
+    first-no _ (asked .days-lacking .ensures _ (ends-of (s .w .now) _ (s .rec) (nurses .nurses .ensures .0) n (fit .if1 .left))) (refusing .n .given .1)
+    ∙ after-ten (s .w .now) (nightOf (s .nights .now)) (s .rec) (nurses .nurses .ensures .0) n (s .nights .now) refl (fit .if1 .left)
 
 returns-3 : tie.Need-returns-3
-returns-3 c = λ places n. after-eleven (c .before .before .before .before .before .before .before .before .args .w .now) _ (c .before .before .before .before .before .before .before .before .args .rec) (c .before .before .before .before .before .before .nurses .ensures .0) n (c .before .before .before .before .before .if1 .left) (c .before .before .before .first-without .ensures .0 _ (ends-of (c .before .before .before .before .before .before .before .before .args .w .now) _ (c .before .before .before .before .before .before .before .before .args .rec) (c .before .before .before .before .before .before .nurses .ensures .0) n (c .before .before .before .before .before .if1 .left))) (c .before .before .if2 .left) (day-sound (c .before .before .before .before .before .before .before .before .args .w .now) (c .before .before .before .before .before .before .before .before .args .nights .now) (c .before .before .before .before .before .before .before .before .args .rec) (c .before .record-sound .ensures)) (not-true _ (c .if3 .taken))
-
-returns-4 : tie.Need-returns-4
-returns-4 c = λ places n. after-none (c .before .before .before .before .before .before .before .before .args .w .now) _ (c .before .before .before .before .before .before .before .before .args .rec) (c .before .before .before .before .before .before .nurses .ensures .0) n (c .before .before .before .before .before .if1 .left) (c .before .before .before .first-without .ensures .0 _ (ends-of (c .before .before .before .before .before .before .before .before .args .w .now) _ (c .before .before .before .before .before .before .before .before .args .rec) (c .before .before .before .before .before .before .nurses .ensures .0) n (c .before .before .before .before .before .if1 .left))) (c .before .before .if2 .left) (day-sound (c .before .before .before .before .before .before .before .before .args .w .now) (c .before .before .before .before .before .before .before .before .args .nights .now) (c .before .before .before .before .before .before .before .before .args .rec) (c .before .record-sound .ensures)) (not-false _ (c .if3 .left))
+returns-3 c =
+    let told = c .before in
+    let asked = at-lacking told in
+    let fit = at-fit asked in
+    let nurses = fit .before in
+    let s = at-start nurses .args in
+    λ places n.
+    c .record-asked .ensures
+    ∙ first-yes _ (asked .days-lacking .ensures _ (ends-of (s .w .now) _ (s .rec) (nurses .nurses .ensures .0) n (fit .if1 .left))) (told .enum-told .given .1)
+    ∙ after-ten (s .w .now) (nightOf (s .nights .now)) (s .rec) (nurses .nurses .ensures .0) n (s .nights .now) refl (fit .if1 .left)
 
 pub next-no-spec : {M : Type 1} → statement M
 next-no-spec =
     tie.close
     (tie.spec
     nurses-requires
-    add-t10
+    add-no
+    no-requires
     returns
-    first-without-requires
-    add-t11
+    days-lacking-requires
+    enum-known-n
+    enum-told
+    record-asked-requires
     returns-2
-    record-sound-requires
-    returns-3
-    returns-4)
+    returns-3)

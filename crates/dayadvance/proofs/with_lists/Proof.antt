@@ -1,23 +1,58 @@
 -- `dayadvance::with_lists` meets its contract: the rest of the questions, then the lists, then the search over them.
-use mathlib.Core.Path.{sym, ap, _∙_}
-use mathlib.Core.List.{[]}
+use Prim.Native.Nat.{ℕ}
+use mathlib.Core.Path.{_≡_, sym, ap, _∙_}
+use mathlib.Core.List.{List, []}
+use lib.ListN.{length}
 use lib.Seq.{length-take-le}
+use Rattle.refusals.specs.Refusals.{refusalIn}
 use Rattle.fields.specs.Fields.{nurses}
-use Rattle.daylists.specs.Lists.{upTo, dayLists}
+use Rattle.daylists.specs.Lists.{upTo}
 use Rattle.phases.specs.Phases.{dayListOver, dayPhase, nightOf}
-use Rattle.phases.specs.Outcomes.{dayAdvanceOf}
-use Rattle.phases.specs.CodeQuestions.{noOf}
-use Rattle.dayadvance.proofs.DayLaws.{day-lists, day-seeks, two-after, opened, lists-front, stored-zero}
 use Rattle.phases.proofs.OutcomeLaws.{front-fits, told-refused, told-advanced}
+use Rattle.dayadvance.proofs.DayLaws.{Open, day-lists, day-seeks, two-after, opened, lists-front, stored-zero}
 use borrow.Author.Needs.{needs}
 use Rattle.dayadvance.proofs.with_lists.Statement.{statement}
 use Rattle.dayadvance.proofs.with_lists.Tie as tie
 
+-- the places, each from the next
+abbrev at-start : tie.After-next-no → tie.Start
+at-start c = c .before .before .before
+
+abbrev at-questions : tie.After-enum-told → tie.After-next-no
+at-questions c = c .before .before
+
+abbrev from-open : tie.After-enum-told → tie.Start
+from-open c = at-start (at-questions c)
+
+abbrev at-open : tie.After-lists-fill → tie.After-enum-told
+at-open c = c .before .before
+
+abbrev at-fill : tie.After-advance-arg → tie.After-lists-fill
+at-fill c = c .before .before .before .before
+
+abbrev filled-by : tie.After-advance → tie.After-lists-fill
+filled-by c = at-fill (c .before)
+
+-- all lists, one after the other, over the nights handed in
+abbrev all-lists : tie.Start → List ℕ
+all-lists c = let w = c .args .w .now in upTo (dayListOver w (nightOf (c .args .nights .now))) (nurses w)
+
+-- no question refuses
+open-at : (c : tie.After-enum-told)
+    → let s = from-open c .args in
+    Open (s .w .now) (nightOf (s .nights .now)) (s .rec) (s .k) (length (s .buffer .now)) (s .counted .over)
+open-at c =
+    let asked = at-questions c in
+    let start = at-start asked in
+    let s = start .args in
+    opened (s .w .now) (nightOf (s .nights .now)) (s .rec) (s .k) (start .pre .1) (start .pre .2)
+    (sym (ap refusalIn (c .enum-told .given .1)) ∙ asked .next-no .ensures _ (start .pre .2))
+
 next-no-requires : tie.Need-next-no-requires
 next-no-requires c κs = search needs
 
-enum-known-question : tie.Need-enum-known-question
-enum-known-question c = search needs
+enum-known-n : tie.Need-enum-known-n
+enum-known-n c = search needs
 
 refuse-requires : tie.Need-refuse-requires
 refuse-requires c κs = search needs
@@ -26,55 +61,92 @@ enum-told : tie.Need-enum-told
 enum-told c = search needs
 
 lists-fill-requires : tie.Need-lists-fill-requires
-lists-fill-requires c κs = (c .before .before .before .before .before .before .pre .0, opened (c .before .before .before .before .before .before .args .w .now) (nightOf (c .before .before .before .before .before .before .args .nights .now)) (c .before .before .before .before .before .before .args .rec) (c .before .before .before .before .before .before .args .k) (c .before .before .before .before .before .before .pre .1) (c .before .before .before .before .before .before .pre .2) (sym (ap noOf (c .before .enum-told .given .1)) ∙ c .before .before .before .next-no .ensures _ (c .before .before .before .before .before .before .pre .2)) .room)
+lists-fill-requires c κs = let told = c .before in (from-open told .pre .0, open-at told .room)
 
 slice-reshare-prefix-advance : tie.Need-slice-reshare-prefix-advance
-slice-reshare-prefix-advance c = front-fits (upTo (dayLists (c .before .before .before .before .before .before .before .before .before .before .args .w .now) (c .before .before .before .before .before .before .before .before .before .before .args .nights .now)) (nurses (c .before .before .before .before .before .before .before .before .before .before .args .w .now))) _ (c .before .before .before .lists-fill .ensures .0) (c .before .before .before .lists-fill .ensures .1)
+slice-reshare-prefix-advance c =
+    let filled = c .before .before .before in
+    front-fits (all-lists (from-open (at-open filled))) _ (filled .lists-fill .ensures .0) (filled .lists-fill .ensures .1)
 
 slice-aggregate-advance : tie.Need-slice-aggregate-advance
-slice-aggregate-advance c = sym (length-take-le _ _ (front-fits (upTo (dayLists (c .before .before .before .before .before .before .before .before .before .before .before .args .w .now) (c .before .before .before .before .before .before .before .before .before .before .before .args .nights .now)) (nurses (c .before .before .before .before .before .before .before .before .before .before .before .args .w .now))) _ (c .before .before .before .before .lists-fill .ensures .0) (c .before .before .before .before .lists-fill .ensures .1)))
+slice-aggregate-advance c =
+    let filled = at-fill c in
+    sym (length-take-le _ _ (front-fits (all-lists (from-open (at-open filled))) _ (filled .lists-fill .ensures .0) (filled .lists-fill .ensures .1)))
 
 advance-requires : tie.Need-advance-requires
-advance-requires c κs = let w = c .before .before .before .before .before .before .before .before .before .before .before .args .w .now in
-    let nights = nightOf (c .before .before .before .before .before .before .before .before .before .before .before .args .nights .now) in
-    let ok = opened (c .before .before .before .before .before .before .before .before .before .before .before .args .w .now) (nightOf (c .before .before .before .before .before .before .before .before .before .before .before .args .nights .now)) (c .before .before .before .before .before .before .before .before .before .before .before .args .rec) (c .before .before .before .before .before .before .before .before .before .before .before .args .k) (c .before .before .before .before .before .before .before .before .before .before .before .pre .1) (c .before .before .before .before .before .before .before .before .before .before .before .pre .2) (sym (ap noOf (c .before .before .before .before .before .before .enum-told .given .1)) ∙ c .before .before .before .before .before .before .before .before .next-no .ensures _ (c .before .before .before .before .before .before .before .before .before .before .before .pre .2)) in
-    let front = lists-front (upTo (dayListOver w nights) (nurses w)) _ (c .before .before .before .before .lists-fill .ensures .0) (c .before .before .before .before .lists-fill .ensures .1) in
-    ((c .before .before .before .before .before .before .before .before .before .before .before .pre .0, day-lists w nights [] (c .before .before .before .before .before .before .before .before .before .before .before .pre .2) (ok .full) front, ok .steps-fit), (dayPhase w nights, day-seeks w nights [] (c .before .before .before .before .before .before .before .before .before .before .before .pre .2) (ok .full) front, ok .sound))
+advance-requires c κs =
+    let filled = at-fill c in
+    let told = at-open filled in
+    let start = from-open told in
+    let w = start .args .w .now in
+    let nights = nightOf (start .args .nights .now) in
+    let ok = open-at told in
+    let front = lists-front (all-lists start) _ (filled .lists-fill .ensures .0) (filled .lists-fill .ensures .1) in (
+      (start .pre .0, day-lists w nights [] (start .pre .2) (ok .full) front, ok .steps-fit),
+      (dayPhase w nights, day-seeks w nights [] (start .pre .2) (ok .full) front, ok .sound),
+    )
+
+roster-given-requires : tie.Need-roster-given-requires
+roster-given-requires c κs =
+    let filled = filled-by c in
+    let told = at-open filled in
+    let start = from-open told in
+    let s = start .args in
+    let w = s .w .now in
+    let nights = nightOf (s .nights .now) in
+    let ok = open-at told in
+    let front = lists-front (all-lists start) _ (filled .lists-fill .ensures .0) (filled .lists-fill .ensures .1) in (
+      start .pre .0,
+      stored-zero w (dayPhase w nights) (s .k) (s .rec) (start .pre .0)
+          (c .advance .ensures (dayPhase w nights) (day-seeks w nights [] (start .pre .2) (ok .full) front) (ok .sound)),
+    )
 
 finished-requires : tie.Need-finished-requires
-finished-requires c κs = let w = c .before .before .before .before .before .before .before .before .before .before .before .before .args .w .now in
-    let nights = nightOf (c .before .before .before .before .before .before .before .before .before .before .before .before .args .nights .now) in
-    let ok = opened (c .before .before .before .before .before .before .before .before .before .before .before .before .args .w .now) (nightOf (c .before .before .before .before .before .before .before .before .before .before .before .before .args .nights .now)) (c .before .before .before .before .before .before .before .before .before .before .before .before .args .rec) (c .before .before .before .before .before .before .before .before .before .before .before .before .args .k) (c .before .before .before .before .before .before .before .before .before .before .before .before .pre .1) (c .before .before .before .before .before .before .before .before .before .before .before .before .pre .2) (sym (ap noOf (c .before .before .before .before .before .before .before .enum-told .given .1)) ∙ c .before .before .before .before .before .before .before .before .before .next-no .ensures _ (c .before .before .before .before .before .before .before .before .before .before .before .before .pre .2)) in
-    let front = lists-front (upTo (dayListOver w nights) (nurses w)) _ (c .before .before .before .before .before .lists-fill .ensures .0) (c .before .before .before .before .before .lists-fill .ensures .1) in
-    (c .before .before .before .before .before .before .before .before .before .before .before .before .pre .0, stored-zero w (dayPhase w nights) (c .before .before .before .before .before .before .before .before .before .before .before .before .args .k) (c .before .before .before .before .before .before .before .before .before .before .before .before .args .rec) (c .before .before .before .before .before .before .before .before .before .before .before .before .pre .0) (c .advance .ensures (dayPhase w nights) (day-seeks w nights [] (c .before .before .before .before .before .before .before .before .before .before .before .before .pre .2) (ok .full) front) (ok .sound)))
+finished-requires c κs = search needs
 
 returns : tie.Need-returns
-returns c = let w = c .before .before .before .before .before .before .before .args .w .now in
-    let nights = nightOf (c .before .before .before .before .before .before .before .args .nights .now) in
-    told-refused (dayPhase w nights) (c .before .before .before .before .before .before .before .args .rec) (c .before .before .before .before .before .before .before .args .k) (upTo (dayListOver w nights) (nurses w)) (c .before .before .before .before .before .before .before .args .buffer .now) dayAdvanceOf _ (two-after w nights (c .before .before .before .before .before .before .before .args .k) _ (c .before .before .before .before .before .before .before .args .rec) (c .before .before .before .before .before .before .before .pre .1) (c .before .before .before .before .next-no .ensures _ (c .before .before .before .before .before .before .before .pre .2)) ∙ ap noOf (c .before .before .question .given .1)) (c .refuse .ensures)
+returns c =
+    let refusing = c .before .before in
+    let asked = refusing .before .before in
+    let start = at-start asked in
+    let s = start .args in
+    let w = s .w .now in
+    let nights = nightOf (s .nights .now) in
+    told-refused (dayPhase w nights) (s .rec) (s .k) (all-lists start) (s .buffer .now) _
+    (two-after w nights (s .k) _ (s .rec) (start .pre .1) (asked .next-no .ensures _ (start .pre .2)) ∙ ap refusalIn (refusing .n .given .1)) (c .refuse .ensures)
 
 same-length : tie.Need-same-length
 same-length c = search needs
 
 returns-2 : tie.Need-returns-2
-returns-2 c = let w = c .before .before .before .before .before .before .before .before .before .before .before .before .before .args .w .now in
-    let nights = nightOf (c .before .before .before .before .before .before .before .before .before .before .before .before .before .args .nights .now) in
-    let ok = opened (c .before .before .before .before .before .before .before .before .before .before .before .before .before .args .w .now) (nightOf (c .before .before .before .before .before .before .before .before .before .before .before .before .before .args .nights .now)) (c .before .before .before .before .before .before .before .before .before .before .before .before .before .args .rec) (c .before .before .before .before .before .before .before .before .before .before .before .before .before .args .k) (c .before .before .before .before .before .before .before .before .before .before .before .before .before .pre .1) (c .before .before .before .before .before .before .before .before .before .before .before .before .before .pre .2) (sym (ap noOf (c .before .before .before .before .before .before .before .before .enum-told .given .1)) ∙ c .before .before .before .before .before .before .before .before .before .before .next-no .ensures _ (c .before .before .before .before .before .before .before .before .before .before .before .before .before .pre .2)) in
-    let front = lists-front (upTo (dayListOver w nights) (nurses w)) _ (c .before .before .before .before .before .before .lists-fill .ensures .0) (c .before .before .before .before .before .before .lists-fill .ensures .1) in
-    told-advanced (dayPhase w nights) (c .before .before .before .before .before .before .before .before .before .before .before .before .before .args .rec) (c .before .before .before .before .before .before .before .before .before .before .before .before .before .args .k) (upTo (dayListOver w nights) (nurses w)) (c .before .before .before .before .before .before .before .before .before .before .before .before .before .args .buffer .now) dayAdvanceOf (c .before .advance .result) (ok .unrefused) (c .before .advance .ensures (dayPhase w nights) (day-seeks w nights [] (c .before .before .before .before .before .before .before .before .before .before .before .before .before .pre .2) (ok .full) front) (ok .sound)) (c .finished .ensures) (c .before .before .before .before .before .before .lists-fill .ensures .1)
+returns-2 c =
+    let given = c .before in
+    let advanced = given .before in
+    let filled = filled-by advanced in
+    let told = at-open filled in
+    let start = from-open told in
+    let s = start .args in
+    let w = s .w .now in
+    let nights = nightOf (s .nights .now) in
+    let ok = open-at told in
+    let front = lists-front (all-lists start) _ (filled .lists-fill .ensures .0) (filled .lists-fill .ensures .1) in
+    told-advanced (dayPhase w nights) (s .rec) (s .k) (all-lists start) (s .buffer .now) (advanced .advance .result) (ok .unrefused)
+    (advanced .advance .ensures (dayPhase w nights) (day-seeks w nights [] (start .pre .2) (ok .full) front) (ok .sound))
+    (c .finished .ensures (dayPhase w nights) (given .roster-given .ensures)) (filled .lists-fill .ensures .1)
 
 pub with-lists-spec : {M : Type 1} → statement M
 with-lists-spec =
     tie.close
     (tie.spec
     next-no-requires
-    enum-known-question
+    enum-known-n
     refuse-requires
     enum-told
     lists-fill-requires
     slice-reshare-prefix-advance
     slice-aggregate-advance
     advance-requires
+    roster-given-requires
     finished-requires
     returns
     same-length

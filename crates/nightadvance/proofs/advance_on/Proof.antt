@@ -1,28 +1,53 @@
 -- `nightadvance::advance_on` meets its contract: every question is answered before the list is written.
-use lib.Seq.{length-take-le}
-use Rattle.nightadvance.proofs.NightLaws.{list-room, filled-fits, clear, filled-front, refusal-told, advance-told, night-lists, night-seeks}
+use mathlib.Core.Path.{_≡_, sym, ap, _∙_}
+use mathlib.Core.Option.{none}
 use native.Mathlib.Omega.{arith}
-use mathlib.Core.Path.{sym, _∙_, ap}
-use Rattle.fields.proofs.RuleLaws.{rules-small}
+use lib.ListN.{length, take}
+use lib.Seq.{length-take-le}
+use Rattle.refusals.specs.Refusals.{refusalIn}
+use Rattle.nights.specs.Nights.{commonOf}
+use Rattle.search.specs.Stored.{refusalStored}
 use Rattle.phases.specs.Phases.{nightPhase}
-use Rattle.phases.specs.CodeQuestions.{noOf}
+use Rattle.phases.specs.Outcomes.{rosterOf, callOf}
+use Rattle.phases.proofs.OutcomeLaws.{list-front, front-fits, told-refused, told-advanced}
+use Rattle.nightadvance.proofs.NightLaws.{Clear, clear, night-letters, night-lists, night-seeks}
 use borrow.Author.Needs.{needs}
 use Rattle.nightadvance.proofs.advance_on.Statement.{statement}
 use Rattle.nightadvance.proofs.advance_on.Tie as tie
-use Rattle.nightadvance.proofs.advance_on.Reads as reads
-use Rattle.nightadvance.proofs.advance_on.Lts as lts
-use Rattle.nightlists.proofs.common_fill.Reads as common-fill-reads
-use Rattle.fields.proofs.rules.rules_of.Reads as rules-of-reads
-use Rattle.nightadvance.proofs.finished.Reads as finished-reads
-use Rattle.nightadvance.proofs.first_no.Reads as first-no-reads
-use Rattle.nightadvance.proofs.refuse.Reads as refuse-reads
-use Rattle.search.proofs.Record.advance.Reads as advance-reads
+
+-- the places, each from the next
+abbrev at-start : tie.After-first-no → tie.Start
+at-start c = c .before .before .before
+
+abbrev at-questions : tie.After-enum-told → tie.After-first-no
+at-questions c = c .before .before
+
+abbrev from-clear : tie.After-enum-told → tie.Start
+from-clear c = at-start (at-questions c)
+
+abbrev at-clear : tie.After-fill → tie.After-enum-told
+at-clear c = c .before .before
+
+abbrev at-fill : tie.After-advance-arg → tie.After-fill
+at-fill c = c .before .before .before
+
+abbrev at-advance : tie.After-finished → tie.After-advance
+at-advance c = c .before .before
+
+-- no question refuses
+unrefused : (c : tie.After-enum-told)
+    → let s = from-clear c .args in
+    refusalStored (nightPhase (s .w .now)) (callOf (s .k) (length (s .buffer .now))) (s .rec) ≡ none
+unrefused c = sym (at-questions c .first-no .ensures) ∙ ap refusalIn (c .enum-told .given .1)
+
+passed : (c : tie.After-enum-told) → let s = from-clear c .args in Clear (s .w .now) (s .rec) (s .k) (length (s .buffer .now))
+passed c = let s = from-clear c .args in clear (s .w .now) (s .rec) (s .k) _ (unrefused c)
 
 first-no-requires : tie.Need-first-no-requires
 first-no-requires c κs = search needs
 
-enum-known-question : tie.Need-enum-known-question
-enum-known-question c = search needs
+enum-known-n : tie.Need-enum-known-n
+enum-known-n c = search needs
 
 refuse-requires : tie.Need-refuse-requires
 refuse-requires c κs = search needs
@@ -30,56 +55,72 @@ refuse-requires c κs = search needs
 enum-told : tie.Need-enum-told
 enum-told c = search needs
 
-rules-of-requires : tie.Need-rules-of-requires
-rules-of-requires c κs = search needs
-
-shared-slice-read-common-fill : tie.Need-shared-slice-read-common-fill
-shared-slice-read-common-fill c = search needs
-
-common-fill-requires : tie.Need-common-fill-requires
-common-fill-requires c κs = (rules-small _ _ (c .before .before .before .before .before .before .before .before .pre) (c .before .before .rules-of .ensures), (c .before .before .before .before .before .before .before .before .pre .days-most, list-room (c .before .before .before .before .before .before .before .before .args .w .now) (c .before .before .rules-of .ensures) (clear (c .before .before .before .before .before .before .before .before .args .w .now) (c .before .before .before .before .before .before .before .before .args .rec) (c .before .before .before .before .before .before .before .before .args .k) _ (sym (sym (ap noOf (c .before .before .before .enum-told .given .1)) ∙ c .before .before .before .before .before .first-no .ensures)) .room)))
+fill-requires : tie.Need-fill-requires
+fill-requires c κs = let told = c .before in (from-clear told .pre, passed told .room)
 
 slice-reshare-prefix-advance : tie.Need-slice-reshare-prefix-advance
-slice-reshare-prefix-advance c = filled-fits (c .before .before .before .before .before .before .before .before .before .before .before .args .w .now) (c .before .before .before .before .before .before .before .before .before .before .before .args .buffer .now) (c .before .before .before .before .before .rules-of .result) (c .before .before .common-fill .ensures .0) (c .before .before .common-fill .ensures .1)
+slice-reshare-prefix-advance c =
+    let filled = c .before .before in
+    front-fits (commonOf (from-clear (at-clear filled) .args .w .now)) _ (filled .fill .ensures .0) (filled .fill .ensures .1)
 
 slice-aggregate-advance : tie.Need-slice-aggregate-advance
-slice-aggregate-advance c = sym (length-take-le _ _ (filled-fits (c .before .before .before .before .before .before .before .before .before .before .before .before .args .w .now) (c .before .before .before .before .before .before .before .before .before .before .before .before .args .buffer .now) (c .before .before .before .before .before .before .rules-of .result) (c .before .before .before .common-fill .ensures .0) (c .before .before .before .common-fill .ensures .1)))
+slice-aggregate-advance c =
+    let filled = at-fill c in
+    sym (length-take-le _ _ (front-fits (commonOf (from-clear (at-clear filled) .args .w .now)) _ (filled .fill .ensures .0) (filled .fill .ensures .1)))
 
 advance-requires : tie.Need-advance-requires
-advance-requires c κs = let w = c .before .before .before .before .before .before .before .before .before .before .before .before .args .w .now in
-    let front = filled-front w (c .before .before .before .before .before .before .before .before .before .before .before .before .args .buffer .now) (c .before .before .before .before .before .before .rules-of .ensures) (c .before .before .before .common-fill .ensures .0) (c .before .before .before .common-fill .ensures .1) in
-    let ok = clear w (c .before .before .before .before .before .before .before .before .before .before .before .before .args .rec) (c .before .before .before .before .before .before .before .before .before .before .before .before .args .k) _ (sym (sym (ap noOf (c .before .before .before .before .before .before .before .enum-told .given .1)) ∙ c .before .before .before .before .before .before .before .before .before .first-no .ensures)) in
-    ((c .before .before .before .before .before .before .before .before .before .before .before .before .pre, night-lists w _ front, omega (arith, ok .steps-fit)), (nightPhase w, night-seeks w _ front, ok .sound))
+advance-requires c κs =
+    let filled = at-fill c in
+    let told = at-clear filled in
+    let start = from-clear told in
+    let w = start .args .w .now in
+    let front = list-front (commonOf w) _ (filled .fill .ensures .1) (filled .fill .ensures .0) in
+    let ok = passed told in
+    ((start .pre, night-lists w _ front, omega (arith, ok .steps-fit)), (nightPhase w, night-seeks w _ front, ok .sound))
+
+no-roster-requires : tie.Need-no-roster-requires
+no-roster-requires c κs = search needs
 
 finished-requires : tie.Need-finished-requires
 finished-requires c κs = search needs
 
 returns : tie.Need-returns
-returns c = refusal-told (c .before .before .before .before .before .before .before .args .w .now) (c .before .before .before .before .before .before .before .args .rec) (c .before .before .before .before .before .before .before .args .k) (c .before .before .before .before .before .before .before .args .buffer .now) _ _ (sym (ap noOf (c .before .before .question .given .1)) ∙ c .before .before .before .before .first-no .ensures) (c .refuse .ensures)
+returns c =
+    let refusing = c .before .before in
+    let asked = refusing .before .before in
+    let s = at-start asked .args in
+    told-refused (nightPhase (s .w .now)) (s .rec) (s .k) (commonOf (s .w .now)) (s .buffer .now) _
+    (sym (asked .first-no .ensures) ∙ ap refusalIn (refusing .n .given .1)) (c .refuse .ensures)
 
 same-length : tie.Need-same-length
 same-length c = search needs
 
 returns-2 : tie.Need-returns-2
-returns-2 c = let w = c .before .before .before .before .before .before .before .before .before .before .before .before .before .before .args .w .now in
-    let none-refuses = sym (ap noOf (c .before .before .before .before .before .before .before .before .before .enum-told .given .1)) ∙ c .before .before .before .before .before .before .before .before .before .before .before .first-no .ensures in
-    let front = filled-front w (c .before .before .before .before .before .before .before .before .before .before .before .before .before .before .args .buffer .now) (c .before .before .before .before .before .before .before .before .rules-of .ensures) (c .before .before .before .before .before .common-fill .ensures .0) (c .before .before .before .before .before .common-fill .ensures .1) in
-    advance-told w (c .before .before .before .before .before .before .before .before .before .before .before .before .before .before .args .rec) (c .before .before .before .before .before .before .before .before .before .before .before .before .before .before .args .k) (c .before .before .before .before .before .before .before .before .before .before .before .before .before .before .args .buffer .now) (c .before .advance .result) none-refuses (c .before .advance .ensures (nightPhase w) (night-seeks w _ front) (clear w (c .before .before .before .before .before .before .before .before .before .before .before .before .before .before .args .rec) (c .before .before .before .before .before .before .before .before .before .before .before .before .before .before .args .k) _ (sym none-refuses) .sound)) (c .finished .ensures) (c .before .before .before .before .before .before .before .before .rules-of .ensures) (c .before .before .before .before .before .common-fill .ensures .1)
+returns-2 c =
+    let advanced = at-advance c in
+    let filled = at-fill (advanced .before) in
+    let told = at-clear filled in
+    let s = from-clear told .args in
+    let w = s .w .now in
+    let x = advanced .advance .result in
+    let front = list-front (commonOf w) _ (filled .fill .ensures .1) (filled .fill .ensures .0) in
+    told-advanced (nightPhase w) (s .rec) (s .k) (commonOf w) (s .buffer .now) x (unrefused told)
+    (advanced .advance .ensures (nightPhase w) (night-seeks w _ front) (passed told .sound))
+    (c .finished .ensures (nightPhase w) (c .before .no-roster .ensures ∙ ap rosterOf (night-letters w x))) (filled .fill .ensures .1)
 
 pub advance-on-spec : {M : Type 1} → statement M
 advance-on-spec =
     tie.close
     (tie.spec
     first-no-requires
-    enum-known-question
+    enum-known-n
     refuse-requires
     enum-told
-    rules-of-requires
-    shared-slice-read-common-fill
-    common-fill-requires
+    fill-requires
     slice-reshare-prefix-advance
     slice-aggregate-advance
     advance-requires
+    no-roster-requires
     finished-requires
     returns
     same-length

@@ -1,8 +1,15 @@
--- `pantheryl::pantheryl_advance_days` meets its contract: a refusal, or the record, the lists and the letters that the planner gives.
+-- `pantheryl::pantheryl_advance_days` meets its contract: a refusal, or the record and the letters that the planner hands back.
+use Prim.Native.Nat.{ℕ}
 use mathlib.Core.Path.{_≡_}
+use mathlib.Core.List.{List}
 use lib.ListN.{length, length-map}
+use Rattle.search.specs.declared.Record.{Record as Stored}
 use borrow.Author.Tests.{not-true, not-false}
-use Rattle.pantheryl.proofs.AnswerLaws.{count-fits, days-refused, days-done}
+use Rattle.history.specs.Phase.{Answer}
+use Rattle.phases.specs.Outcomes.{callOf}
+use Rattle.planner.specs.Advances.{advanceDays}
+use Rattle.planner.specs.Left.{dayLeft}
+use Rattle.pantheryl.proofs.AnswerLaws.{told, count-fits, in-roster, advance-refused, advance-done}
 use borrow.Author.Needs.{needs}
 use Rattle.pantheryl.proofs.pantheryl_advance_days.Statement.{statement}
 use Rattle.pantheryl.proofs.pantheryl_advance_days.Tie as tie
@@ -18,8 +25,9 @@ outcome-words-requires c κs = search needs
 
 put-letters-requires : tie.Need-put-letters-requires
 put-letters-requires c κs =
-    let long : length (c .before .before .before .before .before .advance-days .result .roster .letters) ≡ 1488 = simp length-map at (c .before .before .before .before .before .advance-days .ok .1 .1 .1 .1 .1 .1 .0 .1 .1 .0 .1 .0 .1) in
-    count-fits _ _ (c .before .before .before .before .before .advance-days .ensures .0) long
+    let advanced : tie.After-advance-days = search in
+    let long : length (advanced .advance-days .result .roster .letters) ≡ 1488 = simp length-map at (advanced .advance-days .ok .1 .1 .1 .1 .1 .1 .0 .1 .1 .0 .1 .0 .1) in
+    count-fits _ (advanced .advance-days .ensures .0) long
 
 is-refused-requires : tie.Need-is-refused-requires
 is-refused-requires c κs = search needs
@@ -31,13 +39,42 @@ same-length : tie.Need-same-length
 same-length c = search needs
 
 returns : tie.Need-returns
-returns c = days-done (c .before .before .before .before .before .before .before .before .before .before .before .before .before .before .before .before .args .file .now) (c .before .before .before .before .before .before .before .before .before .before .before .before .before .before .before .before .args .nights .now) (c .before .before .before .before .before .before .before .before .before .before .before .before .before .before .before .before .args .words .now) (c .before .before .before .before .before .before .before .before .before .before .before .before .before .before .before .before .args .k) (c .before .before .before .before .before .before .before .before .before .before .before .before .before .before .before .before .args .buffer .now) (c .before .before .before .before .before .before .before .before .before .before .before .before .before .before .before .before .args .roster .now) (c .before .before .before .before .before .before .before .before .before .before .before .before .record-of .ensures) (c .before .before .before .before .before .before .before .before .before .before .advance-days .ensures .0) (c .before .before .before .before .before .before .before .before .before .before .advance-days .ensures .1) (c .before .before .before .before .before .before .outcome-words .ensures) (c .before .before .before .is-refused .ensures) (c .before .before .before .before .put-letters .ensures) (not-true _ (c .before .before .if1 .taken)) (c .words-of .ensures)
+returns c =
+    let at-if : tie.Then1 = search in
+    let asked : tie.After-is-refused = search in
+    let put : tie.After-put-letters = search in
+    let worded : tie.After-outcome-words = search in
+    let advanced : tie.After-advance-days = search in
+    let rec-read : tie.After-record-of = search in
+    let start : tie.Start = search in
+    let s = start .args in
+    let advance : Stored → Answer × Stored = λ r. advanceDays (s .file .now) (s .nights .now) (callOf (s .k) (length (s .buffer .now))) r in
+    let leaving : Stored → List ℕ = λ r. dayLeft (s .file .now) (s .nights .now) r (s .k) (s .buffer .now) in
+    let done = advance-done (s .words .now) advance leaving (rec-read .record-of .ensures) (advanced .advance-days .ensures .0) (advanced .advance-days .ensures .1)
+    (worded .outcome-words .ensures) (asked .is-refused .ensures) (not-true _ (at-if .if1 .taken)) (c .words-of .ensures) in
+    let is = told (s .words .now) advance leaving (rec-read .record-of .ensures) (advanced .advance-days .ensures .0) (advanced .advance-days .ensures .1)
+    (worded .outcome-words .ensures) (asked .is-refused .ensures) in
+    (done .0, (done .1 .0, (done .1 .1, in-roster _ (s .roster .now) is (put .put-letters .ensures))))
 
 same-length-2 : tie.Need-same-length-2
 same-length-2 c = search needs
 
 returns-2 : tie.Need-returns-2
-returns-2 c = days-refused (c .before .before .before .before .before .before .before .before .before .before .before .before .before .before .args .file .now) (c .before .before .before .before .before .before .before .before .before .before .before .before .before .before .args .nights .now) (c .before .before .before .before .before .before .before .before .before .before .before .before .before .before .args .words .now) (c .before .before .before .before .before .before .before .before .before .before .before .before .before .before .args .k) (c .before .before .before .before .before .before .before .before .before .before .before .before .before .before .args .buffer .now) (c .before .before .before .before .before .before .before .before .before .before .before .before .before .before .args .roster .now) (c .before .before .before .before .before .before .before .before .before .before .record-of .ensures) (c .before .before .before .before .before .before .before .before .advance-days .ensures .0) (c .before .before .before .before .before .before .before .before .advance-days .ensures .1) (c .before .before .before .before .outcome-words .ensures) (c .before .is-refused .ensures) (c .before .before .put-letters .ensures) (not-false _ (c .if1 .left))
+returns-2 c =
+    let asked : tie.After-is-refused = search in
+    let put : tie.After-put-letters = search in
+    let worded : tie.After-outcome-words = search in
+    let advanced : tie.After-advance-days = search in
+    let rec-read : tie.After-record-of = search in
+    let start : tie.Start = search in
+    let s = start .args in
+    let advance : Stored → Answer × Stored = λ r. advanceDays (s .file .now) (s .nights .now) (callOf (s .k) (length (s .buffer .now))) r in
+    let leaving : Stored → List ℕ = λ r. dayLeft (s .file .now) (s .nights .now) r (s .k) (s .buffer .now) in
+    let done = advance-refused (s .words .now) advance leaving (rec-read .record-of .ensures) (advanced .advance-days .ensures .0) (advanced .advance-days .ensures .1)
+    (worded .outcome-words .ensures) (asked .is-refused .ensures) (not-false _ (c .if1 .left)) in
+    let is = told (s .words .now) advance leaving (rec-read .record-of .ensures) (advanced .advance-days .ensures .0) (advanced .advance-days .ensures .1)
+    (worded .outcome-words .ensures) (asked .is-refused .ensures) in
+    (done .0, (done .1 .0, (done .1 .1, in-roster _ (s .roster .now) is (put .put-letters .ensures))))
 
 pub pantheryl-advance-days-spec : {M : Type 1} → statement M
 pantheryl-advance-days-spec =

@@ -1,6 +1,11 @@
 -- `pantheryl::pantheryl_advance_nights` meets its contract: a refusal, or the record that the planner hands back.
+use lib.ListN.{length}
+use Rattle.search.specs.declared.Record.{Record as Stored}
 use borrow.Author.Tests.{not-true, not-false}
-use Rattle.pantheryl.proofs.AnswerLaws.{nights-refused, nights-done}
+use Rattle.phases.specs.Outcomes.{callOf}
+use Rattle.planner.specs.Advances.{advanceNights}
+use Rattle.planner.specs.Left.{nightLeft}
+use Rattle.pantheryl.proofs.AnswerLaws.{advance-refused, advance-done}
 use borrow.Author.Needs.{needs}
 use Rattle.pantheryl.proofs.pantheryl_advance_nights.Statement.{statement}
 use Rattle.pantheryl.proofs.pantheryl_advance_nights.Tie as tie
@@ -24,13 +29,32 @@ same-length : tie.Need-same-length
 same-length c = search needs
 
 returns : tie.Need-returns
-returns c = nights-done (c .before .before .before .before .before .before .before .before .before .before .before .before .before .args .file .now) (c .before .before .before .before .before .before .before .before .before .before .before .before .before .args .words .now) (c .before .before .before .before .before .before .before .before .before .before .before .before .before .args .k) (c .before .before .before .before .before .before .before .before .before .before .before .before .before .args .buffer .now) (c .before .before .before .before .before .before .before .before .before .record-of .ensures) (c .before .before .before .before .before .before .before .advance-nights .ensures .0) (c .before .before .before .before .before .before .before .advance-nights .ensures .1) (c .before .before .before .before .outcome-words .ensures) (c .before .before .before .is-refused .ensures) (not-true _ (c .before .before .if1 .taken)) (c .words-of .ensures)
+returns c =
+    let at-if : tie.Then1 = search in
+    let asked : tie.After-is-refused = search in
+    let worded : tie.After-outcome-words = search in
+    let advanced : tie.After-advance-nights = search in
+    let rec-read : tie.After-record-of = search in
+    let start : tie.Start = search in
+    let s = start .args in
+    advance-done (s .words .now) (λ (r : Stored). advanceNights (s .file .now) (callOf (s .k) (length (s .buffer .now))) r) (λ (r : Stored). nightLeft (s .file .now) r (s .k) (s .buffer .now))
+    (rec-read .record-of .ensures) (advanced .advance-nights .ensures .0) (advanced .advance-nights .ensures .1) (worded .outcome-words .ensures) (asked .is-refused .ensures)
+    (not-true _ (at-if .if1 .taken)) (c .words-of .ensures)
 
 same-length-2 : tie.Need-same-length-2
 same-length-2 c = search needs
 
 returns-2 : tie.Need-returns-2
-returns-2 c = nights-refused (c .before .before .before .before .before .before .before .before .before .before .before .args .file .now) (c .before .before .before .before .before .before .before .before .before .before .before .args .words .now) (c .before .before .before .before .before .before .before .before .before .before .before .args .k) (c .before .before .before .before .before .before .before .before .before .before .before .args .buffer .now) (c .before .before .before .before .before .before .before .record-of .ensures) (c .before .before .before .before .before .advance-nights .ensures .0) (c .before .before .before .before .before .advance-nights .ensures .1) (c .before .before .outcome-words .ensures) (c .before .is-refused .ensures) (not-false _ (c .if1 .left))
+returns-2 c =
+    let asked : tie.After-is-refused = search in
+    let worded : tie.After-outcome-words = search in
+    let advanced : tie.After-advance-nights = search in
+    let rec-read : tie.After-record-of = search in
+    let start : tie.Start = search in
+    let s = start .args in
+    advance-refused (s .words .now) (λ (r : Stored). advanceNights (s .file .now) (callOf (s .k) (length (s .buffer .now))) r) (λ (r : Stored). nightLeft (s .file .now) r (s .k) (s .buffer .now))
+    (rec-read .record-of .ensures) (advanced .advance-nights .ensures .0) (advanced .advance-nights .ensures .1) (worded .outcome-words .ensures) (asked .is-refused .ensures)
+    (not-false _ (c .if1 .left))
 
 pub pantheryl-advance-nights-spec : {M : Type 1} → statement M
 pantheryl-advance-nights-spec =

@@ -7,6 +7,19 @@ use borrow.Author.Needs.{needs}
 use Rattle.planner.proofs.check_letters.Statement.{statement}
 use Rattle.planner.proofs.check_letters.Tie as tie
 
+-- the places, each from the next
+abbrev at-found : tie.After-enum-told → tie.After-misplaced-at
+at-found c = c .before .before
+
+abbrev at-days : tie.After-misplaced-at → tie.After-days
+at-days c = c .before
+
+abbrev at-nurses : tie.After-misplaced-at → tie.After-nurses
+at-nurses c = at-days c .before
+
+abbrev from-found : tie.After-misplaced-at → tie.Start
+from-found c = at-nurses c .before .before .before
+
 nurses-requires : tie.Need-nurses-requires
 nurses-requires c κs = search needs
 
@@ -27,21 +40,34 @@ enum-told c = search needs
 
 roster-holds-requires : tie.Need-roster-holds-requires
 roster-holds-requires c κs =
-    (c .before .before .before .before .before .before .before .pre, letters-long (c .before .before .before .before .before .before .before .args .w .now) (c .before .before .before .before .before .before .before .args .roster .now) (c .before .before .misplaced-at .result) (c .before .before .before .before .nurses .ensures .0) (c .before .before .before .days .ensures .0) (c .before .before .misplaced-at .ensures) (c .enum-told .given .1))
+    let found = at-found c in
+    let start = from-found found in
+    (start .pre, letters-long (start .args .w .now) (start .args .roster .now) (found .misplaced-at .result) (at-nurses found .nurses .ensures .0) (at-days found .days .ensures .0) (found .misplaced-at .ensures) (c .enum-told .given .1))
 
 returns : tie.Need-returns
 returns c =
-    letters-said (c .before .before .before .before .before .before .before .before .before .args .w .now) (c .before .before .before .before .before .before .before .before .before .args .roster .now) (c .before .before .before .before .misplaced-at .result) (c .before .before .before .before .before .before .nurses .ensures .0) (c .before .before .before .before .before .days .ensures .0) (c .before .before .before .before .misplaced-at .ensures) (c .before .before .enum-told .given .1)
-    (sym (c .before .roster-holds .ensures) ∙ c .if1 .taken)
+    let held = c .before in
+    let told = held .before in
+    let found = at-found told in
+    let s = from-found found .args in
+    letters-said (s .w .now) (s .roster .now) (found .misplaced-at .result) (at-nurses found .nurses .ensures .0) (at-days found .days .ensures .0) (found .misplaced-at .ensures) (told .enum-told .given .1)
+    (sym (held .roster-holds .ensures) ∙ c .if1 .taken)
 
 returns-2 : tie.Need-returns-2
 returns-2 c =
-    letters-refused (c .before .before .before .before .before .before .before .before .args .w .now) (c .before .before .before .before .before .before .before .before .args .roster .now) (c .before .before .before .misplaced-at .result) (c .before .before .before .before .before .nurses .ensures .0) (c .before .before .before .before .days .ensures .0) (c .before .before .before .misplaced-at .ensures) (c .before .place .given .1)
+    let placed = c .before in
+    let found = placed .before .before in
+    let s = from-found found .args in
+    letters-refused (s .w .now) (s .roster .now) (found .misplaced-at .result) (at-nurses found .nurses .ensures .0) (at-days found .days .ensures .0) (found .misplaced-at .ensures) (placed .place .given .1)
 
 returns-3 : tie.Need-returns-3
 returns-3 c =
-    letters-said (c .before .before .before .before .before .before .before .before .before .args .w .now) (c .before .before .before .before .before .before .before .before .before .args .roster .now) (c .before .before .before .before .misplaced-at .result) (c .before .before .before .before .before .before .nurses .ensures .0) (c .before .before .before .before .before .days .ensures .0) (c .before .before .before .before .misplaced-at .ensures) (c .before .before .enum-told .given .1)
-    (sym (c .before .roster-holds .ensures) ∙ c .if1 .left)
+    let held = c .before in
+    let told = held .before in
+    let found = at-found told in
+    let s = from-found found .args in
+    letters-said (s .w .now) (s .roster .now) (found .misplaced-at .result) (at-nurses found .nurses .ensures .0) (at-days found .days .ensures .0) (found .misplaced-at .ensures) (told .enum-told .given .1)
+    (sym (held .roster-holds .ensures) ∙ c .if1 .left)
 
 pub check-letters-spec : {M : Type 1} → statement M
 check-letters-spec =

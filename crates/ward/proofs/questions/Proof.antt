@@ -2,13 +2,16 @@
 use mathlib.Core.Path.{_≡_, sym, _∙_, ap, subst}
 use native.Mathlib.Omega.{arith}
 use lib.ListN.{length, getD}
+use Rattle.refusals.specs.Refusals.{numbered}
+use Rattle.layout.specs.declared.Want.the-variants.{Next}
+use Rattle.layout.specs.CodeWant.{wanted}
 use Rattle.layout.specs.CodePlace.{tree}
-use Rattle.ward.specs.declared.Answer.the-variants.{No}
+use Rattle.ward.specs.Answers.{unwritten}
 use Rattle.layout.proofs.GrammarLaws.{small}
 use Rattle.codec.proofs.EncodeLaws.{encode-most}
 use Rattle.ward.proofs.WriteLaws.{Walked, begin, missing, room-here, failed, below, turn, extra, whole}
 use borrow.Author.Needs.{needs}
-use Prim.Native.Nat.{_-_}
+use Prim.Native.Nat.{_-_, _<_}
 use Rattle.ward.proofs.questions.Statement.{statement}
 use Rattle.ward.proofs.questions.Tie as tie
 use Rattle.ward.proofs.questions.Reads as reads
@@ -25,6 +28,42 @@ Inv-loop ward count i₀ bytes₀ c₀ i bytes c = Walked ward i bytes (tree c)
 
 abbrev μ-loop : tie.MeasureT-loop
 μ-loop ward count i₀ bytes₀ c₀ i bytes c = 4094 - i
+
+-- ---- the places of a turn, each from the next
+
+abbrev at-loop : tie.After-wanted-at Inv-loop μ-loop → tie.At-loop Inv-loop μ-loop
+at-loop c = c .before
+
+abbrev at-nothing : tie.After-enum-told Inv-loop μ-loop → tie.After-wanted-at Inv-loop μ-loop
+at-nothing c = c .before .before
+
+abbrev at-wanted : tie.After-f Inv-loop μ-loop → tie.After-wanted-at Inv-loop μ-loop
+at-wanted c = c .before .before
+
+abbrev in-turn : tie.After-f Inv-loop μ-loop → tie.At-loop Inv-loop μ-loop
+in-turn c = at-loop (at-wanted c)
+
+abbrev at-start : tie.At-loop Inv-loop μ-loop → tie.Start Inv-loop μ-loop
+at-start c = c .before .before
+
+-- a number is wanted, and one more is counted
+abbrev at-field : tie.Else2 Inv-loop μ-loop → tie.After-f Inv-loop μ-loop
+at-field c = c .before .before
+
+abbrev of-number : tie.Else2 Inv-loop μ-loop → tie.At-loop Inv-loop μ-loop
+of-number c = in-turn (at-field c)
+
+abbrev at-number : tie.After-ask Inv-loop μ-loop → tie.Else2 Inv-loop μ-loop
+at-number c = c .before .before
+
+abbrev at-ask : tie.After-size Inv-loop μ-loop → tie.After-ask Inv-loop μ-loop
+at-ask c = c .before .before
+
+wants : (c : tie.After-f Inv-loop μ-loop) → wanted (tree (in-turn c .loop .c)) ≡ Next (c .f .given .0 .0)
+wants c = sym (at-wanted c .wanted-at .ensures) ∙ c .f .given .1
+
+space-at : (c : tie.Else2 Inv-loop μ-loop) → of-number c .loop .i < 4094
+space-at c = room-here _ _ _ _ (of-number c .loop .inv) _ (wants (at-field c))
 
 start-requires : tie.Need-start-requires Inv-loop μ-loop
 start-requires c κs = search needs
@@ -44,10 +83,17 @@ no-requires : tie.Need-no-requires Inv-loop μ-loop
 no-requires c κs = search needs
 
 returns : tie.Need-returns Inv-loop μ-loop
-returns c = c .no .ensures ∙ extra _ _ _ _ (c .before .before .before .before .before .loop .inv) (sym (c .before .before .before .before .wanted-at .ensures) ∙ c .before .before .enum-told .given .1) (c .before .if1 .taken)
+returns c =
+    let at-if = c .before in
+    let told = at-if .before in
+    let wanting = at-nothing told in
+    c .no .ensures ∙ extra _ _ _ _ (at-loop wanting .loop .inv) (sym (wanting .wanted-at .ensures) ∙ told .enum-told .given .1) (at-if .if1 .taken)
 
 returns-2 : tie.Need-returns-2 Inv-loop μ-loop
-returns-2 c = whole _ _ _ _ (c .before .before .before .before .loop .inv) (sym (c .before .before .before .wanted-at .ensures) ∙ c .before .enum-told .given .1) (c .if1 .left)
+returns-2 c =
+    let told = c .before in
+    let wanting = at-nothing told in
+    whole _ _ _ _ (at-loop wanting .loop .inv) (sym (wanting .wanted-at .ensures) ∙ told .enum-told .given .1) (c .if1 .left)
 
 enum-known-f : tie.Need-enum-known-f Inv-loop μ-loop
 enum-known-f c = search needs
@@ -56,13 +102,16 @@ no-requires-2 : tie.Need-no-requires-2 Inv-loop μ-loop
 no-requires-2 c κs = search needs
 
 returns-3 : tie.Need-returns-3 Inv-loop μ-loop
-returns-3 c = c .no2 .ensures ∙ missing _ _ _ _ (c .before .before .before .before .before .before .loop .inv) _ (sym (c .before .before .before .before .before .wanted-at .ensures) ∙ c .before .before .before .f .given .1) (c .before .if2 .taken)
+returns-3 c =
+    let at-if = c .before in
+    let field = at-if .before .before in
+    c .no2 .ensures ∙ missing _ _ _ _ (in-turn field .loop .inv) _ (wants field) (at-if .if2 .taken)
 
 mul-v : tie.Need-mul-v Inv-loop μ-loop
-mul-v c = let s = room-here _ _ _ _ (c .before .before .before .before .before .loop .inv) _ (sym (c .before .before .before .before .wanted-at .ensures) ∙ c .before .before .f .given .1) in omega arith
+mul-v c = let s = space-at c in omega arith
 
 element-copy-out-v : tie.Need-element-copy-out-v Inv-loop μ-loop
-element-copy-out-v c = room-here _ _ _ _ (c .before .before .before .before .before .loop .inv) _ (sym (c .before .before .before .before .wanted-at .ensures) ∙ c .before .before .f .given .1)
+element-copy-out-v c = space-at c
 
 ask-requires : tie.Need-ask-requires Inv-loop μ-loop
 ask-requires c κs = search needs
@@ -72,28 +121,42 @@ no-requires-3 c κs = search needs
 
 returns-4 : tie.Need-returns-4 Inv-loop μ-loop
 returns-4 c =
-    c .no3 .ensures ∙ ap (λ q. record { answer = No q (c .before .before .before .before .before .before .before .before .before .loop .i); bytes = 0 }) (c .before .before .ask .ensures)
-    ∙ failed _ _ _ _ (c .before .before .before .before .before .before .before .before .before .loop .inv) _ (sym (c .before .before .before .before .before .before .before .before .wanted-at .ensures) ∙ c .before .before .before .before .before .before .f .given .1) (c .before .before .before .before .if2 .left) (λ z. c .before .if3 .taken (c .before .before .ask .ensures ∙ z))
+    let at-if = c .before in
+    let asking = at-if .before in
+    let number = at-number asking in
+    c .no3 .ensures ∙ ap (λ q. unwritten (numbered q (of-number number .loop .i))) (asking .ask .ensures)
+    ∙ failed _ _ _ _ (of-number number .loop .inv) _ (wants (at-field number)) (number .if2 .left) (λ z. at-if .if3 .taken (asking .ask .ensures ∙ z))
 
 size-requires : tie.Need-size-requires Inv-loop μ-loop
-size-requires c κs = below _ _ _ _ (c .before .before .before .before .before .before .before .before .loop .inv) _ (sym (c .before .before .before .before .before .before .before .wanted-at .ensures) ∙ c .before .before .before .before .before .f .given .1) (c .before .before .before .if2 .left) (sym (c .before .ask .ensures) ∙ c .if3 .left)
+size-requires c κs =
+    let asking = c .before in
+    let number = at-number asking in
+    below _ _ _ _ (of-number number .loop .inv) _ (wants (at-field number)) (number .if2 .left) (sym (asking .ask .ensures) ∙ c .if3 .left)
 
 add-bytes : tie.Need-add-bytes Inv-loop μ-loop
-add-bytes c = let s = room-here _ _ _ _ (c .before .before .before .before .before .before .before .before .before .loop .inv) _ (sym (c .before .before .before .before .before .before .before .before .wanted-at .ensures) ∙ c .before .before .before .before .before .before .f .given .1) in omega (arith, c .before .before .before .before .before .before .before .before .before .loop .inv .few, c .size .ensures, encode-most (getD (c .before .before .before .before .before .before .before .before .before .before .before .args .t1 .numbers) (c .before .before .before .before .before .before .before .before .before .loop .i) 0))
+add-bytes c =
+    let number = at-number (at-ask c) in
+    let turn = of-number number in
+    let s = space-at number in
+    omega (arith, turn .loop .inv .few, c .size .ensures, encode-most (getD (at-start turn .args .t1 .numbers) (turn .loop .i) 0))
 
 add-i : tie.Need-add-i Inv-loop μ-loop
-add-i c = let s = room-here _ _ _ _ (c .before .before .before .before .before .before .before .before .before .loop .inv) _ (sym (c .before .before .before .before .before .before .before .before .wanted-at .ensures) ∙ c .before .before .before .before .before .before .f .given .1) in omega arith
+add-i c = let s = space-at (at-number (at-ask c)) in omega arith
 
 step-requires : tie.Need-step-requires Inv-loop μ-loop
 step-requires c κs = search needs
 
 loop-less : tie.Need-loop-less Inv-loop μ-loop
-loop-less c = let s = room-here _ _ _ _ (c .before .before .before .before .before .before .before .before .before .before .loop .inv) _ (sym (c .before .before .before .before .before .before .before .before .before .wanted-at .ensures) ∙ c .before .before .before .before .before .before .before .f .given .1) in omega arith
+loop-less c = let s = space-at (at-number (at-ask (c .before))) in omega arith
 
 loop-again : tie.Need-loop-again Inv-loop μ-loop
 loop-again c =
-    let t = turn _ _ _ _ (c .before .before .before .before .before .before .before .before .before .before .loop .inv) _ (sym (c .before .before .before .before .before .before .before .before .before .wanted-at .ensures) ∙ c .before .before .before .before .before .before .before .f .given .1) (c .before .before .before .before .before .if2 .left) (sym (c .before .before .before .ask .ensures) ∙ c .before .before .if3 .left) in
-    subst (Walked _ _ _) (sym (c .step .ensures)) (rw (c .before .size .ensures) t)
+    let sized = c .before in
+    let at-if = sized .before in
+    let asking = at-ask sized in
+    let number = at-number asking in
+    let t = turn _ _ _ _ (of-number number .loop .inv) _ (wants (at-field number)) (number .if2 .left) (sym (asking .ask .ensures) ∙ at-if .if3 .left) in
+    subst (Walked _ _ _) (sym (c .step .ensures)) (rw (sized .size .ensures) t)
 
 pub questions-spec : {M : Type 1} → statement M
 questions-spec =

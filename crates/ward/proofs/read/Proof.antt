@@ -1,11 +1,16 @@
 -- `ward::read` meets its contract.
-use mathlib.Core.Path.{ap, sym, _∙_, subst}
-use Rattle.ward.specs.Answers.{refusedOf}
-use Prim.Native.Nat.{_-_}
+use mathlib.Core.Path.{_≡_, ap, sym, _∙_, subst}
+use Prim.Native.Nat.{_-_, _<_}
 use native.Mathlib.Omega.{arith}
 use borrow.Author.Needs.{needs}
-use lib.ListN.{length}
+use lib.ListN.{length, drop}
+use Rattle.refusals.specs.Refusals.{numbered}
+use Rattle.codec.specs.declared.Number.the-variants.{Value}
+use Rattle.codec.specs.Groups.{decode}
+use Rattle.layout.specs.declared.Want.the-variants.{Next}
+use Rattle.layout.specs.CodeWant.{wanted}
 use Rattle.layout.specs.CodePlace.{tree}
+use Rattle.ward.specs.Answers.{refusedOf}
 use Rattle.ward.proofs.ReadLaws.{So, begin, past-end, moves, failed, space, turn, ended, long-form, extra, whole}
 use Rattle.layout.proofs.GrammarLaws.{small}
 use Rattle.ward.proofs.read.Statement.{statement}
@@ -25,6 +30,47 @@ Inv-loop file numbers₀ count₀ at₀ c₀ numbers count at c = So file number
 abbrev μ-loop : tie.MeasureT-loop
 μ-loop file numbers₀ count₀ at₀ c₀ numbers count at c = length file - at
 
+-- ---- the places of a turn, each from the next
+
+abbrev at-start : tie.At-loop Inv-loop μ-loop → tie.Start Inv-loop μ-loop
+at-start c = c .before .before .before
+
+abbrev at-loop : tie.After-wanted-at Inv-loop μ-loop → tie.At-loop Inv-loop μ-loop
+at-loop c = c .before
+
+abbrev at-nothing : tie.After-enum-told Inv-loop μ-loop → tie.After-wanted-at Inv-loop μ-loop
+at-nothing c = c .before .before
+
+abbrev at-wanted : tie.After-f Inv-loop μ-loop → tie.After-wanted-at Inv-loop μ-loop
+at-wanted c = c .before .before
+
+abbrev at-field : tie.After-number-at Inv-loop μ-loop → tie.After-f Inv-loop μ-loop
+at-field c = c .before .before
+
+abbrev at-number : tie.After-value Inv-loop μ-loop → tie.After-number-at Inv-loop μ-loop
+at-number c = c .before .before
+
+abbrev at-value : tie.After-ask Inv-loop μ-loop → tie.After-value Inv-loop μ-loop
+at-value c = c .before .before
+
+-- where a number is wanted, and where one stands
+
+abbrev in-turn : tie.After-f Inv-loop μ-loop → tie.At-loop Inv-loop μ-loop
+in-turn c = at-loop (at-wanted c)
+
+abbrev of-value : tie.After-value Inv-loop μ-loop → tie.At-loop Inv-loop μ-loop
+of-value c = in-turn (at-field (at-number c))
+
+wants : (c : tie.After-f Inv-loop μ-loop) → wanted (tree (in-turn c .loop .c)) ≡ Next (c .f .given .0 .0)
+wants c = sym (at-wanted c .wanted-at .ensures) ∙ c .f .given .1
+
+value-wanted : (c : tie.After-value Inv-loop μ-loop) → wanted (tree (of-value c .loop .c)) ≡ Next (at-field (at-number c) .f .given .0 .0)
+value-wanted c = wants (at-field (at-number c))
+
+stands : (c : tie.After-value Inv-loop μ-loop)
+    → decode (drop (of-value c .loop .at) (at-start (of-value c) .args .file .now)) ≡ Value (c .value .given .0 .0) (c .value .given .0 .1 .0)
+stands c = sym (at-number c .number-at .ensures .0) ∙ c .value .given .1
+
 start-requires : tie.Need-start-requires Inv-loop μ-loop
 start-requires c κs = search needs
 
@@ -41,16 +87,23 @@ refused-requires : tie.Need-refused-requires Inv-loop μ-loop
 refused-requires c κs = search needs
 
 returns : tie.Need-returns Inv-loop μ-loop
-returns c = c .refused .ensures ∙ extra _ _ _ _ _ (c .before .before .before .before .before .loop .inv) (sym (c .before .before .before .before .wanted-at .ensures) ∙ c .before .before .enum-told .given .1) (c .before .if1 .taken)
+returns c =
+    let at-if = c .before in
+    let told = at-if .before in
+    let wanting = at-nothing told in
+    c .refused .ensures ∙ extra _ _ _ _ _ (at-loop wanting .loop .inv) (sym (wanting .wanted-at .ensures) ∙ told .enum-told .given .1) (at-if .if1 .taken)
 
 returns-2 : tie.Need-returns-2 Inv-loop μ-loop
-returns-2 c = whole _ _ _ _ _ (c .before .before .before .before .loop .inv) (sym (c .before .before .before .wanted-at .ensures) ∙ c .before .enum-told .given .1) (c .if1 .left)
+returns-2 c =
+    let told = c .before in
+    let wanting = at-nothing told in
+    whole _ _ _ _ _ (at-loop wanting .loop .inv) (sym (wanting .wanted-at .ensures) ∙ told .enum-told .given .1) (c .if1 .left)
 
 enum-known-f : tie.Need-enum-known-f Inv-loop μ-loop
 enum-known-f c = search needs
 
 number-at-requires : tie.Need-number-at-requires Inv-loop μ-loop
-number-at-requires c κs = c .before .before .before .before .loop .inv .inFile
+number-at-requires c κs = let field = c .before in in-turn field .loop .inv .inFile
 
 enum-told-2 : tie.Need-enum-told-2 Inv-loop μ-loop
 enum-told-2 c = search needs
@@ -59,7 +112,10 @@ refused-requires-2 : tie.Need-refused-requires-2 Inv-loop μ-loop
 refused-requires-2 c κs = search needs
 
 returns-3 : tie.Need-returns-3 Inv-loop μ-loop
-returns-3 c = c .refused2 .ensures ∙ ended _ _ _ _ _ (c .before .before .before .before .before .before .before .before .loop .inv) _ (sym (c .before .before .before .before .before .before .before .wanted-at .ensures) ∙ c .before .before .before .before .before .f .given .1) (sym (c .before .before .before .number-at .ensures .0) ∙ c .before .enum-told2 .given .1)
+returns-3 c =
+    let told = c .before in
+    let number = told .before .before in
+    c .refused2 .ensures ∙ ended _ _ _ _ _ (in-turn (at-field number) .loop .inv) _ (wants (at-field number)) (sym (number .number-at .ensures .0) ∙ told .enum-told2 .given .1)
 
 enum-told-3 : tie.Need-enum-told-3 Inv-loop μ-loop
 enum-told-3 c = search needs
@@ -68,7 +124,10 @@ refused-requires-3 : tie.Need-refused-requires-3 Inv-loop μ-loop
 refused-requires-3 c κs = search needs
 
 returns-4 : tie.Need-returns-4 Inv-loop μ-loop
-returns-4 c = c .refused3 .ensures ∙ long-form _ _ _ _ _ (c .before .before .before .before .before .before .before .before .loop .inv) _ (sym (c .before .before .before .before .before .before .before .wanted-at .ensures) ∙ c .before .before .before .before .before .f .given .1) (sym (c .before .before .before .number-at .ensures .0) ∙ c .before .enum-told3 .given .1)
+returns-4 c =
+    let told = c .before in
+    let number = told .before .before in
+    c .refused3 .ensures ∙ long-form _ _ _ _ _ (in-turn (at-field number) .loop .inv) _ (wants (at-field number)) (sym (number .number-at .ensures .0) ∙ told .enum-told3 .given .1)
 
 enum-known-value : tie.Need-enum-known-value Inv-loop μ-loop
 enum-known-value c = search needs
@@ -81,29 +140,51 @@ refused-requires-4 c κs = search needs
 
 returns-5 : tie.Need-returns-5 Inv-loop μ-loop
 returns-5 c =
-    c .refused4 .ensures ∙ ap (λ q. refusedOf q (c .before .before .before .before .before .before .before .before .before .before .before .loop .at)) (c .before .before .ask .ensures)
-    ∙ failed _ _ _ _ _ (c .before .before .before .before .before .before .before .before .before .before .before .loop .inv) _ (sym (c .before .before .before .before .before .before .before .before .before .before .wanted-at .ensures) ∙ c .before .before .before .before .before .before .before .before .f .given .1) _ _ (sym (c .before .before .before .before .before .before .number-at .ensures .0) ∙ c .before .before .before .before .value .given .1) (λ z. c .before .if2 .taken (c .before .before .ask .ensures ∙ z))
+    let at-if = c .before in
+    let asking = at-if .before in
+    let value = at-value asking in
+    c .refused4 .ensures ∙ ap (λ q. refusedOf (numbered q (of-value value .loop .at))) (asking .ask .ensures)
+    ∙ failed _ _ _ _ _ (of-value value .loop .inv) _ (value-wanted value) _ _ (stands value) (λ z. at-if .if2 .taken (asking .ask .ensures ∙ z))
+
+-- the number is stored, and the offset moves past it
+
+space-at : (c : tie.After-ask Inv-loop μ-loop) → c .ask .result ≡ 0 → of-value (at-value c) .loop .count < 4094
+space-at c none =
+    let value = at-value c in
+    space _ _ _ _ _ (of-value value .loop .inv) _ (value-wanted value) _ _ (stands value) (sym (c .ask .ensures) ∙ none)
 
 mul-numbers : tie.Need-mul-numbers Inv-loop μ-loop
-mul-numbers c = let s = space _ _ _ _ _ (c .before .before .before .before .before .before .before .before .before .before .loop .inv) _ (sym (c .before .before .before .before .before .before .before .before .before .wanted-at .ensures) ∙ c .before .before .before .before .before .before .before .f .given .1) _ _ (sym (c .before .before .before .before .before .number-at .ensures .0) ∙ c .before .before .before .value .given .1) (sym (c .before .ask .ensures) ∙ c .if2 .left) in omega arith
+mul-numbers c = let s = space-at (c .before) (c .if2 .left) in omega arith
 
 array-write-numbers : tie.Need-array-write-numbers Inv-loop μ-loop
-array-write-numbers c = space _ _ _ _ _ (c .before .before .before .before .before .before .before .before .before .before .loop .inv) _ (sym (c .before .before .before .before .before .before .before .before .before .wanted-at .ensures) ∙ c .before .before .before .before .before .before .before .f .given .1) _ _ (sym (c .before .before .before .before .before .number-at .ensures .0) ∙ c .before .before .before .value .given .1) (sym (c .before .ask .ensures) ∙ c .if2 .left)
+array-write-numbers c = space-at (c .before) (c .if2 .left)
 
 add-count : tie.Need-add-count Inv-loop μ-loop
-add-count c = let s = space _ _ _ _ _ (c .before .before .before .before .before .before .before .before .before .before .loop .inv) _ (sym (c .before .before .before .before .before .before .before .before .before .wanted-at .ensures) ∙ c .before .before .before .before .before .before .before .f .given .1) _ _ (sym (c .before .before .before .before .before .number-at .ensures .0) ∙ c .before .before .before .value .given .1) (sym (c .before .ask .ensures) ∙ c .if2 .left) in omega arith
+add-count c = let s = space-at (c .before) (c .if2 .left) in omega arith
 
 add-at : tie.Need-add-at Inv-loop μ-loop
-add-at c = let s = past-end _ _ _ _ _ (c .before .before .before .before .before .before .before .before .before .before .loop .inv) _ (sym (c .before .before .before .before .before .before .before .before .before .wanted-at .ensures) ∙ c .before .before .before .before .before .before .before .f .given .1) _ _ (sym (c .before .before .before .before .before .number-at .ensures .0) ∙ c .before .before .before .value .given .1) in omega (arith, c .before .before .before .before .before .before .before .before .before .before .before .before .before .good)
+add-at c =
+    let value = at-value (c .before) in
+    let s = past-end _ _ _ _ _ (of-value value .loop .inv) _ (value-wanted value) _ _ (stands value) in
+    omega (arith, at-start (of-value value) .good)
 
 step-requires : tie.Need-step-requires Inv-loop μ-loop
 step-requires c κs = search needs
 
 loop-less : tie.Need-loop-less Inv-loop μ-loop
-loop-less c = let s = past-end _ _ _ _ _ (c .before .before .before .before .before .before .before .before .before .before .before .loop .inv) _ (sym (c .before .before .before .before .before .before .before .before .before .before .wanted-at .ensures) ∙ c .before .before .before .before .before .before .before .before .f .given .1) _ _ (sym (c .before .before .before .before .before .before .number-at .ensures .0) ∙ c .before .before .before .before .value .given .1) in let t = moves _ _ _ _ _ (c .before .before .before .before .before .before .before .before .before .before .before .loop .inv) _ (sym (c .before .before .before .before .before .before .before .before .before .before .wanted-at .ensures) ∙ c .before .before .before .before .before .before .before .before .f .given .1) _ _ (sym (c .before .before .before .before .before .before .number-at .ensures .0) ∙ c .before .before .before .before .value .given .1) in omega arith
+loop-less c =
+    let value = at-value (c .before .before) in
+    let s = past-end _ _ _ _ _ (of-value value .loop .inv) _ (value-wanted value) _ _ (stands value) in
+    let t = moves _ _ _ _ _ (of-value value .loop .inv) _ (value-wanted value) _ _ (stands value) in
+    omega arith
 
 loop-again : tie.Need-loop-again Inv-loop μ-loop
-loop-again c = subst (So _ _ _ _) (sym (c .step .ensures)) (turn _ _ _ _ _ (c .before .before .before .before .before .before .before .before .before .before .before .loop .inv) _ (sym (c .before .before .before .before .before .before .before .before .before .before .wanted-at .ensures) ∙ c .before .before .before .before .before .before .before .before .f .given .1) _ _ (sym (c .before .before .before .before .before .before .number-at .ensures .0) ∙ c .before .before .before .before .value .given .1) (sym (c .before .before .ask .ensures) ∙ c .before .if2 .left))
+loop-again c =
+    let at-if = c .before in
+    let asking = at-if .before in
+    let value = at-value asking in
+    subst (So _ _ _ _) (sym (c .step .ensures))
+    (turn _ _ _ _ _ (of-value value .loop .inv) _ (value-wanted value) _ _ (stands value) (sym (asking .ask .ensures) ∙ at-if .if2 .left))
 
 pub read-spec : {M : Type 1} → statement M
 read-spec =

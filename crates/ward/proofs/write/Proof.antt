@@ -1,6 +1,6 @@
 -- `ward::write` meets its contract.
 use Prim.Native.Nat.{_-_}
-use mathlib.Core.Path.{_≡_}
+use mathlib.Core.Path.{_≡_, _∙_}
 use native.Mathlib.Omega.{arith}
 use borrow.Author.Needs.{needs}
 use lib.ListN.{length}
@@ -18,22 +18,44 @@ Inv-loop buf₀ ward bytes count i₀ at₀ buf i at = Wrote buf₀ ward buf i a
 abbrev μ-loop : tie.MeasureT-loop
 μ-loop buf₀ ward bytes count i₀ at₀ buf i at = count - i
 
+-- the places, each from the next
+abbrev at-questions : tie.After-enum-told2 Inv-loop μ-loop → tie.After-questions Inv-loop μ-loop
+at-questions c = c .before .before
+
+abbrev at-start : tie.After-questions Inv-loop μ-loop → tie.Start Inv-loop μ-loop
+at-start c = c .before .before
+
+abbrev at-turn : tie.After-put Inv-loop μ-loop → tie.In-loop Inv-loop μ-loop
+at-turn c = c .before .before .before
+
+abbrev at-put : tie.After-slice-known2 Inv-loop μ-loop → tie.After-put Inv-loop μ-loop
+at-put c = c .before .before
+
 questions-requires : tie.Need-questions-requires Inv-loop μ-loop
 questions-requires c κs = search needs
-
-enum-known-answer : tie.Need-enum-known-answer Inv-loop μ-loop
-enum-known-answer c = search needs
 
 enum-told : tie.Need-enum-told Inv-loop μ-loop
 enum-told c = search needs
 
+enum-told-2 : tie.Need-enum-told-2 Inv-loop μ-loop
+enum-told-2 c = search needs
+
+no-requires : tie.Need-no-requires Inv-loop μ-loop
+no-requires c κs = search needs
+
 returns : tie.Need-returns Inv-loop μ-loop
-returns c = short _ _ _ (c .before .before .before .questions .ensures) (c .before .enum-told .given .1) (c .if1 .taken)
+returns c =
+    let at-if = c .before in
+    let told = at-if .before in
+    let s = short _ _ _ (at-questions told .questions .ensures) (told .enum-told2 .given .1) (at-if .if1 .taken) in
+    (c .no .ensures ∙ s .0, s .1)
 
 loop-holds : tie.Need-loop-holds Inv-loop μ-loop
 loop-holds c =
-    let l : length (c .before .before .before .before .before .args .t1 .numbers) ≡ 4094 = search needs in
-    begin _ _ _ l (c .before .before .before .questions .ensures) (c .before .enum-told .given .1) (c .if1 .left)
+    let told = c .before in
+    let asked = at-questions told in
+    let l : length (at-start asked .args .t1 .numbers) ≡ 4094 = search needs in
+    begin _ _ _ l (asked .questions .ensures) (told .enum-told2 .given .1) (c .if1 .left)
 
 mul-v : tie.Need-mul-v Inv-loop μ-loop
 mul-v c = omega (arith, c .before .loop .inv)
@@ -42,19 +64,25 @@ element-copy-out-v : tie.Need-element-copy-out-v Inv-loop μ-loop
 element-copy-out-v c = omega (arith, c .before .loop .inv)
 
 put-requires : tie.Need-put-requires Inv-loop μ-loop
-put-requires c κs = (number-small _ _ _ _ _ (c .before .before .before .loop .inv) (c .before .before .loop-test .taken), number-fits _ _ _ _ _ (c .before .before .before .loop .inv) (c .before .before .loop-test .taken))
+put-requires c κs =
+    let turn = c .before .before in
+    (number-small _ _ _ _ _ (turn .before .loop .inv) (turn .loop-test .taken), number-fits _ _ _ _ _ (turn .before .loop .inv) (turn .loop-test .taken))
 
 add-i : tie.Need-add-i Inv-loop μ-loop
-add-i c = omega (arith, c .before .before .before .before .before .before .loop .inv)
+add-i c = omega (arith, at-turn (at-put c) .before .loop .inv)
 
 loop-less : tie.Need-loop-less Inv-loop μ-loop
 loop-less c = omega arith
 
 loop-again : tie.Need-loop-again Inv-loop μ-loop
-loop-again c = rw (c .before .before .put .ensures .0) (turn _ _ _ _ _ (c .before .before .before .before .before .before .loop .inv) (c .before .before .before .before .before .loop-test .taken) (c .before .before .put .last .0) (c .before .before .put .kept .0) (c .before .before .put .ensures .1))
+loop-again c =
+    let putting = at-put c in
+    let at-test = at-turn putting in
+    rw (putting .put .ensures .0)
+    (turn _ _ _ _ _ (at-test .before .loop .inv) (at-test .loop-test .taken) (putting .put .last .0) (putting .put .kept .0) (putting .put .ensures .1))
 
 returns-2 : tie.Need-returns-2 Inv-loop μ-loop
-returns-2 c = refused _ _ _ (c .before .before .before .questions .ensures) _ _ (c .before .answer .given .1)
+returns-2 c = refused _ _ _ (c .before .before .questions .ensures) _ (c .enum-told .given .1)
 
 same-length : tie.Need-same-length Inv-loop μ-loop
 same-length c = c .before .loop .inv .size
@@ -69,8 +97,9 @@ write-spec =
     Inv-loop
     μ-loop
     questions-requires
-    enum-known-answer
     enum-told
+    enum-told-2
+    no-requires
     returns
     loop-holds
     mul-v

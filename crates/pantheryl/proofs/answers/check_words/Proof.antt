@@ -6,8 +6,8 @@ use Rattle.pantheryl.proofs.answers.check_words.Tie as tie
 enum-known-checked : tie.Need-enum-known-checked
 enum-known-checked c = search needs
 
-cast-t5 : tie.Need-cast-t5
-cast-t5 c = search needs
+refusal-words-requires : tie.Need-refusal-words-requires
+refusal-words-requires c κs = search needs
 
 enum-told : tie.Need-enum-told
 enum-told c = search needs
@@ -16,7 +16,9 @@ enum-told-2 : tie.Need-enum-told-2
 enum-told-2 c = search needs
 
 returns : tie.Need-returns
-returns c = rw (c .before .checked .given .1)
+returns c =
+    let refused = c .before .before in
+    rw (refused .checked .given .1) (c .refusal-words .ensures)
 
 returns-2 : tie.Need-returns-2
 returns-2 c = search needs
@@ -27,4 +29,11 @@ returns-3 c = search needs
 pub check-words-spec : {M : Type 1} → statement M
 check-words-spec =
     tie.close
-    (tie.spec enum-known-checked cast-t5 enum-told enum-told-2 returns returns-2 returns-3)
+    (tie.spec
+    enum-known-checked
+    refusal-words-requires
+    enum-told
+    enum-told-2
+    returns
+    returns-2
+    returns-3)

@@ -6,17 +6,20 @@ use Rattle.pantheryl.proofs.answers.count_words.Tie as tie
 enum-known-said : tie.Need-enum-known-said
 enum-known-said c = search needs
 
-cast-t6 : tie.Need-cast-t6
-cast-t6 c = search needs
+refusal-words-requires : tie.Need-refusal-words-requires
+refusal-words-requires c κs = search needs
 
 enum-told : tie.Need-enum-told
 enum-told c = search needs
 
 returns : tie.Need-returns
-returns c = rw (c .before .said .given .1)
+returns c =
+    let refused = c .before .before in
+    rw (refused .said .given .1) (c .refusal-words .ensures)
 
 returns-2 : tie.Need-returns-2
 returns-2 c = rw (c .enum-told .given .1)
 
 pub count-words-spec : {M : Type 1} → statement M
-count-words-spec = tie.close (tie.spec enum-known-said cast-t6 enum-told returns returns-2)
+count-words-spec =
+    tie.close (tie.spec enum-known-said refusal-words-requires enum-told returns returns-2)

@@ -6,8 +6,8 @@ use Rattle.pantheryl.proofs.answers.outcome_words.Tie as tie
 enum-known-outcome : tie.Need-enum-known-outcome
 enum-known-outcome c = search needs
 
-cast-t8 : tie.Need-cast-t8
-cast-t8 c = search needs
+refusal-words-requires : tie.Need-refusal-words-requires
+refusal-words-requires c κs = search needs
 
 enum-told : tie.Need-enum-told
 enum-told c = search needs
@@ -19,7 +19,9 @@ enum-told-3 : tie.Need-enum-told-3
 enum-told-3 c = search needs
 
 returns : tie.Need-returns
-returns c = rw (c .before .outcome .given .1)
+returns c =
+    let refused = c .before .before in
+    rw (refused .outcome .given .1) (c .refusal-words .ensures)
 
 returns-2 : tie.Need-returns-2
 returns-2 c = rw (c .enum-told .given .1)
@@ -35,7 +37,7 @@ outcome-words-spec =
     tie.close
     (tie.spec
     enum-known-outcome
-    cast-t8
+    refusal-words-requires
     enum-told
     enum-told-2
     enum-told-3

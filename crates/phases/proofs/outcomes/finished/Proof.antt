@@ -1,0 +1,16 @@
+-- `phases::outcomes::finished` meets its contract.
+use Rattle.phases.proofs.OutcomeLaws.{finished-as}
+use borrow.Author.Needs.{needs}
+use Rattle.phases.proofs.outcomes.finished.Statement.{statement}
+use Rattle.phases.proofs.outcomes.finished.Tie as tie
+
+outcome-by-requires : tie.Need-outcome-by-requires
+outcome-by-requires c κs = search needs
+
+returns : tie.Need-returns
+returns c =
+    let start = c .before .before in
+    λ P given. finished-as P (start .args .x) (c .outcome-by .ensures) given
+
+pub finished-spec : {M : Type 1} → statement M
+finished-spec = tie.close (tie.spec outcome-by-requires returns)
