@@ -1,55 +1,88 @@
--- What is left at a place whose number is known.
+-- What is left at a place that is known, and where a number of turns is left.
 use Prim.Native.Nat.{ℕ, zero, suc, _≤_, _<_, _-_}
-use mathlib.Core.Path.{_≡_, sym, ap}
+use mathlib.Core.Path.{_≡_, _∙_, refl, sym, ap}
 use native.Mathlib.Omega.{arith}
-use lib.ListN.{getD, List·getD-eq-default}
 use Rattle.layout.specs.declared.Cursor.{Cursor}
-use Rattle.layout.specs.Grammar.{Grammar, done, number}
+use Rattle.layout.specs.declared.Place.{Place}
+use Rattle.layout.specs.declared.Place.the-variants.{Gap, Tabu, Weight, FirstDuty, NextDuty, LeastNightsOf, Mark, Members, NightNeed, NightLow, End}
+use Rattle.layout.specs.Grammar.{Grammar}
 use Rattle.layout.specs.CodeWant.{wanted, after}
 use Rattle.layout.specs.Layout
-use Rattle.layout.specs.CodePlace.{places, tree}
+use Rattle.layout.specs.CodePlace.{treeAt, tree, moved, innerLeft, outerLeft, turn, nightsOn}
 
-pub tree-at : (c : Cursor) {k : ℕ} → c .place ≡ k → getD (places c) k done ≡ tree c
+pub tree-at : (c : Cursor) {p : Place} → c .place ≡ p → treeAt p c ≡ tree c
 unfolding tree
-tree-at c e = ap (λ (i : ℕ). getD (places c) i done) (sym e)
+tree-at c e = ap (λ (p : Place). treeAt p c) (sym e)
 
-pub wanted-at : (c : Cursor) {k : ℕ} → c .place ≡ k → wanted (getD (places c) k done) ≡ wanted (tree c)
+pub wanted-at : (c : Cursor) {p : Place} → c .place ≡ p → wanted (treeAt p c) ≡ wanted (tree c)
 wanted-at c e = ap wanted (tree-at c e)
 
--- i is none of 0 to k - 1, as the rest of a `match` with those keys says it
-abbrev pub NotBelow : ℕ → ℕ → Type 0
-NotBelow zero i = Unit
-NotBelow (suc k) i = NotBelow k i × (i ≡ k → ⊥)
-
-pub past : (k i : ℕ) → NotBelow k i → k ≤ i
-past zero i h = omega arith
-past (suc k) i h = omega (arith, past k i (h .0), h .1)
-
--- a repeat of k: one and the others, where there is one; else nothing
-pub again : (k : ℕ) (body : Grammar → Grammar) (rest : Grammar) → 0 < k → body (Layout.repeat (k - 1) body rest) ≡ Layout.repeat k body rest
-again k body rest h =
-    let e : k ≡ suc (k - 1) = omega arith in
-    sym (ap (λ (i : ℕ). Layout.repeat i body rest) e)
-
-pub over : (k : ℕ) (body : Grammar → Grammar) (rest : Grammar) → k ≤ 0 → rest ≡ Layout.repeat k body rest
-over k body rest h =
-    let e : k ≡ 0 = omega arith in
-    sym (ap (λ (i : ℕ). Layout.repeat i body rest) e)
-
-pub duties-again :
-    (k d : ℕ) (rest : Grammar) → 0 < k → number (Layout.dutyAfter d) (λ e. Layout.duties (k - 1) e rest) ≡ Layout.duties k d rest
-duties-again k d rest h =
-    let e : k ≡ suc (k - 1) = omega arith in
-    sym (ap (λ (i : ℕ). Layout.duties i d rest) e)
-
-pub duties-over : (k d : ℕ) (rest : Grammar) → k ≤ 0 → rest ≡ Layout.duties k d rest
-duties-over k d rest h =
-    let e : k ≡ 0 = omega arith in
-    sym (ap (λ (i : ℕ). Layout.duties i d rest) e)
-
-pub after-at : (c : Cursor) (v : ℕ) {k : ℕ} → c .place ≡ k → after (getD (places c) k done) v ≡ after (tree c) v
+pub after-at : (c : Cursor) (v : ℕ) {p : Place} → c .place ≡ p → after (treeAt p c) v ≡ after (tree c) v
 after-at c v e = ap (λ (g : Grammar). after g v) (tree-at c e)
 
-pub ended : (c : Cursor) → 23 ≤ c .place → done ≡ tree c
-unfolding tree
-ended c h = sym (List·getD-eq-default (places c) done h)
+-- the end stays the end
+pub ended :
+    (c : Cursor) (v : ℕ)
+    → c .place ≡ End
+    → tree (record { place = c .place; outer = c .outer; inner = c .inner; before = v; head = c .head }) ≡ after (tree c) v
+ended c v e =
+    let d : Cursor = record { place = c .place; outer = c .outer; inner = c .inner; before = v; head = c .head } in
+    sym (tree-at d e) ∙ after-at c v e
+
+-- where k turns are left, as the code finds it out
+pub turn-again : (k : ℕ) (next : ℕ → Cursor) (rest : Cursor) → 0 < k → next (k - 1) ≡ turn k next rest
+unfolding turn
+turn-again k next rest h =
+    let e : k ≡ suc (k - 1) = omega arith in
+    sym (ap (λ (i : ℕ). turn i next rest) e)
+
+pub turn-over : (k : ℕ) (next : ℕ → Cursor) (rest : Cursor) → k ≤ 0 → rest ≡ turn k next rest
+unfolding turn
+turn-over k next rest h =
+    let e : k ≡ 0 = omega arith in
+    sym (ap (λ (i : ℕ). turn i next rest) e)
+
+-- every repeat of the layout: `left` is what its turns leave to read
+turned :
+    (k : ℕ) (next : ℕ → Cursor) (rest : Cursor) {r : Cursor} (left : ℕ → Grammar)
+    → r ≡ turn k next rest → tree rest ≡ left 0 → ((j : ℕ) → tree (next j) ≡ left (suc j)) → tree r ≡ left k
+unfolding turn
+turned k next rest left e none some = ap tree e ∙ go k
+  where
+    go : (i : ℕ) → tree (turn i next rest) ≡ left i
+    go zero = none
+    go (suc j) = some j
+
+-- each repeat
+module _ (c : Cursor) (k : ℕ) (rest : Cursor) {r : Cursor} where
+  pub gaps-left : r ≡ turn k (innerLeft Gap c) rest → rest ≡ moved Tabu c → tree r ≡ Layout.gaps (c .head) k
+  unfolding tree innerLeft
+  gaps-left e over = turned k _ rest (Layout.gaps (c .head)) e (ap tree over) (λ j. refl)
+
+  pub weights-left : r ≡ turn k (innerLeft Weight c) rest → tree rest ≡ Layout.nurses (c .head) (c .head .m) → tree r ≡ Layout.weights (c .head) k
+  unfolding tree innerLeft
+  weights-left e over = turned k _ rest (Layout.weights (c .head)) e over (λ j. refl)
+
+  pub duties-left : r ≡ turn k (innerLeft NextDuty c) rest → rest ≡ moved LeastNightsOf c → tree r ≡ Layout.duties k (c .before) (nightsOn c)
+  unfolding tree innerLeft
+  duties-left e over = turned k _ rest (λ (i : ℕ). Layout.duties i (c .before) (nightsOn c)) e (ap tree over) (λ j. refl)
+
+  pub marks-left : r ≡ turn k (innerLeft Mark c) rest → tree rest ≡ Layout.nurses (c .head) (c .outer) → tree r ≡ Layout.repeat k Layout.mark (Layout.nurses (c .head) (c .outer))
+  unfolding tree innerLeft
+  marks-left e over = turned k _ rest (λ (i : ℕ). Layout.repeat i Layout.mark (Layout.nurses (c .head) (c .outer))) e over (λ j. refl)
+
+  pub bounds-left : r ≡ turn k (innerLeft NightLow c) rest → tree rest ≡ Layout.days (c .head) (c .outer) → tree r ≡ Layout.repeat k Layout.bounds (Layout.days (c .head) (c .outer))
+  unfolding tree innerLeft
+  bounds-left e over = turned k _ rest (λ (i : ℕ). Layout.repeat i Layout.bounds (Layout.days (c .head) (c .outer))) e over (λ j. refl)
+
+  pub nurses-left : r ≡ turn k (outerLeft FirstDuty c) rest → tree rest ≡ Layout.groups (c .head) (c .head .r) → tree r ≡ Layout.nurses (c .head) k
+  unfolding tree outerLeft
+  nurses-left e over = turned k _ rest (Layout.nurses (c .head)) e over (λ j. refl)
+
+  pub groups-left : r ≡ turn k (outerLeft Members c) rest → tree rest ≡ Layout.days (c .head) (c .head .n) → tree r ≡ Layout.groups (c .head) k
+  unfolding tree outerLeft
+  groups-left e over = turned k _ rest (Layout.groups (c .head)) e over (λ j. refl)
+
+  pub days-left : r ≡ turn k (outerLeft NightNeed c) rest → rest ≡ moved End c → tree r ≡ Layout.days (c .head) k
+  unfolding tree outerLeft
+  days-left e over = turned k _ rest (Layout.days (c .head)) e (ap tree over) (λ j. refl)

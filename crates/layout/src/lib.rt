@@ -5,7 +5,7 @@ ghost use Prim.Native.Nat.{_-_, _^_, _<_};
 ghost use Rattle.layout.specs.Grammar.{asked};
 ghost use Rattle.layout.specs.CodeWant.{wanted, after, Small};
 ghost use Rattle.layout.specs.Layout;
-ghost use Rattle.layout.specs.CodePlace.{tree, nightsOn};
+ghost use Rattle.layout.specs.CodePlace.{tree, moved, innerLeft, outerLeft, turn};
 
 // What a number must fit besides its range.
 pub enum Rule {
@@ -34,9 +34,43 @@ pub struct Head {
     pub edition: u64,
 }
 
+// The field of the next number, in the file's order.
+pub enum Place {
+    // The sizes: m, n, r.
+    Nurses,
+    Days,
+    Groups,
+    // The rules: V, L, g1 to g3, TL, D, the weights.
+    MostNights,
+    LongestRun,
+    Gap,
+    Tabu,
+    LongestDays,
+    Weight,
+    // A nurse's.
+    FirstDuty,
+    NextDuty,
+    LeastNightsOf,
+    MostNightsOf,
+    LeastRestsOf,
+    MostRestsOf,
+    Mark,
+    // A group's.
+    Members,
+    // A day's, and in it a group's.
+    NightNeed,
+    DayNeed,
+    NightLow,
+    NightHigh,
+    DayLow,
+    DayHigh,
+    // After the last number.
+    End,
+}
+
 // A place in the layout: `outer` rows and `inner` numbers or pairs are left after this one, and `before` is the number before.
 pub struct Cursor {
-    pub place: usize,
+    pub place: Place,
     pub outer: u64,
     pub inner: u64,
     pub before: u64,
@@ -94,157 +128,105 @@ pub fn wanted_at(c: Cursor) -> Want
     let before = c.before;
     let m = c.head.m;
     match place {
-        0 => range(1, 48),
-        1 => range(1, 31),
-        2 => range(0, 16),
-        3 => range(0, 15),
-        4 => range(1, 3),
-        5 => range(1, 5),
-        6 => range(0, 64),
-        7 => range(1, 6),
-        8 => range(1, 100),
-        9 => range(0, 4),
-        10 => Want::Next(Field {
+        Place::Nurses => range(1, 48),
+        Place::Days => range(1, 31),
+        Place::Groups => range(0, 16),
+        Place::MostNights => range(0, 15),
+        Place::LongestRun => range(1, 3),
+        Place::Gap => range(1, 5),
+        Place::Tabu => range(0, 64),
+        Place::LongestDays => range(1, 6),
+        Place::Weight => range(1, 100),
+        Place::FirstDuty => range(0, 4),
+        Place::NextDuty => Want::Next(Field {
             least: 0,
             most: 4,
             rule: Rule::After { duty: before },
         }),
-        11 => range(0, 15),
-        12 => range(before, 15),
-        13 => range(0, 31),
-        14 => range(before, 31),
-        15 => range(0, 6),
-        16 => range(1, all(m)),
-        17 => range(0, 48),
-        18 => range(0, 48),
-        19 => range(0, 48),
-        20 => range(before, 48),
-        21 => range(0, 48),
-        22 => range(before, 48),
-        _ => Want::Nothing,
+        Place::LeastNightsOf => range(0, 15),
+        Place::MostNightsOf => range(before, 15),
+        Place::LeastRestsOf => range(0, 31),
+        Place::MostRestsOf => range(before, 31),
+        Place::Mark => range(0, 6),
+        Place::Members => range(1, all(m)),
+        Place::NightNeed => range(0, 48),
+        Place::DayNeed => range(0, 48),
+        Place::NightLow => range(0, 48),
+        Place::NightHigh => range(before, 48),
+        Place::DayLow => range(0, 48),
+        Place::DayHigh => range(before, 48),
+        Place::End => Want::Nothing,
     }
-}
-
-// Where k days are left.
-fn at_days(mut c: Cursor, k: u64) -> Cursor
-    ensures { λ r. ⌜ tree r ≡ Layout.days (c .head) k ⌝ }
-{
-    if k > 0 {
-        c.place = 17;
-        c.outer = k - 1;
-        return c;
-    }
-    c.place = 23;
-    c
-}
-
-// Where k groups' bounds of a day are left.
-fn at_bounds(mut c: Cursor, k: u64) -> Cursor
-    ensures { λ r. ⌜ tree r ≡ Layout.repeat k Layout.bounds (Layout.days (c .head) (c .outer)) ⌝ }
-{
-    if k > 0 {
-        c.place = 19;
-        c.inner = k - 1;
-        return c;
-    }
-    let left = c.outer;
-    at_days(c, left)
-}
-
-// Where k groups are left.
-fn at_groups(mut c: Cursor, k: u64) -> Cursor
-    ensures { λ r. ⌜ tree r ≡ Layout.groups (c .head) k ⌝ }
-{
-    if k > 0 {
-        c.place = 16;
-        c.outer = k - 1;
-        return c;
-    }
-    let left = c.head.n;
-    at_days(c, left)
-}
-
-// Where k nurses are left.
-fn at_nurses(mut c: Cursor, k: u64) -> Cursor
-    ensures { λ r. ⌜ tree r ≡ Layout.nurses (c .head) k ⌝ }
-{
-    if k > 0 {
-        c.place = 9;
-        c.outer = k - 1;
-        return c;
-    }
-    let left = c.head.r;
-    at_groups(c, left)
-}
-
-// Where k marks of a nurse are left.
-fn at_marks(mut c: Cursor, k: u64) -> Cursor
-    ensures { λ r. ⌜ tree r ≡ Layout.repeat k Layout.mark (Layout.nurses (c .head) (c .outer)) ⌝ }
-{
-    if k > 0 {
-        c.place = 15;
-        c.inner = k - 1;
-        return c;
-    }
-    let left = c.outer;
-    at_nurses(c, left)
-}
-
-// Where k of a nurse's duties are left.
-fn at_duties(mut c: Cursor, k: u64) -> Cursor
-    ensures { λ r. ⌜ tree r ≡ Layout.duties k (c .before) (nightsOn c) ⌝ }
-{
-    if k > 0 {
-        c.place = 10;
-        c.inner = k - 1;
-        return c;
-    }
-    c.place = 11;
-    c
-}
-
-// Where k weights are left.
-fn at_weights(mut c: Cursor, k: u64) -> Cursor
-    ensures { λ r. ⌜ tree r ≡ Layout.weights (c .head) k ⌝ }
-{
-    if k > 0 {
-        c.place = 8;
-        c.inner = k - 1;
-        return c;
-    }
-    let left = c.head.m;
-    at_nurses(c, left)
-}
-
-// Where k gaps are left.
-fn at_gaps(mut c: Cursor, k: u64) -> Cursor
-    ensures { λ r. ⌜ tree r ≡ Layout.gaps (c .head) k ⌝ }
-{
-    if k > 0 {
-        c.place = 5;
-        c.inner = k - 1;
-        return c;
-    }
-    c.place = 6;
-    c
 }
 
 // Another place, all else as it is.
-fn moved(mut c: Cursor, place: usize) -> Cursor
-    ensures { λ r. ⌜ r ≡ record { place = place; outer = c .outer; inner = c .inner; before = c .before; head = c .head } ⌝ }
+fn moved(c: Cursor, place: Place) -> Cursor
+    ensures { λ r. ⌜ r ≡ moved place c ⌝ }
 {
-    c.place = place;
-    c
+    let head = c.head;
+    Cursor {
+        place,
+        outer: c.outer,
+        inner: c.inner,
+        before: c.before,
+        head,
+    }
 }
 
 // Another place with new sizes.
-fn sized(mut c: Cursor, m: u64, n: u64, r: u64, edition: u64, place: usize) -> Cursor
+fn sized(c: Cursor, m: u64, n: u64, r: u64, edition: u64, place: Place) -> Cursor
     ensures { λ x. ⌜ x ≡ record { place = place; outer = c .outer; inner = c .inner; before = c .before; head = record { m = m; n = n; r = r; edition = edition } } ⌝ }
 {
-    let h = Head { m, n, r, edition };
-    c.head = h;
-    c.place = place;
-    c
+    Cursor {
+        place,
+        outer: c.outer,
+        inner: c.inner,
+        before: c.before,
+        head: Head { m, n, r, edition },
+    }
+}
+
+// Where k numbers or pairs from `place` on are left; with none left, at `rest`.
+fn at_inner(mut c: Cursor, place: Place, k: u64, rest: Cursor) -> Cursor
+    ensures { λ r. ⌜ r ≡ turn k (innerLeft place c) rest ⌝ }
+{
+    if k > 0 {
+        c.inner = k - 1;
+        return moved(c, place);
+    }
+    rest
+}
+
+// Where k rows from `place` on are left; with none left, at `rest`.
+fn at_outer(mut c: Cursor, place: Place, k: u64, rest: Cursor) -> Cursor
+    ensures { λ r. ⌜ r ≡ turn k (outerLeft place c) rest ⌝ }
+{
+    if k > 0 {
+        c.outer = k - 1;
+        return moved(c, place);
+    }
+    rest
+}
+
+// Where k days are left.
+fn at_days(c: Cursor, k: u64) -> Cursor
+    ensures { λ r. ⌜ tree r ≡ Layout.days (c .head) k ⌝ }
+{
+    at_outer(c, Place::NightNeed, k, moved(c, Place::End))
+}
+
+// Where k groups are left.
+fn at_groups(c: Cursor, k: u64) -> Cursor
+    ensures { λ r. ⌜ tree r ≡ Layout.groups (c .head) k ⌝ }
+{
+    at_outer(c, Place::Members, k, at_days(c, c.head.n))
+}
+
+// Where k nurses are left.
+fn at_nurses(c: Cursor, k: u64) -> Cursor
+    ensures { λ r. ⌜ tree r ≡ Layout.nurses (c .head) k ⌝ }
+{
+    at_outer(c, Place::FirstDuty, k, at_groups(c, c.head.r))
 }
 
 // The place after the number v.
@@ -257,30 +239,30 @@ pub fn step(mut c: Cursor, v: u64) -> Cursor
     let h = c.head;
     c.before = v;
     match place {
-        0 => sized(c, v, 0, 0, 1, 1),
-        1 => sized(c, h.m, v, h.r, h.edition, 2),
-        2 => sized(c, h.m, h.n, v, h.edition, 3),
-        3 => moved(c, 4),
-        4 => at_gaps(c, 3),
-        5 => at_gaps(c, inner),
-        6 => moved(c, 7),
-        7 => at_weights(c, 6),
-        8 => at_weights(c, inner),
-        9 => at_duties(c, 6),
-        10 => at_duties(c, inner),
-        11 => moved(c, 12),
-        12 => moved(c, 13),
-        13 => moved(c, 14),
-        14 => at_marks(c, h.n),
-        15 => at_marks(c, inner),
-        16 => at_groups(c, outer),
-        17 => moved(c, 18),
-        18 => at_bounds(c, h.r),
-        19 => moved(c, 20),
-        20 => moved(c, 21),
-        21 => moved(c, 22),
-        22 => at_bounds(c, inner),
-        _ => c,
+        Place::Nurses => sized(c, v, 0, 0, 1, Place::Days),
+        Place::Days => sized(c, h.m, v, h.r, h.edition, Place::Groups),
+        Place::Groups => sized(c, h.m, h.n, v, h.edition, Place::MostNights),
+        Place::MostNights => moved(c, Place::LongestRun),
+        Place::LongestRun => at_inner(c, Place::Gap, 3, moved(c, Place::Tabu)),
+        Place::Gap => at_inner(c, Place::Gap, inner, moved(c, Place::Tabu)),
+        Place::Tabu => moved(c, Place::LongestDays),
+        Place::LongestDays => at_inner(c, Place::Weight, 6, at_nurses(c, h.m)),
+        Place::Weight => at_inner(c, Place::Weight, inner, at_nurses(c, h.m)),
+        Place::FirstDuty => at_inner(c, Place::NextDuty, 6, moved(c, Place::LeastNightsOf)),
+        Place::NextDuty => at_inner(c, Place::NextDuty, inner, moved(c, Place::LeastNightsOf)),
+        Place::LeastNightsOf => moved(c, Place::MostNightsOf),
+        Place::MostNightsOf => moved(c, Place::LeastRestsOf),
+        Place::LeastRestsOf => moved(c, Place::MostRestsOf),
+        Place::MostRestsOf => at_inner(c, Place::Mark, h.n, at_nurses(c, outer)),
+        Place::Mark => at_inner(c, Place::Mark, inner, at_nurses(c, outer)),
+        Place::Members => at_groups(c, outer),
+        Place::NightNeed => moved(c, Place::DayNeed),
+        Place::DayNeed => at_inner(c, Place::NightLow, h.r, at_days(c, outer)),
+        Place::NightLow => moved(c, Place::NightHigh),
+        Place::NightHigh => moved(c, Place::DayLow),
+        Place::DayLow => moved(c, Place::DayHigh),
+        Place::DayHigh => at_inner(c, Place::NightLow, inner, at_days(c, outer)),
+        Place::End => c,
     }
 }
 
@@ -289,7 +271,7 @@ pub fn start() -> Cursor
     ensures { λ r. ⌜ tree r ≡ Layout.ward ⌝ }
 {
     Cursor {
-        place: 0,
+        place: Place::Nurses,
         outer: 0,
         inner: 0,
         before: 0,

@@ -1,205 +1,328 @@
 -- `layout::step` meets its contract: at each place, the rest of the layout after one number.
-use mathlib.Core.Path.{_∙_, sym, ap}
-use Rattle.layout.specs.CodeWant.{after}
+use mathlib.Core.Path.{_∙_, ap}
 use Rattle.layout.specs.Layout.{ward}
 use Rattle.layout.specs.CodePlace.{tree}
-use Rattle.layout.proofs.PlaceLaws.{after-at, ended, past}
+use Rattle.layout.proofs.PlaceLaws.{after-at, ended, gaps-left, weights-left, duties-left, marks-left, bounds-left}
 use borrow.Author.Needs.{needs}
 use Rattle.layout.proofs.step.Statement.{statement}
 use Rattle.layout.proofs.step.Tie as tie
 
+enum-told : tie.Need-enum-told
+enum-told c = search needs
+
 sized-requires : tie.Need-sized-requires
 sized-requires c κs = search needs
+
+enum-told-2 : tie.Need-enum-told-2
+enum-told-2 c = search needs
 
 sized-requires-2 : tie.Need-sized-requires-2
 sized-requires-2 c κs = search needs
 
+enum-told-3 : tie.Need-enum-told-3
+enum-told-3 c = search needs
+
 sized-requires-3 : tie.Need-sized-requires-3
 sized-requires-3 c κs = search needs
+
+enum-told-4 : tie.Need-enum-told-4
+enum-told-4 c = search needs
 
 moved-requires : tie.Need-moved-requires
 moved-requires c κs = search needs
 
-at-gaps-requires : tie.Need-at-gaps-requires
-at-gaps-requires c κs = search needs
-
-at-gaps-requires-2 : tie.Need-at-gaps-requires-2
-at-gaps-requires-2 c κs = search needs
+enum-told-5 : tie.Need-enum-told-5
+enum-told-5 c = search needs
 
 moved-requires-2 : tie.Need-moved-requires-2
 moved-requires-2 c κs = search needs
 
-at-weights-requires : tie.Need-at-weights-requires
-at-weights-requires c κs = search needs
+at-inner-requires : tie.Need-at-inner-requires
+at-inner-requires c κs = search needs
 
-at-weights-requires-2 : tie.Need-at-weights-requires-2
-at-weights-requires-2 c κs = search needs
-
-at-duties-requires : tie.Need-at-duties-requires
-at-duties-requires c κs = search needs
-
-at-duties-requires-2 : tie.Need-at-duties-requires-2
-at-duties-requires-2 c κs = search needs
+enum-told-6 : tie.Need-enum-told-6
+enum-told-6 c = search needs
 
 moved-requires-3 : tie.Need-moved-requires-3
 moved-requires-3 c κs = search needs
 
+at-inner-requires-2 : tie.Need-at-inner-requires-2
+at-inner-requires-2 c κs = search needs
+
+enum-told-7 : tie.Need-enum-told-7
+enum-told-7 c = search needs
+
 moved-requires-4 : tie.Need-moved-requires-4
 moved-requires-4 c κs = search needs
+
+enum-told-8 : tie.Need-enum-told-8
+enum-told-8 c = search needs
+
+at-nurses-requires : tie.Need-at-nurses-requires
+at-nurses-requires c κs = search needs
+
+at-inner-requires-3 : tie.Need-at-inner-requires-3
+at-inner-requires-3 c κs = search needs
+
+enum-told-9 : tie.Need-enum-told-9
+enum-told-9 c = search needs
+
+at-nurses-requires-2 : tie.Need-at-nurses-requires-2
+at-nurses-requires-2 c κs = search needs
+
+at-inner-requires-4 : tie.Need-at-inner-requires-4
+at-inner-requires-4 c κs = search needs
+
+enum-told-10 : tie.Need-enum-told-10
+enum-told-10 c = search needs
 
 moved-requires-5 : tie.Need-moved-requires-5
 moved-requires-5 c κs = search needs
 
-at-marks-requires : tie.Need-at-marks-requires
-at-marks-requires c κs = search needs
+at-inner-requires-5 : tie.Need-at-inner-requires-5
+at-inner-requires-5 c κs = search needs
 
-at-marks-requires-2 : tie.Need-at-marks-requires-2
-at-marks-requires-2 c κs = search needs
-
-at-groups-requires : tie.Need-at-groups-requires
-at-groups-requires c κs = search needs
+enum-told-11 : tie.Need-enum-told-11
+enum-told-11 c = search needs
 
 moved-requires-6 : tie.Need-moved-requires-6
 moved-requires-6 c κs = search needs
 
-at-bounds-requires : tie.Need-at-bounds-requires
-at-bounds-requires c κs = search needs
+at-inner-requires-6 : tie.Need-at-inner-requires-6
+at-inner-requires-6 c κs = search needs
+
+enum-told-12 : tie.Need-enum-told-12
+enum-told-12 c = search needs
 
 moved-requires-7 : tie.Need-moved-requires-7
 moved-requires-7 c κs = search needs
 
+enum-told-13 : tie.Need-enum-told-13
+enum-told-13 c = search needs
+
 moved-requires-8 : tie.Need-moved-requires-8
 moved-requires-8 c κs = search needs
+
+enum-told-14 : tie.Need-enum-told-14
+enum-told-14 c = search needs
 
 moved-requires-9 : tie.Need-moved-requires-9
 moved-requires-9 c κs = search needs
 
-at-bounds-requires-2 : tie.Need-at-bounds-requires-2
-at-bounds-requires-2 c κs = search needs
+enum-told-15 : tie.Need-enum-told-15
+enum-told-15 c = search needs
+
+at-nurses-requires-3 : tie.Need-at-nurses-requires-3
+at-nurses-requires-3 c κs = search needs
+
+at-inner-requires-7 : tie.Need-at-inner-requires-7
+at-inner-requires-7 c κs = search needs
+
+enum-told-16 : tie.Need-enum-told-16
+enum-told-16 c = search needs
+
+at-nurses-requires-4 : tie.Need-at-nurses-requires-4
+at-nurses-requires-4 c κs = search needs
+
+at-inner-requires-8 : tie.Need-at-inner-requires-8
+at-inner-requires-8 c κs = search needs
+
+enum-told-17 : tie.Need-enum-told-17
+enum-told-17 c = search needs
+
+at-groups-requires : tie.Need-at-groups-requires
+at-groups-requires c κs = search needs
+
+enum-told-18 : tie.Need-enum-told-18
+enum-told-18 c = search needs
+
+moved-requires-10 : tie.Need-moved-requires-10
+moved-requires-10 c κs = search needs
+
+enum-told-19 : tie.Need-enum-told-19
+enum-told-19 c = search needs
+
+at-days-requires : tie.Need-at-days-requires
+at-days-requires c κs = search needs
+
+at-inner-requires-9 : tie.Need-at-inner-requires-9
+at-inner-requires-9 c κs = search needs
+
+enum-told-20 : tie.Need-enum-told-20
+enum-told-20 c = search needs
+
+moved-requires-11 : tie.Need-moved-requires-11
+moved-requires-11 c κs = search needs
+
+enum-told-21 : tie.Need-enum-told-21
+enum-told-21 c = search needs
+
+moved-requires-12 : tie.Need-moved-requires-12
+moved-requires-12 c κs = search needs
+
+enum-told-22 : tie.Need-enum-told-22
+enum-told-22 c = search needs
+
+moved-requires-13 : tie.Need-moved-requires-13
+moved-requires-13 c κs = search needs
+
+enum-told-23 : tie.Need-enum-told-23
+enum-told-23 c = search needs
+
+at-days-requires-2 : tie.Need-at-days-requires-2
+at-days-requires-2 c κs = search needs
+
+at-inner-requires-10 : tie.Need-at-inner-requires-10
+at-inner-requires-10 c κs = search needs
+
+enum-told-24 : tie.Need-enum-told-24
+enum-told-24 c = search needs
 
 returns : tie.Need-returns
 unfolding tree ward
-returns c = ap tree (c .sized .ensures) ∙ after-at (c .before .before .before .args .c) (c .before .before .before .args .v) (c .before .match .keys1)
+returns c = ap tree (c .sized .ensures) ∙ after-at _ _ (c .before .enum-told .given .1)
 
 returns-2 : tie.Need-returns-2
-unfolding tree ward
-returns-2 c = ap tree (c .sized2 .ensures) ∙ after-at (c .before .before .before .args .c) (c .before .before .before .args .v) (c .before .match .keys2)
+unfolding tree
+returns-2 c = ap tree (c .sized2 .ensures) ∙ after-at _ _ (c .before .enum-told2 .given .1)
 
 returns-3 : tie.Need-returns-3
-unfolding tree ward
-returns-3 c = ap tree (c .sized3 .ensures) ∙ after-at (c .before .before .before .args .c) (c .before .before .before .args .v) (c .before .match .keys3)
+unfolding tree
+returns-3 c = ap tree (c .sized3 .ensures) ∙ after-at _ _ (c .before .enum-told3 .given .1)
 
 returns-4 : tie.Need-returns-4
-unfolding tree ward
-returns-4 c = ap tree (c .moved .ensures) ∙ after-at (c .before .before .before .args .c) (c .before .before .before .args .v) (c .before .match .keys4)
+unfolding tree
+returns-4 c = ap tree (c .moved .ensures) ∙ after-at _ _ (c .before .enum-told4 .given .1)
 
 returns-5 : tie.Need-returns-5
-unfolding tree
-returns-5 c = c .at-gaps .ensures ∙ after-at (c .before .before .before .args .c) (c .before .before .before .args .v) (c .before .match .keys5)
+returns-5 c = let at-rest = c .before in gaps-left _ _ _ (c .at-inner .ensures) (at-rest .moved2 .ensures) ∙ after-at _ _ (at-rest .before .enum-told5 .given .1)
 
 returns-6 : tie.Need-returns-6
-unfolding tree
-returns-6 c = c .at-gaps2 .ensures ∙ after-at (c .before .before .before .args .c) (c .before .before .before .args .v) (c .before .match .keys6)
+returns-6 c = let at-rest = c .before in gaps-left _ _ _ (c .at-inner2 .ensures) (at-rest .moved3 .ensures) ∙ after-at _ _ (at-rest .before .enum-told6 .given .1)
 
 returns-7 : tie.Need-returns-7
-unfolding tree ward
-returns-7 c = ap tree (c .moved2 .ensures) ∙ after-at (c .before .before .before .args .c) (c .before .before .before .args .v) (c .before .match .keys7)
+unfolding tree
+returns-7 c = ap tree (c .moved4 .ensures) ∙ after-at _ _ (c .before .enum-told7 .given .1)
 
 returns-8 : tie.Need-returns-8
-unfolding tree
-returns-8 c = c .at-weights .ensures ∙ after-at (c .before .before .before .args .c) (c .before .before .before .args .v) (c .before .match .keys8)
+returns-8 c = let at-rest = c .before in weights-left _ _ _ (c .at-inner3 .ensures) (at-rest .at-nurses .ensures) ∙ after-at _ _ (at-rest .before .enum-told8 .given .1)
 
 returns-9 : tie.Need-returns-9
-unfolding tree
-returns-9 c = c .at-weights2 .ensures ∙ after-at (c .before .before .before .args .c) (c .before .before .before .args .v) (c .before .match .keys9)
+returns-9 c = let at-rest = c .before in weights-left _ _ _ (c .at-inner4 .ensures) (at-rest .at-nurses2 .ensures) ∙ after-at _ _ (at-rest .before .enum-told9 .given .1)
 
 returns-10 : tie.Need-returns-10
-unfolding tree
-returns-10 c = c .at-duties .ensures ∙ after-at (c .before .before .before .args .c) (c .before .before .before .args .v) (c .before .match .keys10)
+returns-10 c = let at-rest = c .before in duties-left _ _ _ (c .at-inner5 .ensures) (at-rest .moved5 .ensures) ∙ after-at _ _ (at-rest .before .enum-told10 .given .1)
 
 returns-11 : tie.Need-returns-11
-unfolding tree
-returns-11 c = c .at-duties2 .ensures ∙ after-at (c .before .before .before .args .c) (c .before .before .before .args .v) (c .before .match .keys11)
+returns-11 c = let at-rest = c .before in duties-left _ _ _ (c .at-inner6 .ensures) (at-rest .moved6 .ensures) ∙ after-at _ _ (at-rest .before .enum-told11 .given .1)
 
 returns-12 : tie.Need-returns-12
-unfolding tree ward
-returns-12 c = ap tree (c .moved3 .ensures) ∙ after-at (c .before .before .before .args .c) (c .before .before .before .args .v) (c .before .match .keys12)
+unfolding tree
+returns-12 c = ap tree (c .moved7 .ensures) ∙ after-at _ _ (c .before .enum-told12 .given .1)
 
 returns-13 : tie.Need-returns-13
-unfolding tree ward
-returns-13 c = ap tree (c .moved4 .ensures) ∙ after-at (c .before .before .before .args .c) (c .before .before .before .args .v) (c .before .match .keys13)
+unfolding tree
+returns-13 c = ap tree (c .moved8 .ensures) ∙ after-at _ _ (c .before .enum-told13 .given .1)
 
 returns-14 : tie.Need-returns-14
-unfolding tree ward
-returns-14 c = ap tree (c .moved5 .ensures) ∙ after-at (c .before .before .before .args .c) (c .before .before .before .args .v) (c .before .match .keys14)
+unfolding tree
+returns-14 c = ap tree (c .moved9 .ensures) ∙ after-at _ _ (c .before .enum-told14 .given .1)
 
 returns-15 : tie.Need-returns-15
-unfolding tree
-returns-15 c = c .at-marks .ensures ∙ after-at (c .before .before .before .args .c) (c .before .before .before .args .v) (c .before .match .keys15)
+returns-15 c = let at-rest = c .before in marks-left _ _ _ (c .at-inner7 .ensures) (at-rest .at-nurses3 .ensures) ∙ after-at _ _ (at-rest .before .enum-told15 .given .1)
 
 returns-16 : tie.Need-returns-16
-unfolding tree
-returns-16 c = c .at-marks2 .ensures ∙ after-at (c .before .before .before .args .c) (c .before .before .before .args .v) (c .before .match .keys16)
+returns-16 c = let at-rest = c .before in marks-left _ _ _ (c .at-inner8 .ensures) (at-rest .at-nurses4 .ensures) ∙ after-at _ _ (at-rest .before .enum-told16 .given .1)
 
 returns-17 : tie.Need-returns-17
-unfolding tree
-returns-17 c = c .at-groups .ensures ∙ after-at (c .before .before .before .args .c) (c .before .before .before .args .v) (c .before .match .keys17)
+returns-17 c = c .at-groups .ensures ∙ after-at _ _ (c .before .enum-told17 .given .1)
 
 returns-18 : tie.Need-returns-18
-unfolding tree ward
-returns-18 c = ap tree (c .moved6 .ensures) ∙ after-at (c .before .before .before .args .c) (c .before .before .before .args .v) (c .before .match .keys18)
+unfolding tree
+returns-18 c = ap tree (c .moved10 .ensures) ∙ after-at _ _ (c .before .enum-told18 .given .1)
 
 returns-19 : tie.Need-returns-19
-unfolding tree
-returns-19 c = c .at-bounds .ensures ∙ after-at (c .before .before .before .args .c) (c .before .before .before .args .v) (c .before .match .keys19)
+returns-19 c = let at-rest = c .before in bounds-left _ _ _ (c .at-inner9 .ensures) (at-rest .at-days .ensures) ∙ after-at _ _ (at-rest .before .enum-told19 .given .1)
 
 returns-20 : tie.Need-returns-20
-unfolding tree ward
-returns-20 c = ap tree (c .moved7 .ensures) ∙ after-at (c .before .before .before .args .c) (c .before .before .before .args .v) (c .before .match .keys20)
+unfolding tree
+returns-20 c = ap tree (c .moved11 .ensures) ∙ after-at _ _ (c .before .enum-told20 .given .1)
 
 returns-21 : tie.Need-returns-21
-unfolding tree ward
-returns-21 c = ap tree (c .moved8 .ensures) ∙ after-at (c .before .before .before .args .c) (c .before .before .before .args .v) (c .before .match .keys21)
+unfolding tree
+returns-21 c = ap tree (c .moved12 .ensures) ∙ after-at _ _ (c .before .enum-told21 .given .1)
 
 returns-22 : tie.Need-returns-22
-unfolding tree ward
-returns-22 c = ap tree (c .moved9 .ensures) ∙ after-at (c .before .before .before .args .c) (c .before .before .before .args .v) (c .before .match .keys22)
+unfolding tree
+returns-22 c = ap tree (c .moved13 .ensures) ∙ after-at _ _ (c .before .enum-told22 .given .1)
 
 returns-23 : tie.Need-returns-23
-unfolding tree
-returns-23 c = c .at-bounds2 .ensures ∙ after-at (c .before .before .before .args .c) (c .before .before .before .args .v) (c .before .match .keys23)
+returns-23 c = let at-rest = c .before in bounds-left _ _ _ (c .at-inner10 .ensures) (at-rest .at-days2 .ensures) ∙ after-at _ _ (at-rest .before .enum-told23 .given .1)
 
 returns-24 : tie.Need-returns-24
-returns-24 c = let h = past 23 _ (c .match .rest) in
-    sym (ended _ h) ∙ ap (λ g. after g (c .before .before .args .v)) (ended (c .before .before .args .c) h)
+returns-24 c = ended _ _ (c .enum-told24 .given .1)
 
 pub step-spec : {M : Type 1} → statement M
 step-spec =
     tie.close
     (tie.spec
+    enum-told
     sized-requires
+    enum-told-2
     sized-requires-2
+    enum-told-3
     sized-requires-3
+    enum-told-4
     moved-requires
-    at-gaps-requires
-    at-gaps-requires-2
+    enum-told-5
     moved-requires-2
-    at-weights-requires
-    at-weights-requires-2
-    at-duties-requires
-    at-duties-requires-2
+    at-inner-requires
+    enum-told-6
     moved-requires-3
+    at-inner-requires-2
+    enum-told-7
     moved-requires-4
+    enum-told-8
+    at-nurses-requires
+    at-inner-requires-3
+    enum-told-9
+    at-nurses-requires-2
+    at-inner-requires-4
+    enum-told-10
     moved-requires-5
-    at-marks-requires
-    at-marks-requires-2
-    at-groups-requires
+    at-inner-requires-5
+    enum-told-11
     moved-requires-6
-    at-bounds-requires
+    at-inner-requires-6
+    enum-told-12
     moved-requires-7
+    enum-told-13
     moved-requires-8
+    enum-told-14
     moved-requires-9
-    at-bounds-requires-2
+    enum-told-15
+    at-nurses-requires-3
+    at-inner-requires-7
+    enum-told-16
+    at-nurses-requires-4
+    at-inner-requires-8
+    enum-told-17
+    at-groups-requires
+    enum-told-18
+    moved-requires-10
+    enum-told-19
+    at-days-requires
+    at-inner-requires-9
+    enum-told-20
+    moved-requires-11
+    enum-told-21
+    moved-requires-12
+    enum-told-22
+    moved-requires-13
+    enum-told-23
+    at-days-requires-2
+    at-inner-requires-10
+    enum-told-24
     returns
     returns-2
     returns-3
