@@ -4,13 +4,14 @@ use mathlib.Core.Bool.{Bool, true, false, cond}
 use mathlib.Core.Logic.{_⊎_, inl, inr}
 use mathlib.Core.List.{List, [], _++_}
 use Prim.Native.Nat.{ℕ, zero, suc, _+_, _-_, _*_, _/_, _%_, _^_, _≤_, _<_}
-use native.Mathlib.Nat.{add-comm, pow-suc, mul-comm, mul-assoc, add-mul, one-mul, zero-mul, eq-or-lt-of-le}
+use native.Mathlib.Nat.{add-comm, zero-mul, eq-or-lt-of-le}
 use native.Mathlib.Numerals.{add-one}
 use native.Mathlib.Omega.{arith}
 use lib.Pow.{high, shl-shr, pow-pos}
 use Rattle.numbers.specs.Range.{upFrom, keep}
 use Rattle.numbers.specs.Digits.{has}
-use Rattle.numbers.proofs.RangeLaws.{range-add, keep-append, and-parts}
+use Rattle.numbers.proofs.RangeLaws.{and-parts}
+use Rattle.numbers.proofs.HalfLaws.{pow-twice, low-half, high-half, keep-halves}
 use Rattle.numbers.proofs.AgreeLaws.{keep-none, high-agree}
 use Rattle.days.specs.CodeMonth.{dutyAt, ruleOf, restOn}
 use Rattle.daylists.specs.CodeWalk.{stepHolds, reach, goesOn, listed}
@@ -19,26 +20,13 @@ use Rattle.days.proofs.RuleLaws.{restsFrom, rest-day, rests-done}
 use Rattle.daylists.proofs.LocalLaws.{step-same, rests-high}
 use Rattle.daylists.proofs.ReachLaws.{Bounded, never-cut, comes-to}
 
--- ---- the numbers whose first digits are A, in two halves
-
-double : (A d : ℕ) → A * 2 ^ suc d ≡ (A * 2) * 2 ^ d
-double A d = ap (λ (z : ℕ). A * z) (pow-suc 2 d ∙ mul-comm (2 ^ d) 2) ∙ sym (mul-assoc A 2 (2 ^ d))
-
-double-one : (A d : ℕ) → A * 2 ^ suc d + 2 ^ d ≡ (A * 2 + 1) * 2 ^ d
-double-one A d = ap (λ (z : ℕ). z + 2 ^ d) (double A d) ∙ sym (add-mul (A * 2) 1 (2 ^ d) ∙ ap (λ (z : ℕ). A * 2 * 2 ^ d + z) (one-mul (2 ^ d)))
+-- ---- the numbers whose first digits are A
 
 same-high : (A d x : ℕ) → A * 2 ^ d ≤ x → x < A * 2 ^ d + 2 ^ d → A * 2 ^ d / 2 ^ d ≡ x / 2 ^ d
 same-high A d x l h =
     let z : x - A * 2 ^ d < 2 ^ d = omega arith in
     let e : A * 2 ^ d + (x - A * 2 ^ d) ≡ x = omega arith in
     shl-shr A d ∙ sym (high A d z) ∙ ap (λ (y : ℕ). y / 2 ^ d) e
-
-halves : (t : ℕ → Bool) (a d : ℕ) → keep t (upFrom a (2 ^ suc d)) ≡ keep t (upFrom a (2 ^ d)) ++ keep t (upFrom (a + 2 ^ d) (2 ^ d))
-halves t a d =
-    let twice : 2 ^ suc d ≡ 2 ^ d + 2 ^ d = pow-suc 2 d ∙ omega arith in
-    ap (λ (k : ℕ). keep t (upFrom a k)) twice
-    ∙ ap (keep t) (range-add a (2 ^ d) (2 ^ d))
-    ∙ keep-append t (upFrom a (2 ^ d)) (upFrom (a + 2 ^ d) (2 ^ d))
 
 module _ (m : Month) (row : List ℕ) (b : Bounded m) where
   abbrev below : ℕ → ℕ → List ℕ
@@ -64,8 +52,7 @@ module _ (m : Month) (row : List ℕ) (b : Bounded m) where
   -- the other half has the same rests after day d
   rests-half : (d A : ℕ) → restsFrom (dutyAt row (A * 2 ^ suc d)) (m .days) (suc d) ≡ restsFrom (dutyAt row (A * 2 ^ suc d + 2 ^ d)) (m .days) (suc d)
   rests-half d A =
-      let twice : 2 ^ suc d ≡ 2 ^ d + 2 ^ d = pow-suc 2 d ∙ omega arith in
-      rests-high row (m .days) (suc d) (A * 2 ^ suc d) (A * 2 ^ suc d + 2 ^ d) (same-high A (suc d) (A * 2 ^ suc d + 2 ^ d) (omega arith) (omega (arith, pow-pos d)))
+      rests-high row (m .days) (suc d) (A * 2 ^ suc d) (A * 2 ^ suc d + 2 ^ d) (same-high A (suc d) (A * 2 ^ suc d + 2 ^ d) (omega arith) (omega (arith, pow-twice d, pow-pos d)))
 
   -- the walk came here: each day from d on is as its step asks
   abbrev Came : ℕ → ℕ → Type 0
@@ -99,7 +86,7 @@ module _ (m : Month) (row : List ℕ) (b : Bounded m) where
       → (t ≡ false → below (suc d) (A * 2 ^ suc d) ≡ [])
       → (L H : List ℕ) → (t ≡ true → (L ≡ below d (A * 2 ^ suc d)) × (H ≡ below d (A * 2 ^ suc d + 2 ^ d)))
       → cond (goesOn m row (suc d) (A * 2 ^ suc d) r) (L ++ H) [] ≡ below (suc d) (A * 2 ^ suc d)
-  node-is d A r true e f L H g = rw e (ap₂ _++_ (g refl .0) (g refl .1) ∙ sym (halves (ruleOf m row) (A * 2 ^ suc d) d))
+  node-is d A r true e f L H g = rw e (ap₂ _++_ (g refl .0) (g refl .1) ∙ sym (keep-halves (ruleOf m row) (A * 2 ^ suc d) d))
   node-is d A r false e f L H g = rw e (sym (f refl))
 
   listed-is : (d A r : ℕ) → d ≤ m .days → Came (suc d) (A * 2 ^ d) → A * 2 ^ d + 2 ^ d ≤ 2 ^ m .days → r ≡ restsFrom (dutyAt row (A * 2 ^ d)) (m .days) d
@@ -112,15 +99,12 @@ module _ (m : Month) (row : List ℕ) (b : Bounded m) where
       (listed m row d (A * 2 ^ suc d + 2 ^ d) (r + restOn row (A * 2 ^ suc d + 2 ^ d) d))
       (λ g.
       let came = came-next (suc d) (A * 2 ^ suc d) r l f g in
-      let high = same-high A (suc d) (A * 2 ^ suc d + 2 ^ d) (omega arith) (omega (arith, twice, pow-pos d)) in (
-        at (A * 2 ^ suc d) (A * 2) (double A d) came (omega (arith, twice)) (rests-on d (A * 2 ^ suc d) r (omega arith) e) (listed-is d (A * 2)),
-        at (A * 2 ^ suc d + 2 ^ d) (A * 2 + 1) (double-one A d) (came-on (suc d) (A * 2 ^ suc d) (A * 2 ^ suc d + 2 ^ d) high came) (omega (arith, twice))
+      let high = same-high A (suc d) (A * 2 ^ suc d + 2 ^ d) (omega arith) (omega (arith, pow-twice d, pow-pos d)) in (
+        at (A * 2 ^ suc d) (A * 2) (low-half d A) came (omega (arith, pow-twice d)) (rests-on d (A * 2 ^ suc d) r (omega arith) e) (listed-is d (A * 2)),
+        at (A * 2 ^ suc d + 2 ^ d) (A * 2 + 1) (high-half d A) (came-on (suc d) (A * 2 ^ suc d) (A * 2 ^ suc d + 2 ^ d) high came) (omega (arith, pow-twice d))
             (rests-on d (A * 2 ^ suc d + 2 ^ d) r (omega arith) (e ∙ rests-half d A)) (listed-is d (A * 2 + 1)),
       ))
     where
-      twice : 2 ^ suc d ≡ 2 ^ d + 2 ^ d
-      twice = pow-suc 2 d ∙ omega arith
-
       at : (a B : ℕ) → a ≡ B * 2 ^ d → Came (suc d) a → a + 2 ^ d ≤ 2 ^ m .days → r + restOn row a d ≡ restsFrom (dutyAt row a) (m .days) d
           → ((r : ℕ) → d ≤ m .days → Came (suc d) (B * 2 ^ d) → B * 2 ^ d + 2 ^ d ≤ 2 ^ m .days → r ≡ restsFrom (dutyAt row (B * 2 ^ d)) (m .days) d
           → listed m row d (B * 2 ^ d) r ≡ below d (B * 2 ^ d))

@@ -13,9 +13,9 @@ use lib.Bits.{bitOr}
 use lib.Pow.{shr-shr, shl-shr}
 use Rattle.numbers.specs.Range.{upFrom, all}
 use Rattle.numbers.specs.Digits.{has, bit}
-use Rattle.numbers.proofs.RangeLaws.{and-parts, length-range}
+use Rattle.numbers.proofs.RangeLaws.{and-parts, length-range, range-all, range-each}
 use Rattle.numbers.proofs.DigitLaws.{bit-above, bit-lt, bit-of-zero}
-use Rattle.numbers.proofs.AgreeLaws.{all-in, all-made, keep-le, low-agree, field-agree, has-moved-down, or-left, or-right}
+use Rattle.numbers.proofs.AgreeLaws.{keep-le, low-agree, field-agree, has-moved-down, has-or-left, has-or-right}
 use Rattle.rows.specs.Rows.{started}
 use Rattle.days.specs.Days.{isRest, windowsHold, rests}
 use Rattle.days.specs.CodeMonth.{Small, inBounds, dutyAt, choiceOf, ruleOf, restOn}
@@ -41,7 +41,7 @@ record Meets (m : Month) (row : List ℕ) (q : ℕ) : Type 0 where
 chosen-in : (m : Month) (q : ℕ) → all (λ e. cond (started q e) (started (m .free) e) (not (started (m .fixed) e))) (upFrom 1 (m .days)) ≡ true
     → (d : ℕ) → d < m .days → cond (has q d) (has (m .free) d) (not (has (m .fixed) d)) ≡ true
 chosen-in m q e d h =
-    all-in (λ e. cond (started q e) (started (m .free) e) (not (started (m .fixed) e))) 1 (m .days) (suc d) e (omega arith) (omega arith)
+    range-each (λ e. cond (started q e) (started (m .free) e) (not (started (m .fixed) e))) 1 (m .days) e (suc d) (omega arith) (omega arith)
 
 meets : (m : Month) (row : List ℕ) (q : ℕ) → ruleOf m row q ≡ true → Meets m row q
 unfolding ruleOf choiceOf
@@ -52,7 +52,7 @@ meets m row q e =
     record {
       below = ltb-true q (2 ^ m .days) (b .0);
       chosen = chosen-in m q (b .1);
-      windows = λ t l h. all-in (windowsHold (dutyAt row q) (m .longest)) 7 (m .days) t (c .0) l h;
+      windows = λ t l h. range-each (windowsHold (dutyAt row q) (m .longest)) 7 (m .days) (c .0) t l h;
       bounds = c .1;
     }
 
@@ -90,7 +90,7 @@ module _ (m : Month) (row : List ℕ) (b : Bounded m) (q : ℕ) (y : Meets m row
   -- the six first days alone
   first-windows : all (windowsHold (dutyAt row (q / 2 ^ 0 % 64)) (m .longest)) (upFrom 7 (min 6 (m .days))) ≡ true
   first-windows =
-      all-made (windowsHold (dutyAt row (q / 2 ^ 0 % 64)) (m .longest)) 7 (min 6 (m .days))
+      range-all (windowsHold (dutyAt row (q / 2 ^ 0 % 64)) (m .longest)) 7 (min 6 (m .days))
       (λ t l h. windows-same (dutyAt row (q / 2 ^ 0 % 64)) (dutyAt row q) (m .longest) t (b .small .short) (omega arith)
       (λ u i k. duty-same row (q / 2 ^ 0 % 64) q u (λ g. first-days (u - 7) (omega arith)))
       ∙ y .windows t l (omega arith))
@@ -144,10 +144,10 @@ module _ (m : Month) (row : List ℕ) (b : Bounded m) (q : ℕ) (y : Meets m row
   either-made : (d : ℕ) → d < m .days → (f : ℕ → ℕ) → has (f (q / 2 ^ d % 64)) (restsFrom (dutyAt row q) (m .days) d) ≡ true → (c : Bool) → has q d ≡ c
       → has (bitOr (branch m row f d (q / 2 ^ suc d % 64 * 2 ^ suc d)) (branch m row f d (q / 2 ^ suc d % 64 * 2 ^ suc d + 2 ^ d))) (restsFrom (dutyAt row q) (m .days) (d + 1)) ≡ true
   either-made d l f h true e =
-      or-right (branch m row f d (q / 2 ^ suc d % 64 * 2 ^ suc d)) (branch m row f d (q / 2 ^ suc d % 64 * 2 ^ suc d + 2 ^ d)) (restsFrom (dutyAt row q) (m .days) (d + 1))
+      has-or-right (branch m row f d (q / 2 ^ suc d % 64 * 2 ^ suc d)) (branch m row f d (q / 2 ^ suc d % 64 * 2 ^ suc d + 2 ^ d)) (restsFrom (dutyAt row q) (m .days) (d + 1))
       (branch-made d (q / 2 ^ suc d % 64 * 2 ^ suc d + 2 ^ d) (seven d true e) l f h)
   either-made d l f h false e =
-      or-left (branch m row f d (q / 2 ^ suc d % 64 * 2 ^ suc d)) (branch m row f d (q / 2 ^ suc d % 64 * 2 ^ suc d + 2 ^ d)) (restsFrom (dutyAt row q) (m .days) (d + 1))
+      has-or-left (branch m row f d (q / 2 ^ suc d % 64 * 2 ^ suc d)) (branch m row f d (q / 2 ^ suc d % 64 * 2 ^ suc d + 2 ^ d)) (restsFrom (dutyAt row q) (m .days) (d + 1))
       (branch-made d (q / 2 ^ suc d % 64 * 2 ^ suc d) (sym (add-zero (q / 2 ^ suc d % 64 * 2 ^ suc d)) ∙ seven d false e) l f h)
 
   -- the table's counts have her own
@@ -185,7 +185,7 @@ module _ (m : Month) (row : List ℕ) (b : Bounded m) (a r : ℕ) (below : a < 2
   unfolding choiceOf
   choice-comes =
       rw (lt-ltb a (2 ^ m .days) below)
-      (all-made (λ e. cond (started a e) (started (m .free) e) (not (started (m .fixed) e))) 1 (m .days) chosen-each)
+      (range-all (λ e. cond (started a e) (started (m .free) e) (not (started (m .fixed) e))) 1 (m .days) chosen-each)
 
   -- the table's first row
   abbrev firsts : Bool
@@ -203,7 +203,7 @@ module _ (m : Month) (row : List ℕ) (b : Bounded m) (a r : ℕ) (below : a < 2
   early t l h k =
       windows-same (dutyAt row a) (dutyAt row (a / 2 ^ 0 % 64)) (m .longest) t (b .small .short) (omega arith)
       (λ u i j. duty-same row a (a / 2 ^ 0 % 64) u (λ g. sym (ap (λ (x : ℕ). has (x % 64) (u - 7)) (div-one a) ∙ low-agree a 6 (u - 7) (omega arith))))
-      ∙ all-in (windowsHold (dutyAt row (a / 2 ^ 0 % 64)) (m .longest)) 7 (min 6 (m .days)) t (begins .0) l (omega arith)
+      ∙ range-each (windowsHold (dutyAt row (a / 2 ^ 0 % 64)) (m .longest)) 7 (min 6 (m .days)) (begins .0) t l (omega arith)
 
   late : (d : ℕ) → d + 7 ≤ m .days → windowsHold (dutyAt row a) (m .longest) (d + 13) ≡ true
   unfolding stepHolds
@@ -230,4 +230,4 @@ module _ (m : Month) (row : List ℕ) (b : Bounded m) (a r : ℕ) (below : a < 2
 
   pub comes-to : ruleOf m row a ≡ true
   unfolding ruleOf
-  comes-to = rw (choice-comes, all-made (windowsHold (dutyAt row a) (m .longest)) 7 (m .days) windows-come) rests-come
+  comes-to = rw (choice-comes, range-all (windowsHold (dutyAt row a) (m .longest)) 7 (m .days) windows-come) rests-come

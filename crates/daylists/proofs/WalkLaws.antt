@@ -3,7 +3,7 @@ use mathlib.Core.Path.{_≡_, refl, sym, ap, ap₂, _∙_}
 use mathlib.Core.Bool.{Bool, true, false, cond, not}
 use mathlib.Core.List.{List, [], _∷_, _++_}
 use Prim.Native.Nat.{ℕ, zero, suc, _+_, _-_, _*_, _/_, _%_, _^_, _≤_, _<_, min}
-use native.Mathlib.Nat.{pow-suc, mod-lt, zero-lt-suc}
+use native.Mathlib.Nat.{mod-lt, zero-lt-suc}
 use native.Mathlib.Numerals.{sub-one}
 use native.Mathlib.Omega.{arith}
 use borrow.Author.Tests.{lt-ltb, le-ltb}
@@ -11,16 +11,13 @@ use lib.Bits.{bitOr}
 use lib.ListN.{length, getD, set, length-append}
 use Rattle.numbers.specs.Range.{upFrom, all}
 use Rattle.numbers.specs.Digits.{has}
+use Rattle.numbers.proofs.HalfLaws.{pow-half}
 use Rattle.days.specs.Days.{windowsHold}
 use Rattle.days.specs.CodeMonth.{dutyAt, restOn}
 use Rattle.daylists.specs.CodeWalk.{Filled, stepHolds, branch, reach, goesOn, listed, listedAt, Next, Inside}
 use Rattle.days.specs.declared.month.Month.{Month}
 use Rattle.daylists.specs.declared.walk.Point.{Point}
 use Rattle.days.proofs.MonthLaws.{place-turn}
-
-pub pow-half : (n : ℕ) → (n ≡ 0 → ⊥) → 2 ^ n ≡ 2 ^ (n - 1) + 2 ^ (n - 1)
-pow-half zero f = absurd (f refl)
-pow-half (suc d) f = rw (sub-one (suc d), pow-suc 2 d) (omega arith)
 
 module _ (m : Month) (row : List ℕ) where
   -- ---- one day

@@ -1,7 +1,7 @@
 -- Laws of the day rule over a row: what each loop over places or days has left.
 use mathlib.Core.Path.{_≡_, sym, ap, _∙_}
 use mathlib.Core.Bool.{Bool, true, false, cond, not, _&&_, and-true}
-use mathlib.Core.List.{List, [], _∷_, map}
+use mathlib.Core.List.{List, _∷_, map}
 use Prim.Native.Nat.{ℕ, suc, _+_, _-_, _≤_, _<_, _^_}
 use native.Mathlib.Nat.{sub-zero}
 use native.Mathlib.Numerals.{add-one}
@@ -14,8 +14,8 @@ use Rattle.numbers.specs.Range.{upFrom, keep, all}
 use Rattle.numbers.specs.Sum.{oneIf}
 use Rattle.numbers.specs.Digits.{has}
 use Rattle.rows.specs.Rows.{started}
-use Rattle.numbers.proofs.RangeLaws.{range-turn, range-done}
-use Rattle.days.specs.Days.{inRun, isRest, anyOf, same, window, freeOf, windowsHold, rests}
+use Rattle.numbers.proofs.RangeLaws.{range-next, range-turn, range-done, length-kept}
+use Rattle.days.specs.Days.{inRun, isRest, alternating, anyOf, same, window, freeOf, windowsHold, rests}
 use Rattle.days.specs.CodeMonth.{dutyAt, choiceOf, inBounds, restOn, ruleOf}
 use Rattle.days.specs.declared.month.Month.{Month}
 
@@ -36,16 +36,7 @@ duty-idle row q t h e = rw (le-ltb t 7 h, e)
 -- ---- the places from u to t
 
 places-turn : (t u : ℕ) → u ≤ t → upFrom u (suc t - u) ≡ u ∷ upFrom (u + 1) (suc t - (u + 1))
-unfolding upFrom
-places-turn t u h =
-    let e : suc t - u ≡ suc (suc t - (u + 1)) = omega arith in
-    rw (e, add-one u)
-
-places-done : (t u : ℕ) → t < u → upFrom u (suc t - u) ≡ []
-unfolding upFrom
-places-done t u h =
-    let e : suc t - u ≡ 0 = omega arith in
-    rw e
+places-turn t u h = range-next u (u + 1) (suc t) u (omega arith) (omega arith)
 
 module _ (f : ℕ → ℕ) (t : ℕ) where
   places-start : (k : ℕ) → k ≤ t → window f (suc k) t ≡ map f (upFrom (t - k) (suc t - (t - k)))
@@ -71,7 +62,7 @@ module _ (f : ℕ → ℕ) (t : ℕ) where
 
   pub run-done : (u : ℕ) → t < u → runFrom u ≡ true
   unfolding all
-  run-done u h = rw (places-done t u h)
+  run-done u h = rw (range-done u (suc t) u h)
 
   -- a rest
   abbrev pub restFrom : ℕ → Bool
@@ -90,7 +81,7 @@ module _ (f : ℕ → ℕ) (t : ℕ) where
 
   pub rest-done : (u : ℕ) → t < u → restFrom u ≡ false
   unfolding anyOf
-  rest-done u h = rw (places-done t u h)
+  rest-done u h = rw (range-done u (suc t) u h)
 
 -- ---- a sequence that ends at place t: what is left of it from its j-th duty on, its first at place a
 
@@ -99,11 +90,7 @@ sameFrom f s a j = same (drop j s) (map f (upFrom (a + j) (length s - j)))
 
 module _ (f : ℕ → ℕ) (s : List ℕ) (a j : ℕ) where
   sequence-turn : j < length s → upFrom (a + j) (length s - j) ≡ (a + j) ∷ upFrom (a + (j + 1)) (length s - (j + 1))
-  unfolding upFrom
-  sequence-turn h =
-      let e : length s - j ≡ suc (length s - (j + 1)) = omega arith in
-      let g : suc (a + j) ≡ a + (j + 1) = omega arith in
-      rw (e, g)
+  sequence-turn h = range-next (a + j) (a + (j + 1)) (length s) j (omega arith) h
 
   both-on : {x : ℕ} → j < length s → x ≡ f (a + j) → sameFrom f s a j ≡ (eqb (getD s j 0) x && sameFrom f s a (j + 1))
   unfolding same
@@ -116,15 +103,13 @@ module _ (f : ℕ → ℕ) (s : List ℕ) (a j : ℕ) where
   same-no {x} h e g = both-on h e ∙ rw (ne-eqb (getD s j 0) x g)
 
   pub same-done : length s ≤ j → sameFrom f s a j ≡ true
-  unfolding upFrom same
-  same-done h =
-      let e : length s - j ≡ 0 = omega arith in
-      rw (drop-of-length-le s {i = j} h, e)
+  unfolding same
+  same-done h = rw (drop-of-length-le s {i = j} h, range-done (a + j) (length s) j h)
 
-pub same-start : (f : ℕ → ℕ) (t : ℕ) → 4 ≤ t → same (0 ∷ 1 ∷ 0 ∷ 1 ∷ 0 ∷ []) (window f 5 t) ≡ sameFrom f (0 ∷ 1 ∷ 0 ∷ 1 ∷ 0 ∷ []) (t - 4) 0
+pub same-start : (f : ℕ → ℕ) (t : ℕ) → 4 ≤ t → same alternating (window f 5 t) ≡ sameFrom f alternating (t - 4) 0
 same-start f t h =
     let e : suc t - 5 ≡ t - 4 + 0 = omega arith in
-    ap (λ (x : ℕ). same (0 ∷ 1 ∷ 0 ∷ 1 ∷ 0 ∷ []) (map f (upFrom x 5))) e
+    ap (λ (x : ℕ). same alternating (map f (upFrom x 5))) e
 
 -- ---- the days of the month after the first d of n, by their places
 
@@ -132,17 +117,7 @@ abbrev pub placesFrom : ℕ → ℕ → List ℕ
 placesFrom n d = upFrom (d + 7) (n - d)
 
 pub days-turn : (n d : ℕ) → d < n → placesFrom n d ≡ (d + 7) ∷ placesFrom n (d + 1)
-unfolding upFrom
-days-turn n d h =
-    let e : n - d ≡ suc (n - (d + 1)) = omega arith in
-    let g : suc (d + 7) ≡ d + 1 + 7 = omega arith in
-    rw (e, g)
-
-pub days-done : (n d : ℕ) → n ≤ d → placesFrom n d ≡ []
-unfolding upFrom
-days-done n d h =
-    let e : n - d ≡ 0 = omega arith in
-    rw e
+days-turn n d h = range-next (d + 7) (d + 1 + 7) n d (omega arith) h
 
 pub days-all : (n : ℕ) → upFrom 7 n ≡ placesFrom n 0
 days-all n = ap (λ (k : ℕ). upFrom 7 k) (sym (sub-zero n))
@@ -161,16 +136,12 @@ module _ (t : ℕ → Bool) (n : ℕ) where
 
   pub all-done : (d : ℕ) → n ≤ d → all t (placesFrom n d) ≡ true
   unfolding all
-  all-done d h = rw (days-done n d h)
+  all-done d h = rw (range-done (d + 7) n d h)
 
 -- ---- the rests
 
 abbrev pub restsFrom : (ℕ → ℕ) → ℕ → ℕ → ℕ
 restsFrom f n d = length (keep (λ t. isRest (f t)) (placesFrom n d))
-
-length-kept : (b : Bool) (x : ℕ) (xs : List ℕ) → length (cond b (x ∷ xs) xs) ≡ oneIf b + length xs
-length-kept true x xs = omega arith
-length-kept false x xs = omega arith
 
 pub rests-start : (f : ℕ → ℕ) (n : ℕ) → rests f n ≡ restsFrom f n 0
 unfolding rests
@@ -182,7 +153,7 @@ rests-turn f n d h = rw (days-turn n d h) (length-kept (isRest (f (d + 7))) (d +
 
 pub rests-done : (f : ℕ → ℕ) (n d : ℕ) → n ≤ d → restsFrom f n d ≡ 0
 unfolding keep
-rests-done f n d h = rw (days-done n d h)
+rests-done f n d h = rw (range-done (d + 7) n d h)
 
 pub rest-day : (row : List ℕ) (q n d : ℕ) → d < n → restsFrom (dutyAt row q) n d ≡ restOn row q d + restsFrom (dutyAt row q) n (d + 1)
 unfolding restOn
@@ -212,7 +183,7 @@ module _ (m : Month) (q d : ℕ) where
 
   pub choice-done : m .days ≤ d → choiceFrom m q d ≡ true
   unfolding all
-  choice-done h = rw (range-done (m .days) d h)
+  choice-done h = rw (range-done (suc d) (m .days) d h)
 
 -- ---- a rest on one day
 
@@ -237,7 +208,7 @@ module _ (f : ℕ → ℕ) (longest t : ℕ) where
   hold-unrested e y g z = rw (← e, y, ← g, z)
 
   pub hold-rested : {v x s : Bool} → v ≡ all inRun (window f (suc longest) t) → v ≡ false → x ≡ anyOf isRest (window f 7 t) → x ≡ true
-      → s ≡ same (0 ∷ 1 ∷ 0 ∷ 1 ∷ 0 ∷ []) (window f 5 t) → not s ≡ windowsHold f longest t
+      → s ≡ same alternating (window f 5 t) → not s ≡ windowsHold f longest t
   unfolding windowsHold freeOf
   hold-rested {s = s} e y g z k = rw (← e, y, ← g, z, ← k) (sym (and-true (not s)))
 

@@ -10,9 +10,9 @@ use lib.Dec.{ltb, eqb}
 use lib.ListN.{length, take, drop}
 use Rattle.numbers.specs.Range.{upFrom, all, Exactly}
 use Rattle.numbers.specs.Digits.{has}
-use Rattle.numbers.proofs.RangeLaws.{and-parts, kept-exactly}
+use Rattle.numbers.proofs.RangeLaws.{and-parts, range-each, kept-exactly}
 use Rattle.numbers.proofs.DigitLaws.{number-has, bit-of-zero}
-use Rattle.numbers.proofs.AgreeLaws.{all-agree, keep-agree, all-in}
+use Rattle.numbers.proofs.AgreeLaws.{all-agree, keep-agree}
 use Rattle.fields.specs.Fields.{Accepted, days, nurses, block, blockAt, duty, leastRestsOf, mostRestsOf, markOn}
 use Rattle.rows.specs.Rows.{started, rowState, available, availableOn, fixedDay, dutyOf, dutyOn}
 use Rattle.days.specs.Days.{choice, rowDuty, isRest, windowsHold, rests, dayRule, dayRuleOf, dayList}
@@ -36,6 +36,13 @@ idle-duty : (b : List ℕ) (p q d : ℕ) → has q d ≡ false → dutyOn b p q 
 unfolding dutyOn
 idle-duty b p q d h = rw (h, bit-of-zero d)
 
+-- a day pattern's days are available ones
+pub choice-available : (b : List ℕ) (n p q d : ℕ) → choice b n p q ≡ true → d < n → has q d ≡ true → availableOn b p (suc d) ≡ true
+unfolding choice
+choice-available b n p q d c l h =
+    let a = range-each (λ e. cond (started q e) (availableOn b p e) (not (eqb (markOn b e) 2))) 1 n (and-parts (ltb q (2 ^ n)) _ c .1) (suc d) (omega arith) (omega arith) in
+    rw h at a
+
 -- ---- the month of a nurse: D and the days are those of her sheet
 
 module _ (b : List ℕ) (p : ℕ) (m : Month) (row : List ℕ) (s : IsSheet b (m .days) (m .longest) p m row) (short : m .longest ≤ 6) (q : ℕ) where
@@ -56,14 +63,8 @@ module _ (b : List ℕ) (p : ℕ) (m : Month) (row : List ℕ) (s : IsSheet b (m
 
   -- where q is a choice, the row with its days worked is that of the sheet
   module _ (c : choice b (m .days) p q ≡ true) where
-    chosen-at : (d : ℕ) → d < m .days → has q d ≡ true → availableOn b p (suc d) ≡ true
-    unfolding choice
-    chosen-at d l h =
-        let a = all-in (λ e. cond (started q e) (availableOn b p e) (not (eqb (markOn b e) 2))) 1 (m .days) (suc d) (and-parts (ltb q (2 ^ m .days)) _ c .1) (omega arith) (omega arith) in
-        rw h at a
-
     month-duty : (d : ℕ) → d < m .days → (x : Bool) → has q d ≡ x → dutyOn b p q (suc d) ≡ cond (has q d) 1 (dutyOn b p 0 (suc d))
-    month-duty d l true h = worked-duty b p q d h (chosen-at d l h) ∙ rw h
+    month-duty d l true h = worked-duty b p q d h (choice-available b (m .days) p q d c l h) ∙ rw h
     month-duty d l false h = idle-duty b p q d h ∙ rw h
 
     duty-is : (t : ℕ) → t < 7 + m .days → rowDuty b p q t ≡ dutyAt row q t

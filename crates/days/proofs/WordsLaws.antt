@@ -1,7 +1,7 @@
 -- The test `dayRule` says yes exactly when the day rule of document 01 holds.
 use mathlib.Core.Path.{_≡_, refl, sym, ap, ap₂, _∙_, subst}
 use mathlib.Core.Logic.{_↔_, _≢_, ⊎-elim}
-use mathlib.Core.Bool.{Bool, true, false, cond, not, _&&_, _||_, true≢false, false≢true}
+use mathlib.Core.Bool.{Bool, true, false, cond, not, _&&_, _||_, or-true, true≢false, false≢true}
 use mathlib.Core.List.{List, [], _∷_, map, List·Memᴰ, List·Memᴰ·head, List·Memᴰ·tail, List·Memᴰ·not-nil, List·Memᴰ·cases-cons}
 use Prim.Native.Nat.{ℕ, zero, suc, _+_, _-_, _^_, _≤_, _<_}
 use native.Mathlib.Nat.{eq-or-lt-of-le}
@@ -15,10 +15,6 @@ use Rattle.fields.specs.Fields.{leastRestsOf, mostRestsOf, markOn}
 use Rattle.rows.specs.Rows.{started, availableOn}
 use Rattle.days.specs.Days.{choice, rowDuty, window, inRun, isRest, forbidden, same, anyOf, freeOf, windowsHold, rests, dayRule}
 use Rattle.days.specs.DayRule.{Among, RowRule, DayHers}
-
-or-right : (a b : Bool) → b ≡ true → (a || b) ≡ true
-or-right true b e = refl
-or-right false b e = e
 
 -- ---- two lists
 
@@ -96,11 +92,10 @@ module _ (test : ℕ → Bool) (row : ℕ → ℕ) where
   unfolding anyOf upFrom
   any-there a zero u l h e = absurd (omega arith)
   any-there a (suc n) u l h e =
-      let rest = anyOf test (map row (upFrom (suc a) n)) in
       ⊎-elim
       (λ q. let first : test (row a) ≡ true = ap (λ (x : ℕ). test (row x)) q ∙ e in
       rw first)
-      (λ q. or-right (test (row a)) rest (any-there (suc a) n u q (omega arith) e))
+      (λ q. rw (any-there (suc a) n u q (omega arith) e) (or-true (test (row a))))
       (eq-or-lt-of-le l)
 
   window-found : (k t : ℕ) → k ≤ t → anyOf test (window row (suc k) t) ≡ true → Among row k t (λ duty. test duty ≡ true)

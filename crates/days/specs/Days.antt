@@ -31,9 +31,13 @@ inRun duty = eqb duty 1
 abbrev pub isRest : ℕ → Bool
 isRest duty = eqb duty 0
 
+-- rest, day, rest, day, rest
+abbrev pub alternating : List ℕ
+alternating = 0 ∷ 1 ∷ 0 ∷ 1 ∷ 0 ∷ []
+
 -- the sequences that no row has
 abbrev pub forbidden : List (List ℕ)
-forbidden = (0 ∷ 1 ∷ 0 ∷ 1 ∷ 0 ∷ []) ∷ []
+forbidden = alternating ∷ []
 
 unfoldable pub same : List ℕ → List ℕ → Bool
 same [] [] = true

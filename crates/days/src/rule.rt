@@ -3,11 +3,10 @@ use crate::month::Month;
 use crate::month::in_bounds;
 ghost use mathlib.Core.Path.{_≡_};
 ghost use mathlib.Core.Bool.{cond, not};
-ghost use mathlib.Core.List.{[], _∷_};
 ghost use Prim.Native.Nat.{suc, _≤_, _<_};
 ghost use Rattle.numbers.specs.Range.{upFrom, all};
 ghost use Rattle.numbers.specs.Digits.{has};
-ghost use Rattle.days.specs.Days.{inRun, isRest, anyOf, same, window, windowsHold, rests};
+ghost use Rattle.days.specs.Days.{inRun, isRest, alternating, anyOf, same, window, windowsHold, rests};
 ghost use Rattle.days.specs.CodeMonth.{Small, dutyAt, choiceOf, restOn, ruleOf};
 
 // The sequence of duties that no row has: rest, day, rest, day, rest.
@@ -85,7 +84,7 @@ fn rested(row: &[u64; 38], q: u64, t: usize) -> bool
 fn is_forbidden(row: &[u64; 38], q: u64, t: usize) -> bool
     requires { ⌜ t < 38 ⌝ }
     requires { ⌜ 4 ≤ t ⌝ }
-    ensures { λ r. ⌜ r ≡ same (0 ∷ 1 ∷ 0 ∷ 1 ∷ 0 ∷ []) (window (dutyAt (now (row .entry)) q) 5 t) ⌝ }
+    ensures { λ r. ⌜ r ≡ same alternating (window (dutyAt (now (row .entry)) q) 5 t) ⌝ }
 {
     let mut j: usize = 0;
     while j < 5 {

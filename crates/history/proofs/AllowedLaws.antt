@@ -12,9 +12,10 @@ use lib.ListN.{length}
 use borrow.Author.Tests.{eqb-true, eq-eqb}
 use Rattle.history.specs.Phase.{Step, Phase, holds, exchanges, least}
 use Rattle.numbers.specs.Range.{upFrom}
+use Rattle.numbers.proofs.RangeLaws.{both-true}
 use Rattle.history.specs.History.{History, inUse, givenUp, penalty, allowed, next}
 use Rattle.history.specs.Claim.{Allowed, Least}
-use Rattle.history.proofs.TestLaws.{and-true, or-true, false-of, false-of-not, not-of-false, not-both, holds-true, holds-some, or-left, or-right, both-true}
+use Rattle.history.proofs.TestLaws.{and-true, or-true, false-of, false-of-not, not-of-false, not-both, holds-true, holds-some, or-left, or-right}
 use Rattle.history.proofs.ChooseLaws.{least-none, least-first, offers-only, offers-all, range-only, range-all}
 
 module _ (i p : ℕ) where

@@ -72,21 +72,10 @@ pub or-right : (a b : Bool) → b ≡ true → (a || b) ≡ true
 or-right true b e = refl
 or-right false b e = e
 
-pub both-true : (a b : Bool) → a ≡ true → b ≡ true → (a && b) ≡ true
-both-true a b p q = rw (p, q)
-
 pub and-assoc : (a b c : Bool) → ((a && b) && c) ≡ (a && (b && c))
 and-assoc true b c = refl
 and-assoc false b c = refl
 
-pub or-assoc : (a b c : Bool) → (a || (b || c)) ≡ ((a || b) || c)
-or-assoc true b c = refl
-or-assoc false b c = refl
-
 pub and-with-true : (a : Bool) → (a && true) ≡ a
 and-with-true true = refl
 and-with-true false = refl
-
-pub or-with-true : (a : Bool) → (a || true) ≡ true
-or-with-true true = refl
-or-with-true false = refl

@@ -4,7 +4,7 @@ use mathlib.Core.Bool.{Bool, true, false, cond, _&&_, and-false, and-true}
 use mathlib.Core.List.{List, [], _∷_, _++_}
 use mathlib.Core.Logic.{_⊎_, inl, inr}
 use Prim.Native.Nat.{ℕ, zero, suc, _+_, _-_, _*_, _/_, _%_, _^_, _≤_, _<_}
-use native.Mathlib.Nat.{pow-suc, mul-comm, mul-assoc, add-mul, one-mul, mul-one, div-one, add-zero, zero-add, zero-mul}
+use native.Mathlib.Nat.{mul-one, div-one, add-zero, zero-add, zero-mul}
 use native.Mathlib.Numerals.{add-one}
 use native.Mathlib.Omega.{arith}
 use lib.Dec.{leb, ltb, eqb, eqb·suc-zero}
@@ -16,7 +16,7 @@ use Rattle.nightlists.specs.declared.State.{State}
 use Rattle.nightlists.specs.declared.Next.{Next}
 use Rattle.nightlists.specs.declared.Next.the-variants.{To, Never}
 use Rattle.numbers.specs.Range.{upFrom, keep}
-use Rattle.numbers.proofs.RangeLaws.{range-add, keep-append}
+use Rattle.numbers.proofs.HalfLaws.{low-half, high-half, keep-halves}
 use Rattle.rows.specs.Rows.{started}
 use Rattle.fields.specs.Fields.{days}
 use Rattle.fields.specs.Rules.{rulesOf, gap}
@@ -69,19 +69,10 @@ starts-odd d k q =
 below : Rules → ℕ → ℕ → ℕ → List ℕ
 below r n d q = keep (inCommon r n) (upFrom (q * 2 ^ d) (2 ^ d))
 
-low-half : (d q : ℕ) → q * 2 ^ suc d ≡ q * 2 * 2 ^ d
-low-half d q = ap (λ (x : ℕ). q * x) (pow-suc 2 d ∙ mul-comm (2 ^ d) 2) ∙ sym (mul-assoc q 2 (2 ^ d))
-
-high-half : (d q : ℕ) → q * 2 ^ suc d + 2 ^ d ≡ (q * 2 + 1) * 2 ^ d
-high-half d q = rw (add-mul, one-mul, low-half)
-
 below-split : (r : Rules) (n d q : ℕ) → below r n (suc d) q ≡ below r n d (q * 2) ++ below r n d (q * 2 + 1)
 unfolding below
 below-split r n d q =
-    let twice : 2 ^ suc d ≡ 2 ^ d + 2 ^ d = rw (pow-suc 2 d) (omega arith) in
-    ap (λ (m : ℕ). keep (inCommon r n) (upFrom (q * 2 ^ suc d) m)) twice
-    ∙ ap (keep (inCommon r n)) (range-add (q * 2 ^ suc d) (2 ^ d) (2 ^ d))
-    ∙ keep-append (inCommon r n) (upFrom (q * 2 ^ suc d) (2 ^ d)) (upFrom (q * 2 ^ suc d + 2 ^ d) (2 ^ d))
+    keep-halves (inCommon r n) (q * 2 ^ suc d) d
     ∙ ap₂ (λ (a b : ℕ). keep (inCommon r n) (upFrom a (2 ^ d)) ++ keep (inCommon r n) (upFrom b (2 ^ d))) (low-half d q) (high-half d q)
 
 -- ---- what the walk knows of the starts that are decided

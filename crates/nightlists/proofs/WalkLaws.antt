@@ -4,7 +4,6 @@ use mathlib.Core.Bool.{true, false, cond}
 use mathlib.Core.List.{[], _∷_, _++_, append-nil}
 use Prim.Native.Nat.{ℕ, zero, suc, _+_, _-_, _^_, _≤_}
 use lib.ListN.{length, length-append}
-use native.Mathlib.Nat.{pow-suc}
 use native.Mathlib.Numerals.{sub-one}
 use native.Mathlib.Omega.{arith}
 use Rattle.fields.specs.declared.rules.Rules.{Rules}
@@ -37,10 +36,6 @@ node-to r left a s t f h = listed-node r left a s f ∙ rw h
 
 pub node-never : (r : Rules) (left a : ℕ) (s : State) → (left ≡ 0 → ⊥) → startAt r left s ≡ Never → listed r left a s ≡ listed r (left - 1) a s
 node-never r left a s f h = listed-node r left a s f ∙ rw h (append-nil _)
-
-pub pow-half : (n : ℕ) → (n ≡ 0 → ⊥) → 2 ^ n ≡ 2 ^ (n - 1) + 2 ^ (n - 1)
-pow-half zero f = absurd (f refl)
-pow-half (suc d) f = rw (sub-one (suc d), pow-suc 2 d) (omega arith)
 
 -- a node whose start adds the number b
 pub node-with : (r : Rules) (left a b : ℕ) (s t : State) → (left ≡ 0 → ⊥) → startAt r left s ≡ To t → b ≡ 2 ^ (left - 1)

@@ -8,23 +8,17 @@ use native.Mathlib.Nat.{eq-or-lt-of-le}
 use native.Mathlib.Omega.{arith}
 use lib.Dec.{leb, eqb}
 use lib.ListN.{length}
-use borrow.Author.Tests.{leb-true, leb-false, ne-eqb, lt-leb}
+use borrow.Author.Tests.{leb-true, ne-eqb, le-leb, lt-leb}
 use Rattle.numbers.specs.Range.{upFrom, keep}
 use Rattle.numbers.specs.Digits.{has}
-use Rattle.numbers.proofs.RangeLaws.{and-parts}
+use Rattle.numbers.proofs.RangeLaws.{and-parts, tests-alike}
 use Rattle.fields.specs.declared.rules.Rules.{Rules}
 use Rattle.fields.specs.Rules.{gap}
 use Rattle.rows.specs.Rows.{started}
 use Rattle.nights.specs.Nights.{allowed, runWith, follow, starts, inCommon}
 
 pub leb-same : (a b m n : ℕ) → (a ≤ b → m ≤ n) → (m ≤ n → a ≤ b) → leb a b ≡ leb m n
-leb-same a b m n f g = go (leb a b) (leb m n) refl refl
-  where
-    go : (t u : Bool) → leb a b ≡ t → leb m n ≡ u → leb a b ≡ leb m n
-    go true true e h = e ∙ sym h
-    go false false e h = e ∙ sym h
-    go true false e h = absurd (omega (arith, f (leb-true a b e), leb-false m n h))
-    go false true e h = absurd (omega (arith, g (leb-true m n h), leb-false a b e))
+leb-same a b m n f g = tests-alike (leb a b) (leb m n) (λ e. le-leb m n (f (leb-true a b e))) (λ e. le-leb a b (g (leb-true m n e)))
 
 -- the rule at the first start
 pub cond-same : (b : Bool) (x : ℕ) → cond b x x ≡ x

@@ -27,7 +27,7 @@ left-all p n = rw (sub-zero n)
 
 pub left-done : (p n d : ℕ) → n ≤ d → left p n d ≡ []
 unfolding keep
-left-done p n d h = rw (range-done n d h)
+left-done p n d h = rw (range-done (suc d) n d h)
 
 pub left-yes : (p n d : ℕ) → d < n → has p d ≡ true → left p n d ≡ suc d ∷ left p n (d + 1)
 unfolding keep
@@ -71,7 +71,7 @@ module _ (b : List ℕ) (prev run d : ℕ) (h : d < 7) where
 
 pub through-done : (b : List ℕ) (prev run d : ℕ) → 7 ≤ d → through prev run (lately b d) ≡ (prev, run)
 unfolding through keep
-through-done b prev run d h = rw (range-done 7 d h)
+through-done b prev run d h = rw (range-done (suc d) 7 d h)
 
 -- ---- hers
 

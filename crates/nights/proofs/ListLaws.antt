@@ -38,12 +38,14 @@ common-exactly r n =
 
 -- ---- hers
 
+-- what is hers are patterns of the month only
+pub hers-below : (w : List ℕ) (i p : ℕ) → hersOf w i p ≡ true → p < 2 ^ days w
+unfolding hers
+hers-below w i p e = ltb-true p (2 ^ days w) (and-parts (ltb p (2 ^ days w)) _ e .0)
+
 pub list-exactly : (w : List ℕ) (i : ℕ) → Exactly (hersOf w i) (nightList w i)
-unfolding nightList hers
-list-exactly w i =
-    kept-exactly (hersOf w i) (hersOf w i) (2 ^ days w)
-    (λ p e. (ltb-true p (2 ^ days w) (and-parts (ltb p (2 ^ days w)) _ e .0), e))
-    (λ p l e. e)
+unfolding nightList
+list-exactly w i = kept-exactly (hersOf w i) (hersOf w i) (2 ^ days w) (λ p e. (hers-below w i p e, e)) (λ p l e. e)
 
 -- what is hers is in the common list
 pub hers-common : (r : Rules) (n : ℕ) (b : List ℕ) (p : ℕ) → hers r n b p ≡ true → inCommon r n p ≡ true

@@ -1,7 +1,6 @@
 -- The number of starts of a pattern is the count of its ones.
 use mathlib.Core.Path.{_≡_, sym, ap, ap₂, _∙_}
-use mathlib.Core.Bool.{Bool, true, false, cond}
-use mathlib.Core.List.{List, _∷_}
+use mathlib.Core.Bool.{Bool}
 use Prim.Native.Nat.{ℕ, zero, suc, _+_, _<_, suc-le-suc}
 use native.Mathlib.Nat.{add-zero}
 use native.Mathlib.Omega.{arith}
@@ -9,20 +8,17 @@ use lib.ListN.{length}
 use Rattle.numbers.specs.Range.{upFrom, keep}
 use Rattle.numbers.specs.Sum.{countTo, oneIf}
 use Rattle.numbers.specs.Digits.{has}
+use Rattle.numbers.proofs.RangeLaws.{length-kept}
 use Rattle.numbers.proofs.SumLaws.{sum-zero, sum-front}
 use Rattle.rows.specs.Rows.{started}
 use Rattle.nights.specs.Nights.{starts}
-
-cond-length : (b : Bool) (x : ℕ) (xs : List ℕ) → length (cond b (x ∷ xs) xs) ≡ oneIf b + length xs
-cond-length true x xs = omega arith
-cond-length false x xs = omega arith
 
 -- how many a test keeps of a range
 pub count-kept : (t u : ℕ → Bool) (a n : ℕ) → ((i : ℕ) → i < n → t (a + i) ≡ u i) → length (keep t (upFrom a n)) ≡ countTo n u
 unfolding keep upFrom
 count-kept t u a zero h = sym (sum-zero (λ i. oneIf (u i)))
 count-kept t u a (suc n) h =
-    cond-length (t a) a (keep t (upFrom (suc a) n))
+    length-kept (t a) a (keep t (upFrom (suc a) n))
     ∙ ap₂ (λ (x y : ℕ). x + y) (ap oneIf (ap t (sym (add-zero a)) ∙ h 0 (omega arith)))
     (count-kept t (λ i. u (suc i)) (suc a) n (λ i l. ap t (one-on a i) ∙ h (suc i) (suc-le-suc l)))
     ∙ sym (sum-front n (λ i. oneIf (u i)))

@@ -1,18 +1,18 @@
 -- Tests and functions that agree on a range, and numbers that agree in some of their digits.
-use mathlib.Core.Path.{_≡_, refl, sym, ap, _∙_, subst}
-use mathlib.Core.Bool.{Bool, true, false, cond}
+use mathlib.Core.Path.{_≡_, refl, sym, ap, _∙_}
+use mathlib.Core.Bool.{Bool, true, false, cond, or-true}
 use mathlib.Core.List.{List, [], _∷_, map}
-use Prim.Native.Nat.{ℕ, zero, suc, _+_, _-_, _*_, _/_, _%_, _^_, _≤_, _<_, max}
+use Prim.Native.Nat.{ℕ, zero, suc, _+_, _-_, _*_, _/_, _%_, _^_, _≤_, _<_}
 use native.Mathlib.Omega.{arith}
 use lib.Dec.{eqb}
 use lib.ListN.{length, getD}
 use lib.Bits.{bitOr}
-use lib.Pow.{shr-shr, shl-shr, field, mod-mod-pow}
-use borrow.Author.Tests.{eqb-true}
+use lib.Pow.{shr-shr, shl-shr}
 use Rattle.numbers.specs.Range.{upFrom, keep, all}
-use Rattle.numbers.specs.Digits.{bit, has}
-use Rattle.numbers.proofs.RangeLaws.{length-range, range-at, range-below, keep-each, all-at}
-use Rattle.numbers.proofs.DigitLaws.{bit-lt, bit-or}
+use Rattle.numbers.specs.Digits.{has}
+use Rattle.numbers.proofs.RangeLaws.{range-below, keep-each}
+use Rattle.numbers.proofs.DigitLaws.{low-digit}
+use Rattle.numbers.proofs.SetLaws.{has-or}
 
 -- ---- on a range
 
@@ -34,16 +34,6 @@ pub keep-none : (t : ℕ → Bool) (a n : ℕ) → ((x : ℕ) → a ≤ x → x 
 unfolding upFrom keep
 keep-none t a zero h = refl
 keep-none t a (suc n) h = rw (h a (omega arith) (omega arith)) (keep-none t (suc a) n (λ x l k. h x (omega arith) (omega arith)))
-
-pub all-made : (t : ℕ → Bool) (a n : ℕ) → ((x : ℕ) → a ≤ x → x < a + n → t x ≡ true) → all t (upFrom a n) ≡ true
-unfolding upFrom all
-all-made t a zero h = refl
-all-made t a (suc n) h = rw (h a (omega arith) (omega arith)) (all-made t (suc a) n (λ x l k. h x (omega arith) (omega arith)))
-
-pub all-in : (t : ℕ → Bool) (a n x : ℕ) → all t (upFrom a n) ≡ true → a ≤ x → x < a + n → t x ≡ true
-all-in t a n x e l h =
-    let at : getD (upFrom a n) (x - a) 0 ≡ x = range-at a n (x - a) (omega arith) ∙ omega arith in
-    subst (λ (y : ℕ). t y ≡ true) at (all-at t (upFrom a n) e (x - a) (omega (arith, length-range a n)))
 
 kept-le : (b : Bool) (x : ℕ) (xs : List ℕ) → length (cond b (x ∷ xs) xs) ≤ suc (length xs)
 kept-le true x xs = omega arith
@@ -72,10 +62,7 @@ high-agree x y d j e h = has-high x d j h ∙ ap (λ (z : ℕ). has z (j - d)) e
 
 -- a number and its last k digits
 pub low-agree : (x k j : ℕ) → j < k → has (x % 2 ^ k) j ≡ has x j
-low-agree x k j h =
-    let i = k - j - 1 in
-    let e : k ≡ (i + 1) + j = omega arith in
-    ap (λ (y : ℕ). eqb y 1) (ap (λ (n : ℕ). x % 2 ^ n / 2 ^ j % 2) e ∙ ap (λ (y : ℕ). y % 2) (field x (i + 1) j) ∙ mod-mod-pow (x / 2 ^ j) i 1)
+low-agree x k j h = ap (λ (y : ℕ). eqb y 1) (low-digit x k j h)
 
 -- k digits of a number from d on, put back in their place
 pub field-agree : (x d k j : ℕ) → d ≤ j → j < d + k → has (x / 2 ^ d % 2 ^ k * 2 ^ d) j ≡ has x j
@@ -85,15 +72,9 @@ field-agree x d k j l h =
     ∙ low-agree (x / 2 ^ d) k (j - d) (omega arith)
     ∙ sym (has-high x d j l)
 
-max-left : (a b : ℕ) → a ≡ 1 → b < 2 → max a b ≡ 1
-max-left a b e h = omega arith
-
-max-right : (a b : ℕ) → b ≡ 1 → a < 2 → max a b ≡ 1
-max-right a b e h = omega arith
-
 -- a digit of either is one of both together
-pub or-left : (x y j : ℕ) → has x j ≡ true → has (bitOr x y) j ≡ true
-or-left x y j e = ap (λ (z : ℕ). eqb z 1) (bit-or x y j ∙ max-left (bit x j) (bit y j) (eqb-true (bit x j) 1 e) (bit-lt y j))
+pub has-or-left : (x y j : ℕ) → has x j ≡ true → has (bitOr x y) j ≡ true
+has-or-left x y j e = has-or x y j ∙ rw e
 
-pub or-right : (x y j : ℕ) → has y j ≡ true → has (bitOr x y) j ≡ true
-or-right x y j e = ap (λ (z : ℕ). eqb z 1) (bit-or x y j ∙ max-right (bit x j) (bit y j) (eqb-true (bit y j) 1 e) (bit-lt x j))
+pub has-or-right : (x y j : ℕ) → has y j ≡ true → has (bitOr x y) j ≡ true
+has-or-right x y j e = has-or x y j ∙ rw e (or-true (has x j))

@@ -1,6 +1,6 @@
 -- A test of all the numbers below n: its turns as a loop, and what it says of each of them.
 use mathlib.Core.Path.{_≡_, refl, sym, ap, ap₂, _∙_}
-use mathlib.Core.Bool.{Bool, true, false, _&&_, false≢true}
+use mathlib.Core.Bool.{Bool, true, false, _&&_, false≢true, and-assoc, and-true}
 use mathlib.Core.List.{List, [], _∷_, _++_}
 use Prim.Native.Nat.{ℕ, zero, suc, _+_, _<_}
 use native.Mathlib.Nat.{zero-add, le-suc, le-trans, lt-suc-self}
@@ -8,18 +8,10 @@ use native.Mathlib.Numerals.{add-one}
 use Rattle.numbers.specs.Range.{upFrom, all}
 use Rattle.numbers.proofs.RangeLaws.{range-add, range-at, length-range, all-at}
 
-and-assoc : (a b c : Bool) → (a && (b && c)) ≡ ((a && b) && c)
-and-assoc true b c = refl
-and-assoc false b c = refl
-
-and-true : (a : Bool) → (a && true) ≡ a
-and-true true = refl
-and-true false = refl
-
 pub all-append : (t : ℕ → Bool) (xs ys : List ℕ) → all t (xs ++ ys) ≡ (all t xs && all t ys)
 unfolding all
 all-append t [] ys = refl
-all-append t (x ∷ xs) ys = ap (λ (b : Bool). t x && b) (all-append t xs ys) ∙ and-assoc (t x) (all t xs) (all t ys)
+all-append t (x ∷ xs) ys = ap (λ (b : Bool). t x && b) (all-append t xs ys) ∙ sym (and-assoc (t x) (all t xs) (all t ys))
 
 pub all-none : (t : ℕ → Bool) → all t (upFrom 0 0) ≡ true
 unfolding all upFrom

@@ -59,22 +59,6 @@ bit-and a b i = ap (λ (x : ℕ). x % 2) (and-shr a b i) ∙ and-low (a / 2 ^ i)
 pub bit-or : (a b i : ℕ) → bit (bitOr a b) i ≡ max (bit a i) (bit b i)
 bit-or a b i = ap (λ (x : ℕ). x % 2) (or-shr a b i) ∙ or-low (a / 2 ^ i) (b / 2 ^ i)
 
-min-both : (a b : ℕ) → a < 2 → b < 2 → min a b ≡ oneIf (eqb a 1 && eqb b 1)
-min-both zero zero h k = refl
-min-both zero (suc zero) h k = refl
-min-both (suc zero) zero h k = refl
-min-both (suc zero) (suc zero) h k = refl
-min-both zero (suc (suc b)) h k = absurd (not-suc-le-zero (le-of-suc-le-suc (le-of-suc-le-suc k)))
-min-both (suc zero) (suc (suc b)) h k = absurd (not-suc-le-zero (le-of-suc-le-suc (le-of-suc-le-suc k)))
-min-both (suc (suc a)) b h k = absurd (not-suc-le-zero (le-of-suc-le-suc (le-of-suc-le-suc h)))
-
--- The ones of a column masked by a group of m nurses: how many of the m are in both.
-pub masked-count : (m x g : ℕ) → g < 2 ^ m → ones (bitAnd x g) ≡ countTo m (λ i. has x i && has g i)
-masked-count m x g h =
-    ones-sum m (bitAnd x g) (lt-of-le-of-lt (and-le-r x g) h)
-    ∙ sum-ext m (λ i. bit (bitAnd x g) i) (λ i. oneIf (has x i && has g i))
-    (λ i l. bit-and x g i ∙ min-both (bit x i) (bit g i) (bit-lt x i) (bit-lt g i))
-
 pub bit-of-zero : (j : ℕ) → bit 0 j ≡ 0
 bit-of-zero j = ap (λ (y : ℕ). y % 2) (zero-div (2 ^ j)) ∙ zero-mod 2
 
@@ -84,8 +68,8 @@ bit-above zero x j h l = ap (λ (y : ℕ). bit y j) (lt-one h) ∙ bit-of-zero j
 bit-above (suc k) x zero h l = absurd (not-suc-le-zero l)
 bit-above (suc k) x (suc j) h l = bit-suc x j ∙ bit-above k (x / 2) j (half-lt k x h) (le-of-suc-le-suc l)
 
-pow-half : (i : ℕ) → 2 ^ suc i / 2 ≡ 2 ^ i
-pow-half i = omega arith
+pow-div : (i : ℕ) → 2 ^ suc i / 2 ≡ 2 ^ i
+pow-div i = omega arith
 
 pow-even : (i : ℕ) → 2 ^ suc i % 2 ≡ 0
 pow-even i = omega arith
@@ -95,7 +79,7 @@ pub bit-pow : (i j : ℕ) → bit (2 ^ i) j ≡ oneIf (eqb j i)
 bit-pow zero zero = refl
 bit-pow zero (suc j) = bit-suc 1 j ∙ bit-of-zero j ∙ ap oneIf (sym (eqb·suc-zero j))
 bit-pow (suc i) zero = bit-zero (2 ^ suc i) ∙ pow-even i ∙ ap oneIf (sym (eqb·zero-suc i))
-bit-pow (suc i) (suc j) = bit-suc (2 ^ suc i) j ∙ ap (λ (y : ℕ). bit y j) (pow-half i) ∙ bit-pow i j ∙ ap oneIf (sym (eqb·suc-suc j i))
+bit-pow (suc i) (suc j) = bit-suc (2 ^ suc i) j ∙ ap (λ (y : ℕ). bit y j) (pow-div i) ∙ bit-pow i j ∙ ap oneIf (sym (eqb·suc-suc j i))
 
 comp-half : (k x : ℕ) → x < 2 ^ suc k → ((2 ^ suc k - 1) - x) / 2 ≡ (2 ^ k - 1) - x / 2
 comp-half k x h = omega arith

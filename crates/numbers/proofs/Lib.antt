@@ -5,3 +5,4 @@ pub mod AllLaws
 pub mod SetLaws
 pub mod BufferLaws
 pub mod AgreeLaws
+pub mod HalfLaws

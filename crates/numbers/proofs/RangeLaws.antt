@@ -3,13 +3,13 @@ use mathlib.Core.Path.{_≡_, refl, sym, ap, _∙_, subst}
 use mathlib.Core.Bool.{Bool, true, false, cond, _&&_}
 use mathlib.Core.List.{List, [], _∷_, _++_}
 use Prim.Native.Nat.{ℕ, zero, suc, _+_, _-_, _≤_, _<_, suc-le-suc}
-use native.Mathlib.Nat.{not-suc-le-zero, le-of-suc-le-suc, eq-or-lt-of-le, suc-add, zero-add, add-zero}
-use native.Mathlib.Numerals.{add-one}
+use native.Mathlib.Nat.{not-suc-le-zero, le-of-suc-le-suc, eq-or-lt-of-le, suc-add, zero-add, add-zero, sub-zero}
 use native.Mathlib.Omega.{arith}
 use native.Mathlib.Decide.{decLt}
 use mathlib.Core.Logic.{_⊎_, inl, inr}
 use lib.ListN.{length, getD}
 use Rattle.numbers.specs.Range.{upFrom, keep, all, Ascending, At, Exactly}
+use Rattle.numbers.specs.Sum.{oneIf}
 
 -- ---- ranges
 
@@ -31,18 +31,22 @@ range-add a (suc m) n =
     let e : a + suc m ≡ suc a + m = omega arith in
     rw (suc-add m n, e, range-add (suc a) m n)
 
--- the numbers after the first d of n, from 1 on: what a loop over the days has left
-pub range-turn : (n d : ℕ) → d < n → upFrom (suc d) (n - d) ≡ suc d ∷ upFrom (suc (d + 1)) (n - (d + 1))
+-- what a loop of n turns has left after d of them, where the next number is a: a and the others, or nothing
+pub range-next : (a b n d : ℕ) → suc a ≡ b → d < n → upFrom a (n - d) ≡ a ∷ upFrom b (n - (d + 1))
 unfolding upFrom
-range-turn n d h =
+range-next a b n d q h =
     let e : n - d ≡ suc (n - (d + 1)) = omega arith in
-    rw (e, add-one d)
+    rw (e, q)
 
-pub range-done : (n d : ℕ) → n ≤ d → upFrom (suc d) (n - d) ≡ []
+pub range-done : (a n d : ℕ) → n ≤ d → upFrom a (n - d) ≡ []
 unfolding upFrom
-range-done n d h =
+range-done a n d h =
     let e : n - d ≡ 0 = omega arith in
     rw e
+
+-- over the days, from 1 on
+pub range-turn : (n d : ℕ) → d < n → upFrom (suc d) (n - d) ≡ suc d ∷ upFrom (suc (d + 1)) (n - (d + 1))
+range-turn n d h = range-next (suc d) (suc (d + 1)) n d (omega arith) h
 
 -- ---- what a test keeps
 
@@ -63,6 +67,10 @@ pub keep-append : (t : ℕ → Bool) (xs ys : List ℕ) → keep t (xs ++ ys) �
 unfolding keep
 keep-append t [] ys = refl
 keep-append t (x ∷ xs) ys = rw (keep-append t xs ys) (cond-append (t x) x (keep t xs) (keep t ys))
+
+pub length-kept : (b : Bool) (x : ℕ) (xs : List ℕ) → length (cond b (x ∷ xs) xs) ≡ oneIf b + length xs
+length-kept true x xs = omega arith
+length-kept false x xs = omega arith
 
 -- one more number in front, kept or not
 front : (P : ℕ → Type 0) (x : ℕ) (ys : List ℕ) (b : Bool) → (b ≡ true → P x) → ((k : ℕ) → k < length ys → P (getD ys k 0))
@@ -172,6 +180,15 @@ pub and-parts : (a b : Bool) → (a && b) ≡ true → (a ≡ true) × (b ≡ tr
 and-parts true b e = (refl, e)
 and-parts false b e = (e, let z : _≡_ {A = ℕ} 0 1 = cc in absurd (omega arith))
 
+pub both-true : (a b : Bool) → a ≡ true → b ≡ true → (a && b) ≡ true
+both-true a b e f = rw (e, f)
+
+-- two tests that pass alike
+pub tests-alike : (a b : Bool) → (a ≡ true → b ≡ true) → (b ≡ true → a ≡ true) → a ≡ b
+tests-alike true b f g = sym (f refl)
+tests-alike false true f g = g refl
+tests-alike false false f g = refl
+
 pub all-at : (t : ℕ → Bool) (xs : List ℕ) → all t xs ≡ true → (i : ℕ) → i < length xs → t (getD xs i 0) ≡ true
 unfolding all
 all-at t [] e i h = absurd (not-suc-le-zero h)
@@ -180,11 +197,12 @@ all-at t (x ∷ xs) e (suc i) h = all-at t xs (and-parts (t x) (all t xs) e .1) 
 
 -- ---- a loop that tests each number from i on: W is what the whole test comes to
 
+pub all-begin : (t : ℕ → Bool) {n k : ℕ} → k ≡ n → all t (upFrom 0 n) ≡ all t (upFrom 0 (k - 0))
+all-begin t {n} {k} e = rw (sub-zero k, e)
+
 all-turn : (t : ℕ → Bool) (n i : ℕ) → i < n → all t (upFrom i (n - i)) ≡ (t i && all t (upFrom (i + 1) (n - (i + 1))))
-unfolding all upFrom
-all-turn t n i h =
-    let e : n - i ≡ suc (n - (i + 1)) = omega arith in
-    rw (e, add-one i)
+unfolding all
+all-turn t n i h = rw (range-next i (i + 1) n i (omega arith) h)
 
 pub all-more : (t : ℕ → Bool) (n i : ℕ) {W : Bool} → W ≡ all t (upFrom i (n - i)) → i < n → t i ≡ true → W ≡ all t (upFrom (i + 1) (n - (i + 1)))
 all-more t n i w h e = w ∙ all-turn t n i h ∙ rw e
@@ -193,10 +211,8 @@ pub all-stop : (t : ℕ → Bool) (n i : ℕ) {W : Bool} → W ≡ all t (upFrom
 all-stop t n i w h e = sym (w ∙ all-turn t n i h ∙ rw e)
 
 pub all-end : (t : ℕ → Bool) (n i : ℕ) {W : Bool} → W ≡ all t (upFrom i (n - i)) → n ≤ i → true ≡ W
-unfolding all upFrom
-all-end t n i w h =
-    let e : n - i ≡ 0 = omega arith in
-    sym (w ∙ rw e)
+unfolding all
+all-end t n i w h = sym (w ∙ rw (range-done i n i h))
 
 -- all of a list pass where each does
 pub all-of : (t : ℕ → Bool) (xs : List ℕ) → ((i : ℕ) → i < length xs → t (getD xs i 0) ≡ true) → all t xs ≡ true

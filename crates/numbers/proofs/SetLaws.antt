@@ -2,15 +2,19 @@
 use mathlib.Core.Path.{_≡_, refl, sym, ap, _∙_}
 use mathlib.Core.Bool.{Bool, true, false, not, _&&_, _||_}
 use Prim.Native.Nat.{ℕ, zero, suc, _+_, _-_, _*_, _/_, _%_, _^_, _≤_, _<_, min, max, suc-le-suc}
+use native.Mathlib.Nat.{lt-of-le-of-lt}
 use native.Mathlib.Numerals.{add-one}
 use native.Mathlib.Omega.{arith}
 use lib.Arith.{lt-one}
-use lib.Bits.{bitAnd, bitOr}
+use lib.Bits.{bitAnd, bitOr, and-le-r}
+use lib.Count.{ones}
 use lib.Dec.{eqb}
 use lib.Pow.{shr-lt}
 use borrow.Author.Tests.{eqb-true, eqb-false}
+use Rattle.numbers.specs.Sum.{countTo, oneIf}
 use Rattle.numbers.specs.Digits.{bit, has, numberOf}
-use Rattle.numbers.proofs.DigitLaws.{bit-lt, bit-zero, bit-suc, bit-and, bit-or, bit-not, bit-above, number-lt, number-has}
+use Rattle.numbers.proofs.SumLaws.{sum-ext}
+use Rattle.numbers.proofs.DigitLaws.{bit-lt, bit-zero, bit-suc, bit-and, bit-or, bit-not, bit-above, ones-count, number-lt, number-has}
 
 min-one : (a b : ℕ) → a < 2 → b < 2 → eqb (min a b) 1 ≡ (eqb a 1 && eqb b 1)
 min-one zero zero h k = refl
@@ -40,6 +44,12 @@ has-and x y j = ap (λ (v : ℕ). eqb v 1) (bit-and x y j) ∙ min-one (bit x j)
 
 pub has-or : (x y j : ℕ) → has (bitOr x y) j ≡ (has x j || has y j)
 has-or x y j = ap (λ (v : ℕ). eqb v 1) (bit-or x y j) ∙ max-one (bit x j) (bit y j) (bit-lt x j) (bit-lt y j)
+
+-- the ones of a column masked by a group of m nurses: how many of the m are in both
+pub masked-count : (m x g : ℕ) → g < 2 ^ m → ones (bitAnd x g) ≡ countTo m (λ i. has x i && has g i)
+masked-count m x g h =
+    ones-count m (bitAnd x g) (lt-of-le-of-lt (and-le-r x g) h)
+    ∙ sum-ext m (λ i. oneIf (has (bitAnd x g) i)) (λ i. oneIf (has x i && has g i)) (λ i l. ap oneIf (has-and x g i))
 
 -- `!x` of a number of k digits
 pub has-not : (k x j : ℕ) → x < 2 ^ k → j < k → has ((2 ^ k - 1) - x) j ≡ not (has x j)

@@ -9,11 +9,11 @@ use lib.Bits.{bitAnd}
 use lib.Dec.{leb, eqb}
 use lib.ListN.{length, getD}
 use lib.Pow.{pow-pos}
-use borrow.Author.Tests.{eqb-true, eqb-false, ne-eqb, le-leb, lt-leb, lt-ltb}
+use borrow.Author.Tests.{eqb-true, eqb-false, eq-eqb, ne-eqb, le-leb, lt-leb, lt-ltb}
 use Rattle.numbers.specs.Range.{upFrom, keep}
 use Rattle.numbers.specs.Sum.{countTo}
 use Rattle.numbers.specs.Digits.{has}
-use Rattle.numbers.proofs.RangeLaws.{keep-passes, and-parts}
+use Rattle.numbers.proofs.RangeLaws.{keep-passes, and-parts, tests-alike}
 use Rattle.numbers.proofs.SetLaws.{has-and, has-not, has-above}
 use Rattle.rows.specs.Rows.{started, marksAllow}
 use Rattle.fields.specs.Fields.{leastNightsOf, mostNightsOf}
@@ -30,13 +30,7 @@ use Rattle.nights.proofs.StartLaws.{count-starts}
 -- ---- the rule does not depend on where the days are counted from
 
 eqb-same : (a b m n : ℕ) → (a ≡ b → m ≡ n) → (m ≡ n → a ≡ b) → eqb a b ≡ eqb m n
-eqb-same a b m n f g = go (eqb a b) (eqb m n) refl refl
-  where
-    go : (t u : Bool) → eqb a b ≡ t → eqb m n ≡ u → eqb a b ≡ eqb m n
-    go true true e h = e ∙ sym h
-    go false false e h = e ∙ sym h
-    go true false e h = absurd (eqb-false m n h (f (eqb-true a b e)))
-    go false true e h = absurd (eqb-false a b e (g (eqb-true m n h)))
+eqb-same a b m n f g = tests-alike (eqb a b) (eqb m n) (λ e. eq-eqb m n (f (eqb-true a b e))) (λ e. eq-eqb a b (g (eqb-true m n e)))
 
 joins-moved : (k prev s : ℕ) → eqb (s + k) (prev + k + 2) ≡ eqb s (prev + 2)
 joins-moved k prev s = eqb-same (s + k) (prev + k + 2) s (prev + 2) (λ e. omega arith) (λ e. omega arith)

@@ -32,13 +32,10 @@ group-most u v low high count hu hv h p q = go (decLt count low)
         rw z (omega (arith, mul-le-mul hv t))
 
 module _ (w : List ℕ) (a : Accepted w) (k d : ℕ) (on : ℕ → Bool) (hk : k < 2) (hd : d < days w) where
-  weight-le : (j : ℕ) → j < 6 → weight w j ≤ 100
-  weight-le j h = a .weight-most j h
-
   need-le : weight w (3 * k) * (need (needs w d) k - onDuty w on) ≤ 4800
   need-le =
       let s : need (needs w d) k - onDuty w on ≤ 48 = omega (arith, a .needs-most d k hd) in
-      mul-le-mul (weight-le (3 * k) (omega arith)) s
+      mul-le-mul (a .weight-most (3 * k) (omega arith)) s
 
   pub members-le : (g : ℕ) → members w on g ≤ 48
   unfolding members
@@ -49,7 +46,7 @@ module _ (w : List ℕ) (a : Accepted w) (k d : ℕ) (on : ℕ → Bool) (hk : k
   short-most =
       let s = sum-le (groups w) 4800 (λ g. weight w (3 * k + 1) * (low (needs w d) k g - members w on g))
       (λ g l. let t : low (needs w d) k g - members w on g ≤ 48 = omega (arith, a .needs-most d (4 * g + 2 * k + 2) hd) in
-      mul-le-mul (weight-le (3 * k + 1) (omega arith)) t) in
+      mul-le-mul (a .weight-most (3 * k + 1) (omega arith)) t) in
       omega (arith, need-le, s, a .groups-most)
 
   pub duty-most : shortOn w k on d + overOn w k on d ≤ 81600
@@ -59,7 +56,7 @@ module _ (w : List ℕ) (a : Accepted w) (k d : ℕ) (on : ℕ → Bool) (hk : k
       let highs : ℕ → ℕ = λ g. weight w (3 * k + 2) * (members w on g - high (needs w d) k g) in
       let s = sum-le (groups w) 4800 (λ g. lows g + highs g)
       (λ g l. group-most (weight w (3 * k + 1)) (weight w (3 * k + 2)) (low (needs w d) k g) (high (needs w d) k g) (members w on g)
-      (weight-le (3 * k + 1) (omega arith)) (weight-le (3 * k + 2) (omega arith)) (a .low-high d k g hd hk l) (a .needs-most d (4 * g + 2 * k + 2) hd) (members-le g)) in
+      (a .weight-most (3 * k + 1) (omega arith)) (a .weight-most (3 * k + 2) (omega arith)) (a .low-high d k g hd hk l) (a .needs-most d (4 * g + 2 * k + 2) hd) (members-le g)) in
       omega (arith, need-le, s, sum-add (groups w) lows highs, a .groups-most)
 
 -- ---- the month

@@ -143,21 +143,19 @@ exchanged-there slots i p j h = rw (ne-eqb j i h)
 
 module _ (w : List ℕ) (slots : ℕ → Slot) (i p : ℕ) (h : i < nurses w) where
   -- nurse i as her new pattern says, the others as they were
+  slots-after : (on : ℕ → Slot → Bool) (f : ℕ → Bool) → Same (nurses w) f (λ j. on j (slots j))
+      → Same (nurses w) (put f i (on i (some p))) (λ j. on j (exchanged slots i p j))
+  slots-after on f s =
+      same-put (nurses w) i f (put f i (on i (some p))) (λ j. on j (slots j)) (λ j. on j (exchanged slots i p j)) s
+      (ap (λ (x : Slot). put f i (on i x)) (sym (exchanged-here slots i p))) h
+      (λ j q. sym (ap (on j) (exchanged-there slots i p j q)))
+
   pub night-after : (d : ℕ) (f : ℕ → Bool) → Same (nurses w) f (atNight w slots d) → Same (nurses w) (put f i (has p d)) (atNight w (exchanged slots i p) d)
-  night-after d f s =
-      same-put (nurses w) i f (put f i (has p d)) (atNight w slots d) (atNight w (exchanged slots i p) d) s
-      (ap (put f i) (sym (ap (λ (x : Slot). has (startsIn w i x) d) (exchanged-here slots i p)))) h
-      (λ j q. sym (ap (λ (x : Slot). has (startsIn w j x) d) (exchanged-there slots i p j q)))
+  night-after d = slots-after (λ j x. has (startsIn w j x) d)
 
   pub free-after : (d : ℕ) (f : ℕ → Bool) → Same (nurses w) f (free w slots d)
       → Same (nurses w) (put f i (availableOn (block w i) p (suc d))) (free w (exchanged slots i p) d)
-  free-after d f s =
-      same-put (nurses w) i f (put f i (availableOn (block w i) p (suc d))) (free w slots d) (free w (exchanged slots i p) d) s
-      (ap (put f i) (sym (ap (λ (x : Slot). availableOn (block w i) (startsIn w i x) (suc d)) (exchanged-here slots i p)))) h
-      (λ j q. sym (ap (λ (x : Slot). availableOn (block w j) (startsIn w j x) (suc d)) (exchanged-there slots i p j q)))
+  free-after d = slots-after (λ j x. availableOn (block w j) (startsIn w j x) (suc d))
 
   pub day-after : (d : ℕ) (f : ℕ → Bool) → Same (nurses w) f (atDay w slots d) → Same (nurses w) (put f i (has p d)) (atDay w (exchanged slots i p) d)
-  day-after d f s =
-      same-put (nurses w) i f (put f i (has p d)) (atDay w slots d) (atDay w (exchanged slots i p) d) s
-      (ap (put f i) (sym (ap (λ (x : Slot). has (workedIn w i x) d) (exchanged-here slots i p)))) h
-      (λ j q. sym (ap (λ (x : Slot). has (workedIn w j x) d) (exchanged-there slots i p j q)))
+  day-after d = slots-after (λ j x. has (workedIn w j x) d)

@@ -7,13 +7,14 @@ use mathlib.Core.Option.{Option, none, some}
 use native.Mathlib.Nat.{not-suc-le-zero, le-of-suc-le-suc}
 use native.Mathlib.Numerals.{add-one}
 use native.Mathlib.Omega.{arith}
-use borrow.Author.Tests.{lt-ltb, le-ltb, ltb-true, eq-eqb, ne-eqb}
+use borrow.Author.Tests.{lt-ltb, le-ltb, eq-eqb, ne-eqb}
 use lib.Dec.{ltb, eqb}
 use lib.ListN.{length, getD}
 use Rattle.numbers.specs.Range.{upFrom, keep, all, At}
-use Rattle.numbers.proofs.RangeLaws.{and-parts, kept-in}
+use Rattle.numbers.proofs.RangeLaws.{kept-in}
 use Rattle.fields.specs.Fields.{Accepted, nurses, days, tabu}
-use Rattle.nights.specs.Hers.{hers as hersBy, hersOf, nightList}
+use Rattle.nights.specs.Hers.{hersOf, nightList}
+use Rattle.nights.proofs.ListLaws.{hers-below}
 use Rattle.days.specs.Days.{dayRuleOf, dayList}
 use Rattle.days.proofs.SheetLaws.{rule-below}
 use Rattle.refusals.specs.Refusals.{numbered}
@@ -58,10 +59,6 @@ among-keep t n p f = go (t p) refl
         let a : At (keep t (upFrom 0 n)) p = kept-in t 0 n p (omega arith) (omega (arith, f e)) e in
         among-place (keep t (upFrom 0 n)) (a .place) p (a .inside) (a .there) ∙ sym e
     go false e = among-not t p e (upFrom 0 n) ∙ sym e
-
-hers-below : (w : List ℕ) (i p : ℕ) → hersOf w i p ≡ true → p < 2 ^ days w
-unfolding hersBy
-hers-below w i p e = ltb-true p (2 ^ days w) (and-parts (ltb p (2 ^ days w)) _ e .0)
 
 module _ (w nights : List ℕ) (i p : ℕ) where
   pub own-by-night : hersOf w i p ≡ among (phaseOf false w nights .patterns i) p

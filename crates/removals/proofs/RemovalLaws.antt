@@ -1,7 +1,7 @@
 -- The laws by which loops over the stored removals find one and put one in front.
 use Prim.Native.Nat.{ℕ, zero, suc, _+_, _-_, _≤_, _<_, min}
 use mathlib.Core.Path.{_≡_, refl, sym, ap, ap₂, _∙_}
-use mathlib.Core.Bool.{Bool, true, false, _&&_, _||_}
+use mathlib.Core.Bool.{Bool, true, false, _&&_, _||_, or-assoc, or-true}
 use mathlib.Core.List.{List, [], _∷_, _++_, map}
 use native.Mathlib.Nat.{not-suc-le-zero, sub-self, sub-zero}
 use native.Mathlib.Numerals.{add-one}
@@ -14,7 +14,6 @@ use Rattle.history.specs.Phase.{holds}
 use Rattle.history.specs.Record.{barred}
 use Rattle.removals.specs.Removals.{slot, removalOf}
 use Rattle.removals.specs.CodePush.{inFront, pushed}
-use Rattle.history.proofs.TestLaws.{or-assoc, or-with-true}
 use Rattle.removals.specs.declared.Removal.{Removal as StoredRemoval}
 
 -- ---- what is barred
@@ -28,7 +27,7 @@ module _ (number p : ℕ) where
   barred-append [] m = refl
   barred-append (x ∷ l) m =
       ap (λ (b : Bool). bars number p x || b) (barred-append l m)
-      ∙ or-assoc (bars number p x) (barred (map removalOf l) number p) (barred (map removalOf m) number p)
+      ∙ sym (or-assoc (bars number p x) (barred (map removalOf l) number p) (barred (map removalOf m) number p))
 
   -- a turn of the loop that found none
   pub barred-turn : (l : List StoredRemoval) (k : ℕ) (d : StoredRemoval) {t : Bool} → k < length l → barred (map removalOf (take k l)) number p ≡ false
@@ -51,7 +50,7 @@ module _ (number p : ℕ) where
       sym (
       ap (λ (y : List StoredRemoval). barred (map removalOf y) number p) e ∙ barred-append (take k l) (getD l k d ∷ rest)
       ∙ ap (λ (b : Bool). barred (map removalOf (take k l)) number p || (b || barred (map removalOf rest) number p)) (sym q ∙ f)
-      ∙ or-with-true (barred (map removalOf (take k l)) number p))
+      ∙ or-true (barred (map removalOf (take k l)) number p))
 
 -- ---- one more in front
 

@@ -9,19 +9,18 @@ use borrow.Author.Tests.{leb-true, le-leb}
 use lib.Dec.{leb}
 use lib.ListN.{length}
 use Rattle.numbers.specs.Range.{upFrom, all}
-use Rattle.numbers.proofs.RangeLaws.{and-parts, range-all, range-each}
+use Rattle.numbers.proofs.RangeLaws.{and-parts, both-true, range-all, range-each}
 use Rattle.fields.specs.Fields.{nurses, days, groups, block, needs, need, low, high}
 use Rattle.nights.specs.Hers.{hersOf}
+use Rattle.nights.proofs.ListLaws.{hers-below}
 use Rattle.days.specs.Days.{dayRuleOf}
+use Rattle.days.proofs.SheetLaws.{rule-below}
 use Rattle.penalty.specs.Penalty.{onDuty, members}
 use Rattle.letters.specs.Letters.{letter}
 use Rattle.rosters.specs.Check.{Follows, Holds, atDuty}
 use Rattle.rosters.specs.CodeCheck.{lettersIn, lettersAt, sameRow, rowHolds, rowsHold, groupHolds, dutyHolds, dayHolds, daysHold, holds}
 use Rattle.letters.proofs.RowLaws.{row-fits}
-use Rattle.rosters.proofs.RowLaws.{hers-below, worked-below, worked-available, each-of-row, row-of-each, same-each, each-same, starts-read, worked-read}
-
-both : (a b : Bool) → a ≡ true → b ≡ true → (a && b) ≡ true
-both a b e f = rw (e, f)
+use Rattle.rosters.proofs.RowLaws.{worked-available, each-of-row, row-of-each, same-each, each-same, starts-read, worked-read}
 
 -- a row's test by its patterns
 row-is : (w roster : List ℕ) (i p q : ℕ) → p ≡ lettersAt w roster i (letter 2) → q ≡ lettersAt w roster i (letter 1)
@@ -83,7 +82,7 @@ module _ (w roster : List ℕ) (long : length roster ≡ nurses w * days w) wher
   -- a row that follows from some patterns follows from those read off its letters
   row-read : (i p q : ℕ) → p ≡ lettersAt w roster i (letter 2) → q ≡ lettersAt w roster i (letter 1)
       → hersOf w i p ≡ true → dayRuleOf w i p q ≡ true → sameRow (block w i) (days w) roster (i * days w) p q ≡ true → rowHolds w roster i ≡ true
-  row-read i p q ep eq h d s = row-is w roster i p q ep eq ∙ both _ _ h (both _ _ d s)
+  row-read i p q ep eq h d s = row-is w roster i p q ep eq ∙ both-true _ _ h (both-true _ _ d s)
 
   pub row-complete : (i : ℕ) → i < nurses w → Follows w roster i → rowHolds w roster i ≡ true
   row-complete i h f =
@@ -93,7 +92,7 @@ module _ (w roster : List ℕ) (long : length roster ≡ nurses w * days w) wher
       let e = each-of-row roster (i * n) n (fits i h) (block w i) p q (f .row) in
       row-read i p q
       (starts-read roster (i * n) n (fits i h) (block w i) p q e (hers-below w i p (f .nights-hers)))
-      (worked-read roster (i * n) n (fits i h) (block w i) p q e (worked-below w i p q (f .days-hers)) (λ d l. worked-available w i p q d (f .days-hers) l))
+      (worked-read roster (i * n) n (fits i h) (block w i) p q e (rule-below w i p q (f .days-hers)) (λ d l. worked-available w i p q d (f .days-hers) l))
       (f .nights-hers) (f .days-hers) (each-same roster (i * n) n (fits i h) (block w i) p q e)
 
   -- ---- needs, lows and highs
@@ -112,7 +111,7 @@ module _ (w roster : List ℕ) (long : length roster ≡ nurses w * days w) wher
 
   group-complete : (k d g : ℕ) → low (needs w d) k g ≤ members w (atDuty w roster k d) g → members w (atDuty w roster k d) g ≤ high (needs w d) k g → groupHolds w roster k d g ≡ true
   unfolding groupHolds
-  group-complete k d g l h = both _ _ (le-leb _ _ l) (le-leb _ _ h)
+  group-complete k d g l h = both-true _ _ (le-leb _ _ l) (le-leb _ _ h)
 
   duty-sound : (k d : ℕ) → dutyHolds w roster k d ≡ true → Met k d
   unfolding dutyHolds
@@ -125,7 +124,7 @@ module _ (w roster : List ℕ) (long : length roster ≡ nurses w * days w) wher
   duty-complete : (k d : ℕ) → Met k d → dutyHolds w roster k d ≡ true
   unfolding dutyHolds
   duty-complete k d m =
-      both _ _ (le-leb _ _ (m .need-met))
+      both-true _ _ (le-leb _ _ (m .need-met))
       (range-all (groupHolds w roster k d) 0 (groups w) (λ g a h. (let l : g < groups w = omega arith in group-complete k d g (m .low-met g l) (m .high-met g l))))
 
   duty-each : ((d : ℕ) → d < days w → dayHolds w roster d ≡ true) → (k d : ℕ) → k < 2 → d < days w → Met k d
@@ -136,7 +135,7 @@ module _ (w roster : List ℕ) (long : length roster ≡ nurses w * days w) wher
 
   day-complete : (d : ℕ) → Met 0 d → Met 1 d → dayHolds w roster d ≡ true
   unfolding dayHolds
-  day-complete d a b = both _ _ (duty-complete 0 d a) (duty-complete 1 d b)
+  day-complete d a b = both-true _ _ (duty-complete 0 d a) (duty-complete 1 d b)
 
   -- ---- the whole
 
@@ -158,7 +157,7 @@ module _ (w roster : List ℕ) (long : length roster ≡ nurses w * days w) wher
   pub holds-complete : Holds w roster → holds w roster ≡ true
   unfolding holds rowsHold daysHold
   holds-complete o =
-      both _ _
+      both-true _ _
       (range-all (rowHolds w roster) 0 (nurses w) (λ i a h. (let l : i < nurses w = omega arith in row-complete i l (o .rows i l))))
       (range-all (dayHolds w roster) 0 (days w) (λ d a h. (let l : d < days w = omega arith in day-complete d (met o 0 d (omega arith) l) (met o 1 d (omega arith) l))))
 

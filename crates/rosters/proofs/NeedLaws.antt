@@ -2,8 +2,7 @@
 use mathlib.Core.Path.{_≡_, ap, ap₂, _∙_, subst}
 use mathlib.Core.Bool.{Bool, true, false, _&&_}
 use mathlib.Core.List.{List}
-use Prim.Native.Nat.{ℕ, _+_, _-_, _*_, _≤_, _<_}
-use native.Mathlib.Nat.{sub-zero}
+use Prim.Native.Nat.{ℕ, _+_, _*_, _≤_, _<_}
 use native.Mathlib.Omega.{arith}
 use borrow.Author.Tests.{lt-leb, le-leb}
 use lib.ListN.{length, getD, drop, length-drop}
@@ -19,10 +18,6 @@ use Rattle.penalty.proofs.ColumnLaws.{count-same, all-same}
 use Rattle.rosters.specs.Check.{dutyLetter, lettered, atDuty}
 use Rattle.rosters.specs.CodeCheck.{groupHolds, dutyHolds, dayHolds}
 use Rattle.rosters.specs.CodeBounds.{boundsHold, allBoundsHold}
-
--- a test of all, as a loop from 0 finds it
-pub all-start : (t : ℕ → Bool) {n k : ℕ} → k ≡ n → all t (upFrom 0 n) ≡ all t (upFrom 0 (k - 0))
-all-start t {n} {k} e = rw (sub-zero k, e)
 
 pub masks-long : (w : List ℕ) → Accepted w → length (masks w) ≡ groups w
 unfolding masks

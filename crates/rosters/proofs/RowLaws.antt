@@ -1,12 +1,12 @@
 -- A row of letters: its length, each of its letters, and the patterns that are read off it.
 use mathlib.Core.Path.{_≡_, sym, ap, ap₂, _∙_}
-use mathlib.Core.Bool.{Bool, true, false, cond, not}
+use mathlib.Core.Bool.{Bool, true, false, cond}
 use mathlib.Core.List.{List}
 use Prim.Native.Nat.{ℕ, suc, _+_, _-_, _^_, _≤_, _<_}
 use native.Mathlib.Nat.{sub-zero}
 use native.Mathlib.Omega.{arith}
-use borrow.Author.Tests.{ltb-true, eqb-true, eq-eqb, ne-eqb}
-use lib.Dec.{eqb, ltb}
+use borrow.Author.Tests.{eqb-true, eq-eqb, ne-eqb}
+use lib.Dec.{eqb}
 use lib.Pow.{pow-lt}
 use lib.ListN.{length, getD, take, drop, length-drop}
 use lib.Seq.{length-take-le, getD-take, getD-drop, ext-getD}
@@ -17,8 +17,8 @@ use Rattle.numbers.proofs.DigitLaws.{number-lt, number-zero, number-suc}
 use Rattle.numbers.proofs.SetLaws.{number-is}
 use Rattle.fields.specs.Fields.{days, block, markOn}
 use Rattle.rows.specs.Rows.{started, rowState, availableOn, dutyOn}
-use Rattle.nights.specs.Hers.{hers, hersOf}
 use Rattle.days.specs.Days.{choice, dayRule, dayRuleOf}
+use Rattle.days.proofs.SheetLaws.{choice-available}
 use Rattle.letters.specs.Letters.{letter, rowLettersOf, isLetter}
 use Rattle.letters.proofs.RowLaws.{row-length, row-at}
 use Rattle.rosters.specs.CodeCheck.{lettersIn, sameRow}
@@ -38,29 +38,11 @@ pub worked-letter : (b : List ℕ) (p q d : ℕ) → (has q d ≡ true → avail
 unfolding dutyOn rowState availableOn
 worked-letter b p q d h = day-letter (markOn b (suc d)) (rowState b p d) (has p d) (has q d) h
 
--- ---- what a night pattern of hers and a day pattern over it are
-
-pub hers-below : (w : List ℕ) (i p : ℕ) → hersOf w i p ≡ true → p < 2 ^ days w
-unfolding hers
-hers-below w i p e = ltb-true p (2 ^ days w) (and-parts (ltb p (2 ^ days w)) _ e .0)
-
-choice-of : (w : List ℕ) (i p q : ℕ) → dayRuleOf w i p q ≡ true → choice (block w i) (days w) p q ≡ true
-unfolding dayRule
-choice-of w i p q e = and-parts (choice (block w i) (days w) p q) _ e .0
-
-pub worked-below : (w : List ℕ) (i p q : ℕ) → dayRuleOf w i p q ≡ true → q < 2 ^ days w
-unfolding choice
-worked-below w i p q e = ltb-true q (2 ^ days w) (and-parts (ltb q (2 ^ days w)) _ (choice-of w i p q e) .0)
-
-only-where : (s a b : Bool) → cond s a b ≡ true → s ≡ true → a ≡ true
-only-where true a b e h = e
-only-where false a b e h = let z : _≡_ {A = ℕ} 0 1 = cc in absurd (omega arith)
+-- ---- what a day pattern over her nights is
 
 pub worked-available : (w : List ℕ) (i p q d : ℕ) → dayRuleOf w i p q ≡ true → d < days w → has q d ≡ true → availableOn (block w i) p (suc d) ≡ true
-unfolding choice
-worked-available w i p q d e h =
-    let t : ℕ → Bool = λ x. cond (started q x) (availableOn (block w i) p x) (not (eqb (markOn (block w i) x) 2)) in
-    only-where (has q d) _ _ (range-each t 1 (days w) (and-parts (ltb q (2 ^ days w)) _ (choice-of w i p q e) .1) (suc d) (omega arith) (omega arith))
+unfolding dayRule
+worked-available w i p q d e h k = choice-available (block w i) (days w) p q d (and-parts (choice (block w i) (days w) p q) _ e .0) h k
 
 -- ---- a row of a roster
 

@@ -42,7 +42,7 @@ marks-turn b p n d h = rw (range-turn n d h, add-one d)
 
 pub marks-done : (b : List ℕ) (p n d : ℕ) → n ≤ d → allowedFrom b p n d ≡ true
 unfolding all
-marks-done b p n d h = rw (range-done n d h)
+marks-done b p n d h = rw (range-done (suc d) n d h)
 
 -- a day on which she starts is not an open one
 pub started-busy : (b : List ℕ) (p d : ℕ) → has p d ≡ true → availableOn b p (suc d) ≡ false

@@ -13,7 +13,8 @@ use Rattle.numbers.proofs.AllLaws.{all-each, all-if}
 use Rattle.history.specs.Slot.{Slot}
 use Rattle.history.specs.Phase.{Phase}
 use Rattle.history.specs.Record.{hers, names}
-use Rattle.history.proofs.TestLaws.{and-true, both-true, not-of-false}
+use Rattle.numbers.proofs.RangeLaws.{both-true}
+use Rattle.history.proofs.TestLaws.{and-true, not-of-false}
 use Rattle.history.proofs.FollowLaws.{among-member, member-among}
 use Rattle.removals.specs.Removals.{slot, noRemoval, slotZero, removalZero}
 use Rattle.removals.specs.declared.Removal.{Removal as StoredRemoval}

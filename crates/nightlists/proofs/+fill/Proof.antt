@@ -7,7 +7,8 @@ use mathlib.Core.List.{_++_}
 use lib.ListN.{length, length-append, length-set, length-drop}
 use Rattle.nightlists.specs.CodeWalk.{listed}
 use Rattle.numbers.proofs.BufferLaws.{one-written, none-written, as-long, both-written, part-is}
-use Rattle.nightlists.proofs.WalkLaws.{leaf-yes, leaf-no, node-with, node-never, pow-half, half-fits}
+use Rattle.nightlists.proofs.WalkLaws.{leaf-yes, leaf-no, node-with, node-never, half-fits}
+use Rattle.numbers.proofs.HalfLaws.{pow-half}
 use borrow.Fn.Kinds.{In}
 use borrow.Fn.PlainCycle.{Measures, is, falls, and}
 use Rattle.nightlists.proofs.fill.Reads as fill

@@ -1,6 +1,7 @@
 -- `numbers::members` meets its contract: the ones of a masked column are the members that both have.
 use native.Mathlib.Omega.{arith}
-use Rattle.numbers.proofs.DigitLaws.{masked-count, masked-le}
+use Rattle.numbers.proofs.DigitLaws.{masked-le}
+use Rattle.numbers.proofs.SetLaws.{masked-count}
 use Rattle.numbers.proofs.members.Statement.{statement}
 use Rattle.numbers.proofs.members.Tie as tie
 

@@ -2,7 +2,8 @@
 use native.Mathlib.Omega.{arith}
 use mathlib.Core.Path.{ap}
 use lib.ListN.{length, length-append}
-use Rattle.daylists.proofs.WalkLaws.{leaf-yes, walk-stops, node-yes, low-inside, high-inside, pow-half}
+use Rattle.daylists.proofs.WalkLaws.{leaf-yes, walk-stops, node-yes, low-inside, high-inside}
+use Rattle.numbers.proofs.HalfLaws.{pow-half}
 use borrow.Author.Needs.{needs}
 use Prim.Native.Nat.{ℕ, _<_}
 use borrow.Fn.Kinds.{In}

@@ -7,7 +7,8 @@ use lib.ListN.{length, length-append, length-set, length-drop}
 use lib.Pow.{pow-pos}
 use Rattle.numbers.proofs.BufferLaws.{part-is, both-written, one-written, none-written, as-long}
 use Rattle.daylists.specs.CodeWalk.{listedAt}
-use Rattle.daylists.proofs.WalkLaws.{leaf-yes, walk-stops, node-yes, half-fits, low-inside, high-inside, pow-half}
+use Rattle.daylists.proofs.WalkLaws.{leaf-yes, walk-stops, node-yes, half-fits, low-inside, high-inside}
+use Rattle.numbers.proofs.HalfLaws.{pow-half}
 use borrow.Author.Needs.{needs}
 use borrow.Fn.Kinds.{In}
 use borrow.Fn.PlainCycle.{Measures, is, falls, and}

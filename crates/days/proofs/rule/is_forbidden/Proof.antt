@@ -1,9 +1,8 @@
 -- `days::rule::is_forbidden` meets its contract. The loop's invariant: the answer is that of the sequence from its j-th duty on.
 use mathlib.Core.Path.{_≡_, sym, _∙_}
-use mathlib.Core.List.{[], _∷_}
 use Prim.Native.Nat.{_-_, _≤_}
 use native.Mathlib.Omega.{arith}
-use Rattle.days.specs.Days.{same, window}
+use Rattle.days.specs.Days.{alternating, same, window}
 use Rattle.days.specs.CodeMonth.{dutyAt}
 use Rattle.days.proofs.RuleLaws.{sameFrom, same-start, same-yes, same-no, same-done}
 use borrow.Author.Needs.{needs}
@@ -11,7 +10,7 @@ use Rattle.days.proofs.rule.is_forbidden.Statement.{statement}
 use Rattle.days.proofs.rule.is_forbidden.Tie as tie
 
 abbrev Inv-loop : tie.InvT-loop
-Inv-loop row q t j₀ j = (j ≤ 5) × (same (0 ∷ 1 ∷ 0 ∷ 1 ∷ 0 ∷ []) (window (dutyAt row q) 5 t) ≡ sameFrom (dutyAt row q) (0 ∷ 1 ∷ 0 ∷ 1 ∷ 0 ∷ []) (t - 4) j)
+Inv-loop row q t j₀ j = (j ≤ 5) × (same alternating (window (dutyAt row q) 5 t) ≡ sameFrom (dutyAt row q) alternating (t - 4) j)
 
 abbrev μ-loop : tie.MeasureT-loop
 μ-loop row q t j₀ j = 5 - j
@@ -42,15 +41,15 @@ loop-less c = search needs
 
 loop-again : tie.Need-loop-again Inv-loop μ-loop
 loop-again c = let s = c .before .before .before .before .args in
-    (omega arith, c .before .before .before .loop .inv .1 ∙ same-yes (dutyAt (s .row .now) (s .q)) (0 ∷ 1 ∷ 0 ∷ 1 ∷ 0 ∷ []) (s .t - 4) (c .before .before .before .loop .j) (c .before .before .loop-test .taken) (c .before .duty-at .ensures) (c .if1 .taken))
+    (omega arith, c .before .before .before .loop .inv .1 ∙ same-yes (dutyAt (s .row .now) (s .q)) alternating (s .t - 4) (c .before .before .before .loop .j) (c .before .before .loop-test .taken) (c .before .duty-at .ensures) (c .if1 .taken))
 
 returns : tie.Need-returns Inv-loop μ-loop
 returns c = let s = c .before .before .before .before .args in
-    sym (c .before .before .before .loop .inv .1 ∙ same-no (dutyAt (s .row .now) (s .q)) (0 ∷ 1 ∷ 0 ∷ 1 ∷ 0 ∷ []) (s .t - 4) (c .before .before .before .loop .j) (c .before .before .loop-test .taken) (c .before .duty-at .ensures) (c .if1 .left))
+    sym (c .before .before .before .loop .inv .1 ∙ same-no (dutyAt (s .row .now) (s .q)) alternating (s .t - 4) (c .before .before .before .loop .j) (c .before .before .loop-test .taken) (c .before .duty-at .ensures) (c .if1 .left))
 
 returns-2 : tie.Need-returns-2 Inv-loop μ-loop
 returns-2 c = let s = c .before .before .args in
-    sym (c .before .loop .inv .1 ∙ same-done (dutyAt (s .row .now) (s .q)) (0 ∷ 1 ∷ 0 ∷ 1 ∷ 0 ∷ []) (s .t - 4) (c .before .loop .j) (c .loop-test .left))
+    sym (c .before .loop .inv .1 ∙ same-done (dutyAt (s .row .now) (s .q)) alternating (s .t - 4) (c .before .loop .j) (c .loop-test .left))
 
 pub is-forbidden-spec : {M : Type 1} → statement M
 is-forbidden-spec =

@@ -8,7 +8,8 @@ use Rattle.fields.specs.Fields.{days}
 use Rattle.fields.specs.Rules.{rulesOf}
 use Rattle.nightlists.specs.CodeWalk.{listed}
 use Rattle.nights.specs.Hers.{hersOf}
-use Rattle.nightlists.proofs.WalkLaws.{leaf-yes, leaf-no, node-with, listed-node, node-never, pow-half}
+use Rattle.nightlists.proofs.WalkLaws.{leaf-yes, leaf-no, node-with, listed-node, node-never}
+use Rattle.numbers.proofs.HalfLaws.{pow-half}
 use Rattle.nights.proofs.ListLaws.{some-leaf, some-empty, some-low, some-high, some-only}
 use borrow.Fn.Kinds.{In}
 use borrow.Fn.PlainCycle.{Measures, is, falls, and}

@@ -4,9 +4,8 @@ use mathlib.Core.Path.{_≡_, refl, sym, _∙_}
 use native.Mathlib.Omega.{arith}
 use lib.ListN.{length}
 use Rattle.numbers.specs.Range.{upFrom, all}
-use Rattle.numbers.proofs.RangeLaws.{all-more, all-stop, all-end}
+use Rattle.numbers.proofs.RangeLaws.{all-begin, all-more, all-stop, all-end}
 use Rattle.rosters.specs.CodeBounds.{boundsHold, allBoundsHold}
-use Rattle.rosters.proofs.NeedLaws.{all-start}
 use borrow.Author.Needs.{needs}
 use Rattle.rosters.proofs.needs.all_bounds_hold.Statement.{statement}
 use Rattle.rosters.proofs.needs.all_bounds_hold.Tie as tie
@@ -19,7 +18,7 @@ abbrev μ-loop : tie.MeasureT-loop
 
 loop-holds : tie.Need-loop-holds Inv-loop μ-loop
 unfolding allBoundsHold
-loop-holds c = (omega arith, all-start _ refl)
+loop-holds c = (omega arith, all-begin _ refl)
 
 bounds-hold-requires : tie.Need-bounds-hold-requires Inv-loop μ-loop
 bounds-hold-requires c κs = search needs

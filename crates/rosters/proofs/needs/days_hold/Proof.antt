@@ -4,9 +4,8 @@ use Prim.Native.Nat.{_≤_, _-_}
 use mathlib.Core.Path.{_≡_, sym, _∙_}
 use native.Mathlib.Omega.{arith}
 use Rattle.numbers.specs.Range.{upFrom, all}
-use Rattle.numbers.proofs.RangeLaws.{all-more, all-stop, all-end}
+use Rattle.numbers.proofs.RangeLaws.{all-begin, all-more, all-stop, all-end}
 use Rattle.rosters.specs.CodeCheck.{dayHolds, daysHold}
-use Rattle.rosters.proofs.NeedLaws.{all-start}
 use Rattle.rosters.proofs.needs.days_hold.Statement.{statement}
 use Rattle.rosters.proofs.needs.days_hold.Tie as tie
 
@@ -21,7 +20,7 @@ days-requires c κs = search needs
 
 loop-holds : tie.Need-loop-holds Inv-loop μ-loop
 unfolding daysHold
-loop-holds c = (omega arith, all-start _ (c .days .ensures .0))
+loop-holds c = (omega arith, all-begin _ (c .days .ensures .0))
 
 day-holds-requires : tie.Need-day-holds-requires Inv-loop μ-loop
 day-holds-requires c κs = search needs

@@ -4,9 +4,8 @@ use Prim.Native.Nat.{_≤_, _-_}
 use mathlib.Core.Path.{_≡_, sym, _∙_}
 use native.Mathlib.Omega.{arith}
 use Rattle.numbers.specs.Range.{upFrom, all}
-use Rattle.numbers.proofs.RangeLaws.{all-more, all-stop, all-end}
+use Rattle.numbers.proofs.RangeLaws.{all-begin, all-more, all-stop, all-end}
 use Rattle.rosters.specs.CodeCheck.{rowHolds, rowsHold}
-use Rattle.rosters.proofs.NeedLaws.{all-start}
 use Rattle.rosters.proofs.rows_of.rows_hold.Statement.{statement}
 use Rattle.rosters.proofs.rows_of.rows_hold.Tie as tie
 
@@ -21,7 +20,7 @@ nurses-requires c κs = search needs
 
 loop-holds : tie.Need-loop-holds Inv-loop μ-loop
 unfolding rowsHold
-loop-holds c = (omega arith, all-start _ (c .nurses .ensures .0))
+loop-holds c = (omega arith, all-begin _ (c .nurses .ensures .0))
 
 row-holds-requires : tie.Need-row-holds-requires Inv-loop μ-loop
 row-holds-requires c κs = search needs
