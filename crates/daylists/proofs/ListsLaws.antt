@@ -9,6 +9,7 @@ use native.Mathlib.Decide.{decLt}
 use borrow.Author.Tests.{le-leb, lt-leb}
 use lib.ListN.{length, getD, set, take, drop, length-append, length-set}
 use lib.Seq.{getD-set-same, getD-set-other, drop-append-seam, take-append-seam}
+use Rattle.numbers.proofs.BufferLaws.{Halves, halves-count, halves-written, as-long}
 use Rattle.daylists.specs.Lists.{upTo, firstOver}
 use Rattle.daylists.specs.CodeLists.{Counted}
 
@@ -67,6 +68,42 @@ module _ (f : ℕ → List ℕ) where
     over-done h =
         let e : m - i ≡ 0 = omega arith in
         rw e
+
+-- ---- writing: the first `i` lists stand at the buffer's start, `used` numbers
+
+pub record FillAt (f : ℕ → List ℕ) (m : ℕ) (before : List ℕ) (i used : ℕ) (buf : List ℕ) : Type 0 where
+  pub i-most : i ≤ m
+  pub used-is : used ≡ length (upTo f i)
+  pub buf-is : buf ≡ upTo f i ++ drop (length (upTo f i)) before
+
+pub fill-start : (f : ℕ → List ℕ) (m : ℕ) (before : List ℕ) → FillAt f m before 0 0 before
+fill-start f m before = record {
+  i-most = omega arith;
+  used-is = sym (ap length (up-none f));
+  buf-is = rw (up-none f);
+}
+
+module _ {f : ℕ → List ℕ} {m : ℕ} {before : List ℕ} {i used : ℕ} {buf : List ℕ} (h : FillAt f m before i used buf) where
+  pub fill-length : length (upTo f m) ≤ length before → length buf ≡ length before
+  fill-length room = as-long (upTo f i) before buf (h .buf-is) (omega (arith, up-mono f i m (h .i-most)))
+
+  -- the next list beside those before it
+  pub next-halves : i < m → length (upTo f m) ≤ length before → Halves (upTo f (i + 1)) (upTo f i) (f i) before
+  next-halves l room = record { whole = up-one f i; room = omega (arith, up-mono f (i + 1) m (omega arith)) }
+
+  pub fill-turn : {found : ℕ} {ys : List ℕ} → i < m → length (upTo f m) ≤ length before → found ≡ length (f i)
+      → ys ≡ f i ++ drop (length (f i)) (take (length buf - used) (drop used buf))
+      → FillAt f m before (i + 1) (used + found) (take used buf ++ (ys ++ drop (length buf - used) (drop used buf)))
+  fill-turn l room e q = record {
+    i-most = omega arith;
+    used-is = halves-count (next-halves l room) (h .used-is) (h .buf-is) e q;
+    buf-is = halves-written (next-halves l room) (h .used-is) (h .buf-is) e q;
+  }
+
+  pub fill-end : m ≤ i → (used ≡ length (upTo f m)) × (buf ≡ upTo f m ++ drop (length (upTo f m)) before)
+  fill-end l =
+      let done : m ≡ i = omega (arith, h .i-most) in
+      (rw done (h .used-is), rw done (h .buf-is))
 
 -- ---- counting: the first `over` lists end within the places, at `at`
 

@@ -1,7 +1,7 @@
 -- What the walk lists from its beginning is the nurse's day list.
 use mathlib.Core.Path.{_≡_, sym, ap, ap₂, _∙_, subst}
 use mathlib.Core.List.{List}
-use Prim.Native.Nat.{ℕ, _^_, _≤_, _<_}
+use Prim.Native.Nat.{ℕ, _+_, _*_, _^_, _≤_, _<_}
 use native.Mathlib.Omega.{arith}
 use lib.Pow.{pow-mono}
 use Rattle.numbers.specs.Range.{upFrom, keep}
@@ -11,10 +11,10 @@ use Rattle.numbers.proofs.DigitLaws.{number-lt, number-has}
 use Rattle.fields.specs.Fields.{Accepted, days, longestDays, block, leastRestsOf, mostRestsOf}
 use Rattle.rows.specs.Rows.{fixedDay}
 use Rattle.days.specs.Days.{dayRuleOf, dayList}
-use Rattle.days.specs.CodeMonth.{IsSheet, Small, inBounds, ruleOf}
+use Rattle.days.specs.CodeMonth.{IsSheet, inBounds, ruleOf}
 use Rattle.days.specs.declared.month.Month.{Month}
 use Rattle.days.proofs.SheetLaws.{rule-is, sheet-small}
-use Rattle.daylists.specs.CodeWalk.{listed, listedAt, Inside}
+use Rattle.daylists.specs.CodeWalk.{listed, listedAt, Filled, Ready}
 use Rattle.daylists.specs.declared.walk.Point.{Point}
 use Rattle.daylists.proofs.ReachLaws.{Bounded}
 use Rattle.daylists.proofs.ListLaws.{walk-lists}
@@ -41,11 +41,18 @@ lists-day-list w i p m row a s =
 
 -- ---- the walk's beginning
 
-pub start-inside : (m : Month) → Small m → {s : Point} → s ≡ record { left = m .days; from = 0; rests = 0 } → Inside m s
-start-inside m small e = subst (Inside m) (sym e) (record {
-  days-left = omega arith;
-  fits = omega (arith, pow-mono {i = m .days} {j = 31} (small .few-days));
-})
+pub start-ready : {w : List ℕ} (i : ℕ) {p : ℕ} {m : Month} {row table : List ℕ} {s : Point} → IsSheet (block w i) (days w) (longestDays w) p m row → Accepted w
+    → Filled m row table (64 * m .days + 64) → s ≡ record { left = m .days; from = 0; rests = 0 } → Ready m row table s
+start-ready {w} i {p} {m} {row} {table} h a f e =
+    let small = sheet-small (block w i) (days w) (longestDays w) p m row h (a .days-most) (a .day-run-most) in
+    subst (Ready m row table) (sym e) (record {
+      small = small;
+      filled = f;
+      inside = record {
+        days-left = omega arith;
+        fits = omega (arith, pow-mono {i = m .days} {j = 31} (small .few-days));
+      };
+    })
 
 pub start-lists : (w : List ℕ) (i p : ℕ) (m : Month) (row : List ℕ) {s : Point} → Accepted w → IsSheet (block w i) (days w) (longestDays w) p m row
     → s ≡ record { left = m .days; from = 0; rests = 0 } → listedAt m row s ≡ dayList w i p

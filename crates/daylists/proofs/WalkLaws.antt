@@ -8,13 +8,15 @@ use native.Mathlib.Numerals.{sub-one}
 use native.Mathlib.Omega.{arith}
 use borrow.Author.Tests.{lt-ltb, le-ltb}
 use lib.Bits.{bitOr}
+use lib.Pow.{pow-pos}
 use lib.ListN.{length, getD, set, length-append}
 use Rattle.numbers.specs.Range.{upFrom, all}
 use Rattle.numbers.specs.Digits.{has}
 use Rattle.numbers.proofs.HalfLaws.{pow-half}
+use Rattle.numbers.proofs.BufferLaws.{Halves}
 use Rattle.days.specs.Days.{windowsHold}
 use Rattle.days.specs.CodeMonth.{dutyAt, restOn}
-use Rattle.daylists.specs.CodeWalk.{Filled, stepHolds, branch, reach, goesOn, listed, listedAt, Next, Inside}
+use Rattle.daylists.specs.CodeWalk.{Filled, stepHolds, branch, reach, goesOn, listed, listedAt, Next, Ready}
 use Rattle.days.specs.declared.month.Month.{Month}
 use Rattle.daylists.specs.declared.walk.Point.{Point}
 use Rattle.days.proofs.MonthLaws.{place-turn}
@@ -95,10 +97,9 @@ module _ (m : Month) (row : List ℕ) where
 
   -- ---- the walk
 
-  module _ (s : Point) where
-    pub leaf-yes : {v : Bool} → s .left ≡ 0 → v ≡ goesOn m row (s .left) (s .from) (s .rests) → v ≡ true → listedAt m row s ≡ s .from ∷ []
-    unfolding listed
-    leaf-yes z e y = let g : goesOn m row 0 (s .from) (s .rests) ≡ true = ap (λ (k : ℕ). goesOn m row k (s .from) (s .rests)) (sym z) ∙ sym e ∙ y in rw (z, g)
+  pub leaf-lists : (s : Point) {v : Bool} → v ≡ goesOn m row (s .left) (s .from) (s .rests) → v ≡ true → s .left ≡ 0 → listedAt m row s ≡ s .from ∷ []
+  unfolding listed
+  leaf-lists s e y z = let g : goesOn m row 0 (s .from) (s .rests) ≡ true = ap (λ (k : ℕ). goesOn m row k (s .from) (s .rests)) (sym z) ∙ sym e ∙ y in rw (z, g)
 
   -- nothing is listed where the walk does not go on
   stops : (left a r : ℕ) → goesOn m row left a r ≡ false → listed m row left a r ≡ []
@@ -106,8 +107,8 @@ module _ (m : Month) (row : List ℕ) where
   stops zero a r e = rw e
   stops (suc d) a r e = rw e
 
-  pub walk-stops : (s : Point) {v : Bool} → v ≡ goesOn m row (s .left) (s .from) (s .rests) → v ≡ false → listedAt m row s ≡ []
-  walk-stops s e y = stops (s .left) (s .from) (s .rests) (sym e ∙ y)
+  pub stop-lists : (s : Point) {v : Bool} → v ≡ goesOn m row (s .left) (s .from) (s .rests) → v ≡ false → listedAt m row s ≡ []
+  stop-lists s e y = stops (s .left) (s .from) (s .rests) (sym e ∙ y)
 
   node-is : (left a r : ℕ) → (left ≡ 0 → ⊥) → listed m row left a r
       ≡ cond (goesOn m row left a r) (listed m row (left - 1) a (r + restOn row a (left - 1)) ++ listed m row (left - 1) (a + 2 ^ (left - 1)) (r + restOn row (a + 2 ^ (left - 1)) (left - 1))) []
@@ -119,29 +120,59 @@ module _ (m : Month) (row : List ℕ) where
   next-lists : (s t : Point) (a : ℕ) → Next row s a t → listedAt m row t ≡ listed m row (s .left - 1) a (s .rests + restOn row a (s .left - 1))
   next-lists s t a n = rw (n .left-is, n .from-is, n .rests-is)
 
-  module _ (s : Point) (f : s .left ≡ 0 → ⊥) where
-    pub node-yes : {v : Bool} {b : ℕ} (t u : Point) → v ≡ goesOn m row (s .left) (s .from) (s .rests) → v ≡ true → b ≡ 2 ^ (s .left - 1)
-        → Next row s (s .from) t → Next row s (s .from + b) u → listedAt m row s ≡ listedAt m row t ++ listedAt m row u
-    node-yes {b = b} t u e y g h k =
-        node-is (s .left) (s .from) (s .rests) f
-        ∙ rw (← e, y, ← g) (sym (ap₂ _++_ (next-lists s t (s .from) h) (next-lists s u (s .from + b) k)))
+-- The walk goes on at s, and a day is left to decide: b is its number, t the point without it, u the point with it.
+pub record Node (m : Month) (row : List ℕ) (s : Point) : Type 0 where
+  pub goes : goesOn m row (s .left) (s .from) (s .rests) ≡ true
+  pub more : s .left ≡ 0 → ⊥
 
-    pub half-fits : {v : Bool} (t : Point) → v ≡ goesOn m row (s .left) (s .from) (s .rests) → v ≡ true → Next row s (s .from) t
-        → length (listedAt m row t) ≤ length (listedAt m row s)
-    half-fits t e y h =
-        let B = listed m row (s .left - 1) (s .from + 2 ^ (s .left - 1)) (s .rests + restOn row (s .from + 2 ^ (s .left - 1)) (s .left - 1)) in
-        let whole : listedAt m row s ≡ listedAt m row t ++ B =
-        node-is (s .left) (s .from) (s .rests) f ∙ rw (← e, y) (ap (λ (l : List ℕ). l ++ B) (sym (next-lists s t (s .from) h))) in
-        omega (arith, simp length-append at (ap length whole))
+pub node-yes : {m : Month} {row : List ℕ} {s : Point} {v : Bool} → v ≡ goesOn m row (s .left) (s .from) (s .rests) → v ≡ true → (s .left ≡ 0 → ⊥) → Node m row s
+node-yes e y f = record { goes = sym e ∙ y; more = f }
 
-    next-inside : (t : Point) (a : ℕ) → s .rests + s .left ≤ m .days → a + 2 ^ (s .left - 1) ≤ 2 ^ 32 → Next row s a t → Inside m t
-    next-inside t a l h n = record {
-      days-left = omega (arith, n .left-is, n .rests-most, f);
-      fits = rw (n .left-is, n .from-is) h;
+module _ {m : Month} {row : List ℕ} {s : Point} (n : Node m row s) where
+  pub node-lists : {b : ℕ} {t u : Point} → b ≡ 2 ^ (s .left - 1) → Next row s (s .from) t → Next row s (s .from + b) u
+      → listedAt m row s ≡ listedAt m row t ++ listedAt m row u
+  node-lists {b} {t} {u} e low high =
+      node-is m row (s .left) (s .from) (s .rests) (n .more)
+      ∙ rw (n .goes, ← e) (sym (ap₂ _++_ (next-lists m row s t (s .from) low) (next-lists m row s u (s .from + b) high)))
+
+  pub node-halves : {b : ℕ} {t u : Point} (buf : List ℕ) → b ≡ 2 ^ (s .left - 1) → Next row s (s .from) t → Next row s (s .from + b) u
+      → length (listedAt m row s) ≤ length buf → Halves (listedAt m row s) (listedAt m row t) (listedAt m row u) buf
+  node-halves buf e low high h = record { whole = node-lists e low high; room = h }
+
+  pub low-fits : {t : Point} → Next row s (s .from) t → length (listedAt m row t) ≤ length (listedAt m row s)
+  low-fits {t} low =
+      let B = listed m row (s .left - 1) (s .from + 2 ^ (s .left - 1)) (s .rests + restOn row (s .from + 2 ^ (s .left - 1)) (s .left - 1)) in
+      let whole : listedAt m row s ≡ listedAt m row t ++ B =
+      node-is m row (s .left) (s .from) (s .rests) (n .more) ∙ rw (n .goes) (ap (λ (l : List ℕ). l ++ B) (sym (next-lists m row s t (s .from) low))) in
+      omega (arith, simp length-append at (ap length whole))
+
+  pub nearer : {a : ℕ} {t : Point} → Next row s a t → t .left < s .left
+  nearer next = omega (arith, next .left-is, n .more)
+
+  module _ {table : List ℕ} (ready : Ready m row table s) where
+    next-ready : {a : ℕ} {t : Point} → a + 2 ^ (s .left - 1) ≤ 2 ^ 32 → Next row s a t → Ready m row table t
+    next-ready h next = record {
+      small = ready .small;
+      filled = ready .filled;
+      inside = record {
+        days-left = omega (arith, ready .inside .days-left, next .left-is, next .rests-most, n .more);
+        fits = rw (next .left-is, next .from-is) h;
+      };
     }
 
-    pub low-inside : (t : Point) → Inside m s → Next row s (s .from) t → Inside m t
-    low-inside t i n = next-inside t (s .from) (i .days-left) (omega (arith, i .fits, pow-half (s .left) f)) n
+    pub low-ready : {t : Point} → Next row s (s .from) t → Ready m row table t
+    low-ready low = next-ready (omega (arith, ready .inside .fits, pow-half (s .left) (n .more))) low
 
-    pub high-inside : {b : ℕ} (t : Point) → Inside m s → b ≡ 2 ^ (s .left - 1) → Next row s (s .from + b) t → Inside m t
-    high-inside {b} t i e n = next-inside t (s .from + b) (i .days-left) (omega (arith, e, i .fits, pow-half (s .left) f)) n
+    pub high-ready : {b : ℕ} {u : Point} → b ≡ 2 ^ (s .left - 1) → Next row s (s .from + b) u → Ready m row table u
+    high-ready e high = next-ready (omega (arith, e, ready .inside .fits, pow-half (s .left) (n .more))) high
+
+    -- the number with the day is one of 32 bits
+    pub high-most : {b : ℕ} → b ≡ 2 ^ (s .left - 1) → s .from + b < 2 ^ 32
+    high-most e = omega (arith, e, ready .inside .fits, pow-half (s .left) (n .more), pow-pos (s .left - 1))
+
+    pub left-most : s .left ≤ 31
+    left-most = omega (arith, ready .small .few-days, ready .inside .days-left)
+
+    -- what `decided` asks
+    pub decides : (0 < s .left) × ((s .left ≤ 31) × (s .rests ≤ 31))
+    decides = (omega (arith, n .more), (left-most, omega (arith, ready .small .few-days, ready .inside .days-left)))

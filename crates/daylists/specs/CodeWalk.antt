@@ -10,7 +10,7 @@ use lib.Bits.{bitOr}
 use Rattle.numbers.specs.Range.{upFrom, all}
 use Rattle.numbers.specs.Digits.{has}
 use Rattle.days.specs.Days.{windowsHold}
-use Rattle.days.specs.CodeMonth.{dutyAt, restOn}
+use Rattle.days.specs.CodeMonth.{dutyAt, restOn, Small}
 use Rattle.days.specs.declared.month.Month.{Month}
 use Rattle.daylists.specs.declared.walk.Point.{Point}
 
@@ -66,3 +66,9 @@ pub record Next (row : List ℕ) (s : Point) (a : ℕ) (t : Point) : Type 0 wher
 pub record Inside (m : Month) (s : Point) : Type 0 where
   pub days-left : s .rests + s .left ≤ m .days
   pub fits : s .from + 2 ^ s .left ≤ 2 ^ 32
+
+-- what the walk asks where it stands at s
+pub record Ready (m : Month) (row table : List ℕ) (s : Point) : Type 0 where
+  pub small : Small m
+  pub filled : Filled m row table (64 * m .days + 64)
+  pub inside : Inside m s

@@ -4,10 +4,9 @@ use days::month::Month;
 use days::rule;
 ghost use mathlib.Core.Path.{_≡_};
 ghost use mathlib.Core.List.{_++_};
-ghost use Prim.Native.Nat.{_+_, _*_, _≤_, _<_, min};
+ghost use Prim.Native.Nat.{_≤_, _<_, min};
 ghost use lib.ListN.{length, drop};
-ghost use Rattle.days.specs.CodeMonth.{Small};
-ghost use Rattle.daylists.specs.CodeWalk.{Filled, goesOn, listedAt, Next, Inside};
+ghost use Rattle.daylists.specs.CodeWalk.{goesOn, listedAt, Next, Ready};
 
 // Where the walk stands: the days before `left` are undecided, the others make the number `from`, with so many rests.
 pub(crate) struct Point {
@@ -44,9 +43,7 @@ fn decided(row: &[u64; 38], s: Point, from: u64) -> Point
 
 // Whether a pattern may remain. With no day left to decide, whether the pattern is hers.
 fn goes_on(m: Month, row: &[u64; 38], table: &[u64; 2048], s: Point) -> bool
-    requires { ⌜ Small m ⌝ }
-    requires { ⌜ Filled m (now row) (now table) (64 * m .days + 64) ⌝ }
-    requires { ⌜ Inside m s ⌝ }
+    requires { ⌜ Ready m (now row) (now table) s ⌝ }
     ensures { λ r. ⌜ r ≡ goesOn m (now (row .entry)) (s .left) (s .from) (s .rests) ⌝ }
 {
     if reach::step_holds(m, row, s.left, s.from) {
@@ -58,9 +55,7 @@ fn goes_on(m: Month, row: &[u64; 38], table: &[u64; 2048], s: Point) -> bool
 
 // How many patterns there are below, but no more than cap.
 pub(crate) fn count(m: Month, row: &[u64; 38], table: &[u64; 2048], s: Point, cap: usize) -> usize
-    requires { ⌜ Small m ⌝ }
-    requires { ⌜ Filled m (now row) (now table) (64 * m .days + 64) ⌝ }
-    requires { ⌜ Inside m s ⌝ }
+    requires { ⌜ Ready m (now row) (now table) s ⌝ }
     ensures { λ k. ⌜ k ≡ min cap (length (listedAt m (now (row .entry)) s)) ⌝ }
 {
     if cap == 0 {
@@ -85,9 +80,7 @@ pub(crate) fn fill(
     s: Point,
     buf: &mut [u32],
 ) -> usize
-    requires { ⌜ Small m ⌝ }
-    requires { ⌜ Filled m (now row) (now table) (64 * m .days + 64) ⌝ }
-    requires { ⌜ Inside m s ⌝ }
+    requires { ⌜ Ready m (now row) (now table) s ⌝ }
     requires { ⌜ length (listedAt m (now row) s) ≤ length (now buf) ⌝ }
     ensures { λ k. ⌜ k ≡ length (listedAt m (now (row .entry)) s) ⌝ }
     ensures { λ k. ⌜ now (buf .exit) ≡ listedAt m (now (row .entry)) s ++ drop (length (listedAt m (now (row .entry)) s)) (now (buf .entry)) ⌝ }

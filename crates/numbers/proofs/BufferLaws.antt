@@ -1,5 +1,5 @@
 -- A buffer with one list written at its start and another in the part after it, as a lent rest of the buffer comes back.
-use mathlib.Core.Path.{_≡_, subst}
+use mathlib.Core.Path.{_≡_, ap, subst}
 use mathlib.Core.List.{List, [], _∷_, _++_, append-nil, append-assoc}
 use Prim.Native.Nat.{ℕ, _+_, _-_, _≤_}
 use native.Mathlib.Nat.{not-suc-le-zero}
@@ -31,3 +31,31 @@ none-written L buf e = rw e
 -- the buffer keeps its length
 pub as-long : (L buf xs : List ℕ) → xs ≡ L ++ drop (length L) buf → length L ≤ length buf → length xs ≡ length buf
 as-long L buf xs e h = rw e (simp (length-append, length-drop) (omega arith))
+
+-- A list in two halves and room for it. The first half is written at the buffer's start, the second in the part after it.
+pub record Halves (L A B buf : List ℕ) : Type 0 where
+  pub whole : L ≡ A ++ B
+  pub room : length L ≤ length buf
+
+module _ {L A B buf xs : List ℕ} {low : ℕ} (h : Halves L A B buf) (len : low ≡ length A) (first : xs ≡ A ++ drop (length A) buf) where
+  lengths : length L ≡ length A + length B
+  lengths = simp length-append at (ap length (h .whole))
+
+  fits : length A ≤ length buf
+  fits = omega (arith, lengths, h .room)
+
+  pub low-most : low ≤ length xs
+  low-most = omega (arith, len, fits, as-long A buf xs first fits)
+
+  pub rest-room : length B ≤ length (take (length xs - low) (drop low xs))
+  rest-room = rw (part-is A buf xs low len first fits, length-drop) (omega (arith, lengths, h .room))
+
+  module _ {ys : List ℕ} {high : ℕ} (more : high ≡ length B) (second : ys ≡ B ++ drop (length B) (take (length xs - low) (drop low xs))) where
+    pub halves-count : low + high ≡ length L
+    halves-count = omega (arith, lengths)
+
+    pub halves-written : take low xs ++ (ys ++ drop (length xs - low) (drop low xs)) ≡ L ++ drop (length L) buf
+    halves-written = rw (h .whole) (both-written A buf xs low len first fits B ys second)
+
+    pub halves-length : length (take low xs ++ (ys ++ drop (length xs - low) (drop low xs))) ≡ length buf
+    halves-length = as-long L buf _ halves-written (h .room)

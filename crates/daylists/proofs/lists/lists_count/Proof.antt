@@ -15,12 +15,24 @@ Inv-loop w nights places m ends₀ at₀ over₀ ends at over = CountAt (dayList
 abbrev μ-loop : tie.MeasureT-loop
 μ-loop w nights places m ends₀ at₀ over₀ ends at over = nurses w - over
 
+-- the places that the answers name; `search` finds each by its type among those before
+abbrev Start : Type 0
+Start = tie.Start Inv-loop μ-loop
+
+abbrev At-loop : Type 0
+At-loop = tie.At-loop Inv-loop μ-loop
+
+abbrev In-loop : Type 0
+In-loop = tie.In-loop Inv-loop μ-loop
+
+abbrev After-day-count : Type 0
+After-day-count = tie.After-day-count Inv-loop μ-loop
+
 shared-slice-read-m : tie.Need-shared-slice-read-m Inv-loop μ-loop
 shared-slice-read-m c = search needs
 
 loop-holds : tie.Need-loop-holds Inv-loop μ-loop
-loop-holds c = let s = c .before .before .args in
-    count-start (dayLists (s .w .now) (s .nights .now)) (nurses (s .w .now)) (s .places) _ refl refl
+loop-holds c = count-start _ _ _ _ refl refl
 
 sub-room : tie.Need-sub-room Inv-loop μ-loop
 sub-room c = search needs
@@ -35,12 +47,16 @@ add-day-count : tie.Need-add-day-count Inv-loop μ-loop
 add-day-count c = search needs
 
 day-count-requires : tie.Need-day-count-requires Inv-loop μ-loop
-day-count-requires c κs = (c .before .before .before .before .before .pre .0, c .before .loop-test .taken)
+day-count-requires c κs =
+    let start : Start = search in
+    let turn : In-loop = search in
+    (start .pre .0, turn .loop-test .taken)
 
 returns : tie.Need-returns Inv-loop μ-loop
-returns c = let s = c .before .before .before .before .before .before .before .args in
-    let l = c .before .before .before .before .loop in
-    counted-over (dayLists (s .w .now) (s .nights .now)) (nurses (s .w .now)) (s .places) (l .over) (l .at) (l .ends) (l .inv) (c .before .before .before .loop-test .taken) (c .before .day-count .ensures) (c .if1 .taken)
+returns c =
+    let turn : In-loop = search in
+    let counted : After-day-count = search in
+    counted-over _ _ _ _ _ _ (turn .before .loop .inv) (turn .loop-test .taken) (counted .day-count .ensures) (c .if1 .taken)
 
 add-at : tie.Need-add-at Inv-loop μ-loop
 add-at c = search needs
@@ -52,20 +68,25 @@ mul-ends : tie.Need-mul-ends Inv-loop μ-loop
 mul-ends c = search needs
 
 array-write-ends : tie.Need-array-write-ends Inv-loop μ-loop
-array-write-ends c = omega (arith, c .before .before .before .before .loop .inv .ends-long, c .before .before .before .loop-test .taken, c .before .before .before .before .before .before .before .pre .0 .nurses-most)
+array-write-ends c =
+    let start : Start = search in
+    let turn : In-loop = search in
+    omega (arith, turn .before .loop .inv .ends-long, turn .loop-test .taken, start .pre .0 .nurses-most)
 
 loop-less : tie.Need-loop-less Inv-loop μ-loop
 loop-less c = search needs
 
 loop-again : tie.Need-loop-again Inv-loop μ-loop
-loop-again c = let s = c .before .before .before .before .before .before .before .args in
-    let l = c .before .before .before .before .loop in
-    count-turn (dayLists (s .w .now) (s .nights .now)) (nurses (s .w .now)) (s .places) (l .over) (l .at) (l .ends) (l .inv) (c .before .before .before .before .before .before .before .pre .0 .nurses-most) (c .before .before .before .loop-test .taken) (c .before .day-count .ensures) (c .if1 .left)
+loop-again c =
+    let start : Start = search in
+    let turn : In-loop = search in
+    let counted : After-day-count = search in
+    count-turn _ _ _ _ _ _ (turn .before .loop .inv) (start .pre .0 .nurses-most) (turn .loop-test .taken) (counted .day-count .ensures) (c .if1 .left)
 
 returns-2 : tie.Need-returns-2 Inv-loop μ-loop
-returns-2 c = let s = c .before .before .before .before .args in
-    let l = c .before .loop in
-    counted-all (dayLists (s .w .now) (s .nights .now)) (nurses (s .w .now)) (s .places) (l .over) (l .at) (l .ends) (l .inv) (c .loop-test .left)
+returns-2 c =
+    let loop : At-loop = search in
+    counted-all _ _ _ _ _ _ (loop .loop .inv) (c .loop-test .left)
 
 pub lists-count-spec : {M : Type 1} → statement M
 lists-count-spec =
