@@ -1,13 +1,14 @@
 -- The walk that finds the common list: over the days from the last to the first, not started before started.
 use mathlib.Core.Bool.{Bool, cond, _||_}
 use mathlib.Core.List.{List, [], _∷_, _++_}
-use Prim.Native.Nat.{ℕ, zero, suc, _+_, _-_, _^_}
+use Prim.Native.Nat.{ℕ, zero, suc, _+_, _-_, _^_, _≤_}
 use lib.Dec.{leb, ltb, eqb}
 use Rattle.fields.specs.declared.rules.Rules.{Rules}
 use Rattle.nightlists.specs.declared.State.{State}
 use Rattle.nightlists.specs.declared.Next.{Next}
 use Rattle.nightlists.specs.declared.Next.the-variants.{To, Never}
 use Rattle.fields.specs.Rules.{gap}
+use Rattle.fields.specs.CodeRules.{Small}
 
 -- a run of so many starts is followed by a gap that is wide enough, or by nothing
 abbrev pub closed : Rules → ℕ → ℕ → Bool
@@ -35,3 +36,9 @@ onward Never f = []
 unfoldable pub listed : Rules → ℕ → ℕ → State → List ℕ
 listed r zero a s = cond (closed r (s .run) (s .dist)) (a ∷ []) []
 listed r (suc d) a s = listed r d a s ++ onward (startAt r (suc d) s) (λ t. listed r d (a + 2 ^ d) t)
+
+-- what the walk asks where `left` days are undecided and the others make the number a
+pub record Ready (r : Rules) (left a : ℕ) : Type 0 where
+  pub small : Small r
+  pub few-days : left ≤ 31
+  pub fits : a + 2 ^ left ≤ 2 ^ 32

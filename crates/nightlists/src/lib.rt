@@ -5,11 +5,11 @@ pub mod some;
 use fields::rules::Rules;
 ghost use mathlib.Core.Path.{_≡_};
 ghost use mathlib.Core.List.{_++_};
-ghost use Prim.Native.Nat.{ℕ, _+_, _^_, _≤_, _<_, min};
+ghost use Prim.Native.Nat.{ℕ, _≤_, min};
 ghost use lib.ListN.{length, drop};
 ghost use Rattle.fields.specs.CodeRules.{Small};
 ghost use Rattle.nights.specs.Nights.{common};
-ghost use Rattle.nightlists.specs.CodeWalk.{closed, startAt, noneYet, listed};
+ghost use Rattle.nightlists.specs.CodeWalk.{closed, startAt, noneYet, listed, Ready};
 
 // What the walk knows of the days that are decided: their first start (0: none), the length of the run that begins there, the
 // distance from that run's end to the start after it (0: none), and the count of starts.
@@ -115,9 +115,7 @@ fn count(r: Rules, left: u64, s: State, cap: usize) -> usize
 
 // Writes the patterns below from the buffer's start.
 fn fill(r: Rules, left: u64, from: u32, s: State, buf: &mut [u32]) -> usize
-    requires { ⌜ Small r ⌝ }
-    requires { ⌜ left ≤ 31 ⌝ }
-    requires { ⌜ from + 2 ^ left ≤ 2 ^ 32 ⌝ }
+    requires { ⌜ Ready r left from ⌝ }
     requires { ⌜ length (listed r left from s) ≤ length (now buf) ⌝ }
     ensures { λ n. ⌜ n ≡ length (listed r left from s) ⌝ }
     ensures { λ n. ⌜ now (buf .exit) ≡ listed r left from s ++ drop (length (listed r left from s)) (now (buf .entry)) ⌝ }

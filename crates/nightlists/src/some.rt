@@ -5,23 +5,20 @@ use fields::rules::Rules;
 use own::masks;
 use own::masks::Masks;
 ghost use mathlib.Core.Path.{_≡_};
-ghost use Prim.Native.Nat.{ℕ, _+_, _^_, _≤_, _<_};
+ghost use Prim.Native.Nat.{ℕ, _<_};
 ghost use lib.Dec.{ltb};
 ghost use lib.ListN.{length};
 ghost use Rattle.numbers.specs.Range.{keep};
 ghost use Rattle.fields.specs.Fields.{Accepted, nurses, days, block};
 ghost use Rattle.fields.specs.Rules.{rulesOf};
-ghost use Rattle.fields.specs.CodeRules.{Small};
 ghost use Rattle.nights.specs.CodeCommon.{Among};
-ghost use Rattle.nightlists.specs.CodeWalk.{listed};
+ghost use Rattle.nightlists.specs.CodeWalk.{listed, Ready};
 ghost use Rattle.nights.specs.Hers.{hersOf, nightList};
 ghost use Rattle.own.specs.CodeMasks.{masksOf, Masked};
 
 // Whether one of the patterns below is hers.
 fn some(left: u64, from: u32, s: State, r: Rules, w: &[u64], m: Masks) -> bool
-    requires { ⌜ left ≤ 31 ⌝ }
-    requires { ⌜ from + 2 ^ left ≤ 2 ^ 32 ⌝ }
-    requires { ⌜ Small r ⌝ }
+    requires { ⌜ Ready r left from ⌝ }
     requires { ⌜ Accepted (now w) ⌝ }
     requires { ⌜ Masked m ⌝ }
     ensures { λ h. ⌜ ((i : ℕ) → m ≡ masksOf (rulesOf (now (w .entry))) (days (now (w .entry))) (block (now (w .entry)) i) → Among (rulesOf (now (w .entry))) (days (now (w .entry))) (listed r left from s) → h ≡ ltb 0 (length (keep (hersOf (now (w .entry)) i) (listed r left from s)))) ⌝ }

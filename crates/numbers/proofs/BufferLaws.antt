@@ -8,15 +8,15 @@ use lib.ListN.{length, set, take, drop, length-append, length-drop, drop-of-leng
 use lib.Seq.{take-all, take-append-seam, drop-append-seam, drop-drop}
 
 module _ (A buf xs : List ℕ) (low : ℕ) (len : low ≡ length A) (first : xs ≡ A ++ drop (length A) buf) (room : length A ≤ length buf) where
-  pub part-is : take (length xs - low) (drop low xs) ≡ drop (length A) buf
+  part-is : take (length xs - low) (drop low xs) ≡ drop (length A) buf
   part-is = rw (len, first, drop-append-seam)
       (take-all (length (A ++ drop (length A) buf) - length A) (drop (length A) buf) (simp (length-append, length-drop) (omega arith)))
 
-  pub rest-is : drop (length xs - low) (drop low xs) ≡ []
+  rest-is : drop (length xs - low) (drop low xs) ≡ []
   rest-is = rw (len, first, drop-append-seam)
       (drop-of-length-le (drop (length A) buf) {i = length (A ++ drop (length A) buf) - length A} (simp (length-append, length-drop) (omega arith)))
 
-  pub both-written : (B ys : List ℕ) → ys ≡ B ++ drop (length B) (take (length xs - low) (drop low xs))
+  both-written : (B ys : List ℕ) → ys ≡ B ++ drop (length B) (take (length xs - low) (drop low xs))
       → take low xs ++ (ys ++ drop (length xs - low) (drop low xs)) ≡ (A ++ B) ++ drop (length (A ++ B)) buf
   both-written B ys second = rw (second, part-is, rest-is, append-nil, len, first, take-append-seam, length-append, ← drop-drop, ← append-assoc)
 

@@ -1,8 +1,4 @@
 -- `nightlists::common_count` meets its contract.
-use mathlib.Core.Path.{ap, _∙_}
-use mathlib.Core.List.{List}
-use Prim.Native.Nat.{ℕ, min}
-use lib.ListN.{length}
 use Rattle.nightlists.proofs.CommonLaws.{walk-from}
 use borrow.Author.Needs.{needs}
 use Rattle.nightlists.proofs.common_count.Statement.{statement}
@@ -15,8 +11,12 @@ count-requires : tie.Need-count-requires
 count-requires c κs = search needs
 
 returns : tie.Need-returns
-returns c = let s = c .before .before .args in
-    c .count .ensures 0 ∙ ap (λ (l : List ℕ). min (s .cap) (length l)) (walk-from (s .r) (s .n) (c .before .before .pre .0 .longest) _ (c .before .fresh .ensures))
+returns c =
+    let begins : tie.After-fresh = search in
+    let start : tie.Start = search in
+    let s = start .args in
+    let is = walk-from (s .r) (s .n) (start .pre .0 .longest) _ (begins .fresh .ensures) in
+    rw (← is) (c .count .ensures 0)
 
 pub common-count-spec : {M : Type 1} → statement M
 common-count-spec = tie.close (tie.spec fresh-requires count-requires returns)

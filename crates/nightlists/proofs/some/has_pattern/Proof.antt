@@ -26,17 +26,26 @@ rules-of-requires : tie.Need-rules-of-requires
 rules-of-requires c κs = search needs
 
 some-requires : tie.Need-some-requires
-some-requires c κs = let w = c .before .before .before .before .before .args .w .now in
-    let ok = c .before .before .before .before .before .pre .0 in
-    let fits = pow-mono {i = days w} {j = 31} (ok .days-most) in
-    (ok .days-most, (omega (arith, fits), (rules-small w _ ok (c .rules-of .ensures), (ok, c .before .before .before .masks-of .ensures .1))))
+some-requires c κs =
+    let masks : tie.After-masks-of = search in
+    let start : tie.Start = search in
+    let w = start .args .w .now in
+    let ok = start .pre .0 in (
+      record { small = rules-small w _ ok (c .rules-of .ensures); few-days = ok .days-most; fits = omega (arith, pow-mono {i = days w} {j = 31} (ok .days-most)) },
+      (ok, masks .masks-of .ensures .1),
+    )
 
 returns : tie.Need-returns
-returns c = let s = c .before .before .before .before .before .before .args in
-    let w = s .w .now in
-    some-of-list w (s .i) _ _
-    (ap (λ (r : Rules). listed r (days w) 0 (c .before .before .fresh .result)) (c .before .rules-of .ensures) ∙ walk-from (rulesOf w) (days w) (c .before .before .before .before .before .before .pre .0 .run-some) _ (c .before .before .fresh .ensures))
-    (c .some .ensures (s .i) (c .before .before .before .before .masks-of .ensures .0))
+returns c =
+    let rules : tie.After-rules-of = search in
+    let begins : tie.After-fresh = search in
+    let masks : tie.After-masks-of = search in
+    let start : tie.Start = search in
+    let i = start .args .i in
+    let w = start .args .w .now in
+    some-of-list w i _ _
+    (ap (λ (r : Rules). listed r (days w) 0 (begins .fresh .result)) (rules .rules-of .ensures) ∙ walk-from (rulesOf w) (days w) (start .pre .0 .run-some) _ (begins .fresh .ensures))
+    (c .some .ensures i (masks .masks-of .ensures .0))
 
 pub has-pattern-spec : {M : Type 1} → statement M
 has-pattern-spec =
