@@ -180,3 +180,8 @@ module _ (r : Rules) (n p : ℕ) (b : List ℕ) (m : Masks) (is : m ≡ masksOf 
       let apart : bitAnd p (2 ^ near r (lastRun b .0) (lastRun b .1) - 1) ≡ 0 = ap (λ (x : Masks). bitAnd p (x .near)) (sym is) ∙ e in
       sym (ap₂ (λ (u v : ℕ). follow r u v (shifted 7 (starts n p))) (ap (λ (x : Masks). x .last .prev) is) (ap (λ (x : Masks). x .last .run) is)
       ∙ far-alone r (lastRun b .0) (lastRun b .1) n p apart ∙ common-follows r n p known)
+
+  -- the code's test of the run, by the rules and the days that it has read
+  pub by-test : {v : Bool} {r' : Rules} {n' : ℕ} → v ≡ follow r' (m .last .prev) (m .last .run) (shifted 7 (starts n' p)) → r' ≡ r → n' ≡ n
+      → v ≡ follow r (m .last .prev) (m .last .run) (shifted 7 (starts n p))
+  by-test e q d = e ∙ ap₂ (λ (u : Rules) (k : ℕ). follow u (m .last .prev) (m .last .run) (shifted 7 (starts k p))) q d

@@ -240,5 +240,11 @@ pub fn passes(w: &[u64], m: Masks, p: u32) -> bool
     if p & m.near == 0 {
         return true;
     }
-    nights::keeps(fields::rules::rules_of(w), m.last, 7, w[1], p)
+    nights::keeps(
+        fields::rules::rules_of(w),
+        m.last,
+        7,
+        fields::days(w) as u64,
+        p,
+    )
 }
