@@ -1,5 +1,7 @@
 -- `trials::chunks::chunks` meets its contract: the loop fills every place.
-use Prim.Native.Nat.{_/_, _%_, _-_}
+use Prim.Native.Nat.{_+_, _/_, _%_, _-_}
+use Rattle.numbers.specs.Sum.{Is}
+use Rattle.trials.specs.CodeCosts.{chunkOf}
 use borrow.Author.Needs.{needs}
 use native.Mathlib.Omega.{arith}
 use Rattle.trials.proofs.ChunkLaws.{ChunksTo, chunks-start, chunk-is, chunks-turn, chunks-end}
@@ -11,6 +13,46 @@ Inv-loop n c t₀ e₀ t e = ChunksTo c t e
 
 abbrev μ-loop : tie.MeasureT-loop
 μ-loop n c t₀ e₀ t e = 704 - e
+
+-- the places that the answers name; `search` finds each by its type, the nearest first, the others from there
+abbrev Start : Type 0
+Start = tie.Start Inv-loop μ-loop
+
+abbrev At-loop : Type 0
+At-loop = tie.At-loop Inv-loop μ-loop
+
+abbrev In-loop : Type 0
+In-loop = tie.In-loop Inv-loop μ-loop
+
+abbrev After-by-bit : Type 0
+After-by-bit = tie.After-by-bit Inv-loop μ-loop
+
+abbrev After-by-bit2 : Type 0
+After-by-bit2 = tie.After-by-bit2 Inv-loop μ-loop
+
+abbrev After-by-bit3 : Type 0
+After-by-bit3 = tie.After-by-bit3 Inv-loop μ-loop
+
+-- ---- facts of a place
+
+abbrev loop-of : After-by-bit → At-loop
+loop-of c = c .before .before .before .before .before
+
+abbrev first-of : After-by-bit2 → After-by-bit
+first-of c = c .before .before .before .before
+
+abbrev second-of : After-by-bit3 → After-by-bit2
+second-of c = c .before .before .before .before
+
+-- the sum of the three days, and its bound
+sum-at : (c : After-by-bit3) → let second = second-of c in let first = first-of second in let loop = loop-of first .loop in
+    Is (first .by-bit .result + second .by-bit2 .result + c .by-bit3 .result) (chunkOf (loop-of first .before .args .t1) (loop .e / 64) (loop .e / 8 % 8) (loop .e % 8)) 1113600
+sum-at c =
+    let second = second-of c in
+    let first = first-of second in
+    chunk-is _ _ _ _ _ (loop-of first .before .pre) (first .by-bit .ensures) (second .by-bit2 .ensures) (c .by-bit3 .ensures)
+
+-- ---- the answers
 
 loop-holds : tie.Need-loop-holds Inv-loop μ-loop
 loop-holds c = chunks-start _ _ (search needs)
@@ -106,10 +148,10 @@ by-bit-requires-3 : tie.Need-by-bit-requires-3 Inv-loop μ-loop
 by-bit-requires-3 c κs = search needs
 
 add-t : tie.Need-add-t Inv-loop μ-loop
-add-t c = omega (arith, chunk-is _ _ (c .before .before .before .before .before .before .before .before .before .before .before .before .before .loop .e / 64) (c .before .before .before .before .before .before .before .before .before .before .before .before .before .loop .e / 8 % 8) (c .before .before .before .before .before .before .before .before .before .before .before .before .before .loop .e % 8) (c .before .before .before .before .before .before .before .before .before .before .before .before .before .before .pre) (c .before .before .before .before .before .before .before .before .by-bit .ensures) (c .before .before .before .before .by-bit2 .ensures) (c .by-bit3 .ensures) .most)
+add-t c = omega (arith, sum-at c .most)
 
 add-t-2 : tie.Need-add-t-2 Inv-loop μ-loop
-add-t-2 c = omega (arith, chunk-is _ _ (c .before .before .before .before .before .before .before .before .before .before .before .before .before .loop .e / 64) (c .before .before .before .before .before .before .before .before .before .before .before .before .before .loop .e / 8 % 8) (c .before .before .before .before .before .before .before .before .before .before .before .before .before .loop .e % 8) (c .before .before .before .before .before .before .before .before .before .before .before .before .before .before .pre) (c .before .before .before .before .before .before .before .before .by-bit .ensures) (c .before .before .before .before .by-bit2 .ensures) (c .by-bit3 .ensures) .most)
+add-t-2 c = omega (arith, sum-at c .most)
 
 mul-t : tie.Need-mul-t Inv-loop μ-loop
 mul-t c = search needs
@@ -124,10 +166,16 @@ loop-less : tie.Need-loop-less Inv-loop μ-loop
 loop-less c = search needs
 
 loop-again : tie.Need-loop-again Inv-loop μ-loop
-loop-again c = chunks-turn _ _ _ (c .before .before .before .before .before .before .before .before .before .before .before .before .before .loop .inv) (c .before .before .before .before .before .before .before .before .before .before .before .before .loop-test .taken) (chunk-is _ _ _ _ _ (c .before .before .before .before .before .before .before .before .before .before .before .before .before .before .pre) (c .before .before .before .before .before .before .before .before .by-bit .ensures) (c .before .before .before .before .by-bit2 .ensures) (c .by-bit3 .ensures))
+loop-again c =
+    let third : After-by-bit3 = search in
+    let first : After-by-bit = search in
+    let turn : In-loop = search in
+    chunks-turn _ _ _ (turn .before .loop .inv) (turn .loop-test .taken) (sum-at third)
 
 returns : tie.Need-returns Inv-loop μ-loop
-returns c = chunks-end _ _ (c .before .loop .inv) (c .loop-test .left)
+returns c =
+    let loop : At-loop = search in
+    chunks-end _ _ (loop .loop .inv) (c .loop-test .left)
 
 pub chunks-spec : {M : Type 1} → statement M
 chunks-spec =
