@@ -1,5 +1,6 @@
-//! The proved planner's speed beside plain Rust versions of the same search.
+//! The proved planner's speed beside a frozen baseline in plain Rust.
 
+pub mod baseline;
 pub mod measure;
-pub mod plain;
+pub mod sides;
 pub mod subjects;

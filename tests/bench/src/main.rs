@@ -1,4 +1,5 @@
-//! Prints a Markdown table of times. It asserts that all sides answer alike, and no time.
+//! Prints a Markdown table of times. It asserts that the baseline agrees with the planner, and no
+//! time.
 
 use bench::{measure, subjects};
 

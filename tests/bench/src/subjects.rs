@@ -1,92 +1,63 @@
-//! The wards that are measured.
+//! The wards that are measured, all of edition one. The random ones were drawn once by the
+//! comparison's generator and are stored, so that they stay the same where it changes.
 
-use crate::plain::Plain;
-use compare::calls::{Nights, ASKED, NURSES, OUTCOME, ZERO};
-use compare::case::{make, Case, Left};
-use compare::rounds::FRESH;
-use compare::wards::{spoiled, Planned, Size, FULL, MIDDLE, MONTH, SMALL};
-use reference::samples::{Dice, LARGE, SURGICAL};
-use reference::ward::parse;
+use crate::baseline::{self, Baseline, End, NUMBERS};
 
 /// Places of the buffer.
 pub const PLACES: usize = 1 << 16;
-/// Of the generated wards only those that keep a search busy for so many steps.
+/// The random wards keep their search busy for so many steps.
 const STEPS: u32 = 200;
 
 pub struct Subject {
     pub name: String,
-    pub file: Vec<u8>,
+    pub file: &'static [u8],
     /// most steps by night, where they are measured
     pub night: Option<u32>,
     /// nights at zero and most steps by day, where they are measured
-    pub day: Option<(Nights, u32)>,
+    pub day: Option<(Vec<u32>, u32)>,
 }
 
 impl Subject {
-    fn new(name: &str, file: &[u8]) -> Subject {
-        let ward = parse(file).expect("a good ward");
-        let (m, n, r) = (ward.nurse_count, ward.day_count, ward.group_count);
+    fn new(name: &str, file: &'static [u8]) -> Subject {
+        let mut numbers = Box::new([0; NUMBERS]);
+        baseline::read(file, &mut numbers).expect("a ward of edition one");
+        let [m, n, r] = [numbers[0], numbers[1], numbers[2]];
         let name = format!("{name}: {m} nurses, {n} days, {r} groups");
-        Subject { name, file: file.to_vec(), night: None, day: None }
-    }
-
-    pub fn by_night(&self, k: u32) -> Case {
-        Case::Nights { file: self.file.clone(), record: FRESH, k, places: PLACES }
-    }
-
-    pub fn by_day(&self, nights: &Nights, k: u32) -> Case {
-        let (file, nights) = (self.file.clone(), *nights);
-        Case::Days { file, nights, record: FRESH, k, places: PLACES }
+        Subject { name, file, night: None, day: None }
     }
 }
 
+/// A random ward of a size with its search by night, and another with its search by day.
+macro_rules! random {
+    ($size:literal) => {{
+        let name = concat!("random ", $size);
+        let night = include_bytes!(concat!("../wards/", $size, "-night.ward"));
+        let day = include_bytes!(concat!("../wards/", $size, "-day.ward"));
+        let nights = include_str!(concat!("../wards/", $size, "-day.nights"));
+        let nights = nights.lines().map(|pattern| pattern.parse().expect("a number")).collect();
+        [
+            Subject { night: Some(STEPS), ..Subject::new(name, night) },
+            Subject { day: Some((nights, STEPS)), ..Subject::new(name, day) },
+        ]
+    }};
+}
+
 pub fn all() -> Vec<Subject> {
-    let mut all = Vec::new();
-    for size in [SMALL, MIDDLE, MONTH, FULL] {
-        all.push(generated(&size, busy_by_night));
-        all.push(generated(&size, busy_by_day));
-    }
+    let mut all = [random!("small"), random!("middle"), random!("month"), random!("full")]
+        .into_iter()
+        .flatten()
+        .collect::<Vec<_>>();
     all.push(surgical());
-    all.push(Subject { night: Some(30), ..Subject::new("large", LARGE) });
+    let large = include_bytes!("../../reference/wards/large.ward");
+    all.push(Subject { night: Some(30), ..Subject::new("large", large) });
     all
 }
 
 /// Both of its searches end at zero.
 fn surgical() -> Subject {
-    let subject = Subject::new("surgical", SURGICAL);
-    let left = plain(&subject.by_night(1_000));
-    assert_eq!(left.answer()[OUTCOME], ZERO);
-    let day = Some((nights_of(&left.record()), 1_000));
-    Subject { night: Some(1_000), day, ..subject }
-}
-
-/// The first random ward of a size that keeps a search busy.
-fn generated(size: &Size, busy: fn(Subject, &Planned) -> Option<Subject>) -> Subject {
-    let subject = |seed| {
-        let ward = spoiled(&mut Dice(seed), size);
-        busy(Subject::new(&format!("random {}", size.name), &ward.file), &ward)
-    };
-    (1..).find_map(subject).expect("seeds without end")
-}
-
-fn busy_by_night(subject: Subject, _: &Planned) -> Option<Subject> {
-    let asked = plain(&subject.by_night(STEPS)).answer()[OUTCOME] == ASKED;
-    asked.then_some(Subject { night: Some(STEPS), ..subject })
-}
-
-fn busy_by_day(subject: Subject, ward: &Planned) -> Option<Subject> {
-    let nights = nights_of(&ward.nights);
-    let asked = plain(&subject.by_day(&nights, STEPS)).answer()[OUTCOME] == ASKED;
-    asked.then_some(Subject { day: Some((nights, STEPS)), ..subject })
-}
-
-fn nights_of(patterns: &[u32]) -> Nights {
-    let mut nights = [0; NURSES];
-    let m = patterns.len().min(NURSES);
-    nights[..m].copy_from_slice(&patterns[..m]);
-    nights
-}
-
-fn plain(case: &Case) -> Left {
-    make(&Plain::ListsKept, case).0
+    let file = include_bytes!("../../reference/wards/surgical.ward");
+    let (done, _) = Baseline::ListsKept.by_night(file, 1_000, PLACES).expect("no refusal");
+    assert_eq!(done.end, End::Zero);
+    let nights = done.in_use.into_iter().flatten().collect();
+    Subject { night: Some(1_000), day: Some((nights, 1_000)), ..Subject::new("surgical", file) }
 }

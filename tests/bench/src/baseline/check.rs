@@ -8,7 +8,8 @@ use super::No;
 
 const LETTERS: &[u8; 5] = b"/-Nn+";
 
-pub fn check(ward: &Ward, roster: &[u8]) -> Result<bool, No> {
+pub fn check(file: &[u8], roster: &[u8]) -> Result<bool, No> {
+    let ward = &Ward::read(file)?;
     if let Some(bad) = roster.iter().position(|letter| !LETTERS.contains(letter)) {
         return Err((12, bad as u64));
     }

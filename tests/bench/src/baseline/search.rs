@@ -3,10 +3,9 @@
 use super::check::letters;
 use super::nights::{is_common, Hers};
 use super::points::{Columns, Duty, Terms, BY_DAY, BY_NIGHT};
-use super::record::{Record, Removal};
+use super::record::Record;
 use super::ward::{Nurse, Ward};
 use super::No;
-use compare::calls::{ASKED, NONE, ZERO};
 
 pub const UNPLACED: i32 = 10_000_000;
 
@@ -29,17 +28,25 @@ pub type Exchange = (i32, usize, u32);
 pub trait Patterns {
     fn any(&self, nurse: usize) -> bool;
 
-    fn has(&self, nurse: usize, pattern: u32) -> bool;
-
     /// Least penalty, then lowest nurse, then lowest number.
     fn least(&self, record: &Record, columns: &Columns, penalty: i32) -> Option<Exchange>;
 }
 
+/// By the numbers of the C interface.
+#[derive(Clone, Copy, Debug, PartialEq, Eq)]
+pub enum End {
+    Zero = 1,
+    Asked = 2,
+    None = 3,
+}
+
+#[derive(Clone)]
 pub struct Done {
-    pub record: Record,
-    pub outcome: u64,
-    pub made: u64,
-    pub penalty: u64,
+    pub end: End,
+    pub steps: u32,
+    pub penalty: i32,
+    pub in_use: Vec<Option<u32>>,
+    /// by day at zero
     pub roster: Vec<u8>,
 }
 
@@ -109,65 +116,36 @@ impl<'a> Phase<'a> {
         }
     }
 
-    /// Questions 10 and 11.
-    fn ask(&self, patterns: &impl Patterns, record: &Record) -> Result<(), No> {
-        let (m, held) = (self.ward.nurses.len(), self.ward.tabu.min(record.steps as usize));
+    /// Steps from fresh until zero, asked or none; a nurse without a pattern is a no.
+    pub fn advance(&self, patterns: &impl Patterns, k: u32) -> Result<Done, No> {
+        let m = self.ward.nurses.len();
         if let Some(i) = (0..m).find(|&i| !patterns.any(i)) {
             return Err((10, i as u64 + 1));
         }
-        let nurse_good = |i: usize| match record.in_use[i] {
-            None => record.idle[i] == 0,
-            Some(pattern) => i < m && patterns.has(i, pattern),
-        };
-        let removal_good = |r: &Removal| {
-            let (named, nurse) = (r.nurse >= 1 && r.nurse as usize <= m, r.nurse as usize);
-            let hers = |pattern| patterns.has(nurse - 1, pattern);
-            named && if r.given_up { hers(r.pattern) } else { r.pattern == 0 }
-        };
-        let good = (0..record.in_use.len()).all(nurse_good)
-            && record.removals[..held].iter().all(removal_good)
-            && record.removals[held..].iter().all(|r| *r == Removal::default());
-        if good {
-            Ok(())
-        } else {
-            Err((11, 0))
-        }
-    }
-
-    /// Steps until zero, asked or none.
-    pub fn advance(
-        &self,
-        patterns: &impl Patterns,
-        mut record: Record,
-        k: u32,
-    ) -> Result<Done, No> {
-        self.ask(patterns, &record)?;
+        let mut record = Record::fresh(m);
         let mut columns = Columns::empty(self.ward);
-        let mut unplaced = 0;
-        for i in 0..self.ward.nurses.len() {
-            columns.put(i, self.duty(i, record.in_use[i]));
-            unplaced += i32::from(record.in_use[i].is_none());
+        for i in 0..m {
+            columns.put(i, self.duty(i, None));
         }
-        let mut penalty = columns.points(self.ward, self.terms) + UNPLACED * unplaced;
-        let mut made = 0;
-        let outcome = loop {
+        let mut penalty = columns.points(self.ward, self.terms) + UNPLACED * m as i32;
+        let mut steps = 0;
+        let end = loop {
             if penalty == 0 {
-                break ZERO;
+                break End::Zero;
             }
-            if made == k {
-                break ASKED;
+            if steps == k {
+                break End::Asked;
             }
             let Some((least, nurse, pattern)) = patterns.least(&record, &columns, penalty) else {
-                break NONE;
+                break End::None;
             };
             record.exchange(nurse, pattern, self.ward.tabu);
             columns.put(nurse, self.duty(nurse, Some(pattern)));
             penalty = least;
-            made += 1;
+            steps += 1;
         };
         let roster = if penalty == 0 { self.roster(&record) } else { Vec::new() };
-        let (made, penalty) = (u64::from(made), penalty as u64);
-        Ok(Done { record, outcome, made, penalty, roster })
+        Ok(Done { end, steps, penalty, in_use: record.in_use, roster })
     }
 
     /// By day, the rows of nights and days.

@@ -2,6 +2,9 @@
 
 use super::No;
 
+/// Most numbers of a ward.
+pub const NUMBERS: usize = 4094;
+
 /// Where the numbers come from, one after the other.
 trait Source {
     /// The next number and its place.
@@ -115,10 +118,18 @@ impl Source for Bytes<'_> {
 }
 
 /// The numbers of a file.
-pub fn read(file: &[u8]) -> Result<Vec<u64>, No> {
-    let mut bytes = Bytes { file, at: 0, numbers: Vec::with_capacity(4094) };
+pub fn numbers(file: &[u8]) -> Result<Vec<u64>, No> {
+    let mut bytes = Bytes { file, at: 0, numbers: Vec::with_capacity(NUMBERS) };
     walk(&mut bytes)?;
     Ok(bytes.numbers)
+}
+
+/// How many they are; they are left in all places, with zeros after them.
+pub fn read(file: &[u8], places: &mut [u64; NUMBERS]) -> Result<usize, No> {
+    let numbers = numbers(file)?;
+    places[..numbers.len()].copy_from_slice(&numbers);
+    places[numbers.len()..].fill(0);
+    Ok(numbers.len())
 }
 
 struct Counted<'a> {

@@ -170,10 +170,6 @@ impl Patterns for Kept<'_> {
         !self.lists[nurse].patterns.is_empty()
     }
 
-    fn has(&self, nurse: usize, pattern: u32) -> bool {
-        self.lists[nurse].patterns.binary_search(&pattern).is_ok()
-    }
-
     fn least(&self, record: &Record, columns: &Columns, penalty: i32) -> Option<Exchange> {
         let least = match self.phase.ward.days.div_ceil(PART) {
             1 => Self::least_of::<1>,

@@ -73,7 +73,7 @@ impl Nurse {
 
 impl Ward {
     pub fn read(file: &[u8]) -> Result<Ward, No> {
-        Ok(Ward::of(&layout::read(file)?))
+        Ok(Ward::of(&layout::numbers(file)?))
     }
 
     /// All days as one set.

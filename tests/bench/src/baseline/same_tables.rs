@@ -72,13 +72,9 @@ impl Patterns for SameTables<'_> {
         self.0.part(nurse).iter().any(|&pattern| takes(pattern))
     }
 
-    fn has(&self, nurse: usize, pattern: u32) -> bool {
-        self.0.part(nurse).binary_search(&pattern).is_ok() && self.0.takes(nurse)(pattern)
-    }
-
     fn least(&self, record: &Record, columns: &Columns, _: i32) -> Option<Exchange> {
         let m = self.0.ward.nurses.len();
-        let unplaced = record.in_use[..m].iter().filter(|in_use| in_use.is_none()).count() as i32;
+        let unplaced = record.in_use.iter().filter(|in_use| in_use.is_none()).count() as i32;
         let (mut least, mut found) = (i32::MAX, None);
         for i in 0..m {
             let table = self.table(columns, i);
