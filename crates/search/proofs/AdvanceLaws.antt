@@ -92,70 +92,75 @@ module _ (P : Phase) (k : ℕ) (r₀ : Stored) where
         left = rw sub-zero;
       }
 
-  module _ {r : Stored} {made : ℕ} (u : Running P k r₀ r made) where
-    abbrev slotsOf : ℕ → Slot
-    slotsOf = (viewOf P r) .slots
+-- a turn of the loop in a phase: where it is, and the penalty there
+pub record Turn (P : Phase) (k : ℕ) (r₀ r : Stored) (made pen : ℕ) : Type 0 where
+  pub running : Running P k r₀ r made
+  pub fits : Fits P
+  pub cost : pen ≡ P .cost ((viewOf P r) .slots)
 
-    ends : Fits P → (e : End) → proceed P (k - made) (viewOf P r) ≡ (viewOf P r, e)
-        → replyStored P k r₀ ≡ (ended e made (P .cost slotsOf) (given P slotsOf), r)
-    unfolding replyStored replyOf total view
-    ends f e q =
-        let n : r .steps - r₀ .steps ≡ made = omega (arith, u .counted) in
-        rw (u .left ∙ q, store-view (P .nurses) (P .tabu) r (u .whole .sized) (f .tabu-most) (u .whole .unused), n)
+module _ {P : Phase} {k : ℕ} {r₀ r : Stored} {made pen : ℕ} (t : Turn P k r₀ r made pen) where
+  abbrev slotsOf : ℕ → Slot
+  slotsOf = (viewOf P r) .slots
 
-    letters-zero : P .cost slotsOf ≡ 0 → given P slotsOf ≡ P .letters slotsOf
-    unfolding given
-    letters-zero e = rw (eq-eqb (P .cost slotsOf) 0 e)
+  ends : (e : End) → proceed P (k - made) (viewOf P r) ≡ (viewOf P r, e)
+      → replyStored P k r₀ ≡ (ended e made (P .cost slotsOf) (given P slotsOf), r)
+  unfolding replyStored replyOf total view
+  ends e q =
+      let n : r .steps - r₀ .steps ≡ made = omega (arith, t .running .counted) in
+      rw (t .running .left ∙ q, store-view (P .nurses) (P .tabu) r (t .running .whole .sized) (t .fits .tabu-most) (t .running .whole .unused), n)
 
-    letters-none : P .cost slotsOf ≢ 0 → given P slotsOf ≡ []
-    unfolding given
-    letters-none n = rw (ne-eqb (P .cost slotsOf) 0 n)
+  letters-zero : P .cost slotsOf ≡ 0 → given P slotsOf ≡ P .letters slotsOf
+  unfolding given
+  letters-zero e = rw (eq-eqb (P .cost slotsOf) 0 e)
 
-    -- penalty 0 ends it with "zero"
-    pub ends-zero : Fits P → {pen : ℕ} → pen ≡ P .cost ((viewOf P r) .slots) → pen ≡ 0
-        → replyStored P k r₀ ≡ (ended End·zero made 0 (P .letters ((viewOf P r) .slots)), r)
-    unfolding proceed total
-    ends-zero f e z =
-        let c : P .cost slotsOf ≡ 0 = sym e ∙ z in
-        ends f End·zero (run-zero (total P) (best P) (stepped (P .tabu)) (k - made) (viewOf P r) c)
-        ∙ ap₂ (λ (n : ℕ) (l : List ℕ). (ended End·zero made n l, r)) c (letters-zero c)
+  letters-none : P .cost slotsOf ≢ 0 → given P slotsOf ≡ []
+  unfolding given
+  letters-none n = rw (ne-eqb (P .cost slotsOf) 0 n)
 
-    -- else k made, with "asked"
-    pub ends-asked : Fits P → {pen : ℕ} → pen ≡ P .cost ((viewOf P r) .slots) → pen ≢ 0 → made ≡ k → replyStored P k r₀ ≡ (ended End·asked made pen [], r)
-    unfolding proceed total
-    ends-asked f e n m =
-        let c : P .cost slotsOf ≢ 0 = λ z. n (e ∙ z) in
-        let d : k - made ≡ 0 = omega arith in
-        ends f End·asked (rw d (run-asked (total P) (best P) (stepped (P .tabu)) (viewOf P r) c))
-        ∙ ap₂ (λ (n : ℕ) (l : List ℕ). (ended End·asked made n l, r)) (sym e) (letters-none c)
+  -- penalty 0 ends it with "zero"
+  pub ends-zero : pen ≡ 0
+      → replyStored P k r₀ ≡ (ended End·zero made 0 (P .letters ((viewOf P r) .slots)), r)
+  unfolding proceed total
+  ends-zero z =
+      let c : P .cost slotsOf ≡ 0 = sym (t .cost) ∙ z in
+      ends End·zero (run-zero (total P) (best P) (stepped (P .tabu)) (k - made) (viewOf P r) c)
+      ∙ ap₂ (λ (n : ℕ) (l : List ℕ). (ended End·zero made n l, r)) c (letters-zero c)
 
-    -- else no exchange, with "none"
-    pub ends-none : Fits P → {pen : ℕ} → pen ≡ P .cost ((viewOf P r) .slots) → pen ≢ 0 → made < k → best P (viewOf P r) ≡ none
-        → replyStored P k r₀ ≡ (ended End·none made pen [], r)
-    unfolding proceed total
-    ends-none f e n l b =
-        let c : P .cost slotsOf ≢ 0 = λ z. n (e ∙ z) in
-        ends f End·none (run-none-left (total P) (best P) (stepped (P .tabu)) (k - made) (viewOf P r) (omega arith) c b)
-        ∙ ap₂ (λ (n : ℕ) (l : List ℕ). (ended End·none made n l, r)) (sym e) (letters-none c)
+  -- else k made, with "asked"
+  pub ends-asked : pen ≢ 0 → made ≡ k → replyStored P k r₀ ≡ (ended End·asked made pen [], r)
+  unfolding proceed total
+  ends-asked n m =
+      let c : P .cost slotsOf ≢ 0 = λ z. n (t .cost ∙ z) in
+      let d : k - made ≡ 0 = omega arith in
+      ends End·asked (rw d (run-asked (total P) (best P) (stepped (P .tabu)) (viewOf P r) c))
+      ∙ ap₂ (λ (n : ℕ) (l : List ℕ). (ended End·asked made n l, r)) (sym (t .cost)) (letters-none c)
 
-    -- else one step more
-    pub goes-on : Fits P → {pen : ℕ} → pen ≡ P .cost ((viewOf P r) .slots) → pen ≢ 0 → made < k → (s : Step) → best P (viewOf P r) ≡ some s
-        → Running P k r₀ (exchangedIn (P .tabu) r (s .nurse) (s .pattern)) (made + 1)
-    unfolding proceed total exchangedIn
-    goes-on f e n l s b =
-        let c : P .cost slotsOf ≢ 0 = λ z. n (e ∙ z) in
-        let i : s .nurse < P .nurses = best-nurse P (viewOf P r) s b in
-        let d : k - made - 1 ≡ k - (made + 1) = omega arith in
-        let view-then = view-exchanged (P .nurses) (P .tabu) r (u .whole) (f .nurses-most) (f .tabu-most) (s .nurse) (s .pattern) i in
-        record {
-          at-most = omega arith;
-          counted = omega (arith, u .counted);
-          whole = exchanged-whole (P .nurses) (P .tabu) r (u .whole) (f .nurses-most) (f .tabu-most) (s .nurse) (s .pattern) i;
-          own = λ j m. rw (view-then) (exchanged-own P (viewOf P r) s (best-hers P (viewOf P r) s b) (u .own) j m);
-          left = u .left ∙ run-on (total P) (best P) (stepped (P .tabu)) (k - made) (viewOf P r) s (omega arith) c b
-              ∙ ap₂ (λ (j : ℕ) (R : Record). run (total P) (best P) (stepped (P .tabu)) j R) d
-              (sym view-then);
-        }
+  -- else no exchange, with "none"
+  ends-none : pen ≢ 0 → made < k → best P (viewOf P r) ≡ none → replyStored P k r₀ ≡ (ended End·none made pen [], r)
+  unfolding proceed total
+  ends-none n l b =
+      let c : P .cost slotsOf ≢ 0 = λ z. n (t .cost ∙ z) in
+      ends End·none (run-none-left (total P) (best P) (stepped (P .tabu)) (k - made) (viewOf P r) (omega arith) c b)
+      ∙ ap₂ (λ (n : ℕ) (l : List ℕ). (ended End·none made n l, r)) (sym (t .cost)) (letters-none c)
+
+  -- else one step more
+  goes-on : pen ≢ 0 → made < k → (s : Step) → best P (viewOf P r) ≡ some s
+      → Running P k r₀ (exchangedIn (P .tabu) r (s .nurse) (s .pattern)) (made + 1)
+  unfolding proceed total exchangedIn
+  goes-on n l s b =
+      let c : P .cost slotsOf ≢ 0 = λ z. n (t .cost ∙ z) in
+      let i : s .nurse < P .nurses = best-nurse P (viewOf P r) s b in
+      let d : k - made - 1 ≡ k - (made + 1) = omega arith in
+      let view-then = view-exchanged (P .nurses) (P .tabu) r (t .running .whole) (t .fits .nurses-most) (t .fits .tabu-most) (s .nurse) (s .pattern) i in
+      record {
+        at-most = omega arith;
+        counted = omega (arith, t .running .counted);
+        whole = exchanged-whole (P .nurses) (P .tabu) r (t .running .whole) (t .fits .nurses-most) (t .fits .tabu-most) (s .nurse) (s .pattern) i;
+        own = λ j m. rw (view-then) (exchanged-own P (viewOf P r) s (best-hers P (viewOf P r) s b) (t .running .own) j m);
+        left = t .running .left ∙ run-on (total P) (best P) (stepped (P .tabu)) (k - made) (viewOf P r) s (omega arith) c b
+            ∙ ap₂ (λ (j : ℕ) (R : Record). run (total P) (best P) (stepped (P .tabu)) j R) d
+            (sym view-then);
+      }
 
 -- ---- a step as its own function
 
@@ -199,16 +204,17 @@ step-moves P r {x} e f = go (best P (viewOf P r)) refl
     go (some s) q = (s, q, ap (λ (y : Stepped). y .after) (e ∙ sym (step-some P r s q refl)))
 
 -- the loop's last two cases, by the step that it made
-module _ (P : Phase) (k : ℕ) (r₀ : Stored) {r : Stored} {made : ℕ} (u : Running P k r₀ r made) where
-  pub stays-none : Fits P → {pen : ℕ} {x : Stepped} → pen ≡ P .cost ((viewOf P r) .slots) → pen ≢ 0 → made < k → x ≡ steppedOf P r → x .moved ≡ false
-      → replyStored P k r₀ ≡ (ended End·none made pen [], r)
-  stays-none f e n l q m = ends-none P k r₀ u f e n l (step-stays P r q m)
+module _ {P : Phase} {k : ℕ} {r₀ r : Stored} {made pen : ℕ} (t : Turn P k r₀ r made pen) (n : pen ≢ 0) (l : made ≢ k) {x : Stepped} (q : x ≡ steppedOf P r) where
+  below : made < k
+  below = omega (arith, t .running .at-most, l)
 
-  pub moves-on : Fits P → {pen : ℕ} {x : Stepped} → pen ≡ P .cost ((viewOf P r) .slots) → pen ≢ 0 → made < k → x ≡ steppedOf P r → x .moved ≡ true
-      → Running P k r₀ (x .after) (made + 1)
-  moves-on f e n l q m =
-      let t = step-moves P r q m in
-      subst (λ (y : Stored). Running P k r₀ y (made + 1)) (sym (t .2)) (goes-on P k r₀ u f e n l (t .0) (t .1))
+  pub stays-none : x .moved ≡ false → replyStored P k r₀ ≡ (ended End·none made pen [], r)
+  stays-none m = ends-none t n below (step-stays P r q m)
+
+  pub moves-on : x .moved ≡ true → Running P k r₀ (x .after) (made + 1)
+  moves-on m =
+      let y = step-moves P r q m in
+      subst (λ (z : Stored). Running P k r₀ z (made + 1)) (sym (y .2)) (goes-on t n below (y .0) (y .1))
 
 -- ---- one advance
 

@@ -18,16 +18,16 @@ use Rattle.own.specs.declared.masks.Masks.{Masks}
 use Rattle.fields.specs.Rules.{rulesOf}
 use Rattle.nights.specs.Nights.{commonOf, inCommon}
 use Rattle.nights.specs.Hers.{hersOf}
-use Rattle.own.specs.CodeMasks.{masksOf, AvailableDays}
+use Rattle.own.specs.CodeMasks.{masksOf, Masked, AvailableDays}
 use Rattle.fields.proofs.RuleLaws.{block-as}
 use Rattle.nights.proofs.ListLaws.{common-below, common-keeps}
 use Rattle.penalty.specs.declared.Penalty.{Penalty}
 use Rattle.penalty.specs.declared.columns.Columns.{Columns}
 use Rattle.trials.specs.declared.costs.Costs.{Costs}
 use Rattle.history.specs.Slot.{Slot, isNone}
-use Rattle.penalty.specs.Penalty.{partsOf, total, rest, unplacedIn, exchanged, startsIn, workedIn, nightParts, dayParts, partsIn, nightPenalty, dayPenalty}
+use Rattle.penalty.specs.Penalty.{partsOf, total, rest, unplacedIn, exchanged, startsIn, workedIn, partsIn, nightPenalty, dayPenalty}
 use Rattle.penalty.specs.CodeColumns.{Shown, Shows, Empty, NursePut}
-use Rattle.trials.specs.CodeCosts.{Small, Chunks, trialOf}
+use Rattle.trials.specs.CodeCosts.{Small, Chunks, ChunksSmall, trialOf}
 use Rattle.penalty.proofs.ColumnLaws.{night-none, night-more, day-none, day-more}
 use Rattle.penalty.proofs.BoundLaws.{night-split, day-split, unplaced-after}
 use Rattle.history.specs.Phase.{Phase}
@@ -37,8 +37,8 @@ use Rattle.search.specs.Stored.{slotAt, view, viewOf}
 use Rattle.search.proofs.Fits.{Fits}
 use Rattle.best.specs.CodeBest.{overList, costIn, bestOver, considered, improves}
 use Rattle.search.specs.CodeSteps.{exchangedIn, steppedOf}
-use Rattle.search.specs.CodeSeek.{costOf, patternFor, Agree, stretch, Seeks}
-use Rattle.trials.specs.CodeTables.{tableTrial, DayTrials, NightTrials, Tables}
+use Rattle.search.specs.CodeSeek.{costOf, patternFor, Agree, stretch, triedBy, Lists, NurseNeeds, NightsNeeds, Seeks}
+use Rattle.trials.specs.CodeTables.{tableTrial, DayTrials, NightTrials, TableTrials, Tables}
 use Rattle.search.proofs.AdvanceLaws.{takes-none, takes-some, takes-nurse}
 use Rattle.best.proofs.BestLaws.{turn-barred, turn-worse, turn-considered, over-keep, nurses-none, nurses-turn}
 use Rattle.search.specs.declared.Record.{Record as Stored}
@@ -157,11 +157,11 @@ pub trial-costs : {t : List ℕ} (nights free : ℕ) {x r : ℕ} (others : ℕ) 
     → ((c : Costs) (n : ℕ) → Small c n → Chunks c t → r ≡ trialOf c n nights free) → r + 10000000 * others ≡ x + 10000000 * others
 trial-costs nights free others y f = ap (λ (z : ℕ). z + 10000000 * others) (f (y .0) (y .1) (y .2) (y .3) ∙ y .4)
 
-pub night-costs : (w : List ℕ) (i p : ℕ) (t : List ℕ) (cost : ℕ → ℕ) {free r : ℕ} {m : Masks} (others : ℕ) → NightTrials w i t cost → days w ≤ 31
-    → m ≡ masksOf (rulesOf w) (days w) (block w i)
-    → ((k : ℕ) (b : List ℕ) → k ≤ 31 → m ≡ masksOf (rulesOf w) k b → AvailableDays b k p free)
-    → ((c : Costs) (n : ℕ) → Small c n → Chunks c t → r ≡ trialOf c n p free) → r + 10000000 * others ≡ cost p + 10000000 * others
-night-costs w i p t cost {free} others y l em av f = trial-costs p free others (y .started p free (av (days w) (block w i) l em .each)) f
+pub night-costs : {w list : List ℕ} {masks : Masks} {t : List ℕ} {others tl i : ℕ} (n : NightsNeeds w list masks t others tl i) (p : ℕ) {cost : ℕ → ℕ} {free r : ℕ}
+    → NightTrials w i t cost → ((k : ℕ) (b : List ℕ) → k ≤ 31 → masks ≡ masksOf (rulesOf w) k b → AvailableDays b k p free)
+    → ((c : Costs) (k : ℕ) → Small c k → Chunks c t → r ≡ trialOf c k p free) → r + 10000000 * others ≡ cost p + 10000000 * others
+night-costs {w} {others = others} {i = i} n p {free = free} y av f =
+    trial-costs p free others (y .started p free (av (days w) (block w i) (n .ward .days-most) (n .masks-are) .each)) f
 
 module _ (hers may : ℕ → Bool) (cost : ℕ → ℕ) (i : ℕ) (b₀ : Best) (ps : List ℕ) (k : ℕ) {b : Best} (l : k < length ps)
     (e : b ≡ overList (λ p. hers p && may p) cost i b₀ (take k ps)) where
@@ -174,9 +174,9 @@ module _ (hers may : ℕ → Bool) (cost : ℕ → ℕ) (i : ℕ) (b₀ : Best) 
   no-better q s f = turn-worse (λ p. hers p && may p) cost i b₀ ps k l e q s f
 
   -- one that is, considered
-  pub hers-considered : {h : Bool} {c : ℕ} {b′ : Best} → h ≡ hers (getD ps k 0) → h ≡ true → c ≡ cost (getD ps k 0)
-      → b′ ≡ considered may (λ q. c) i b (getD ps k 0) → b′ ≡ overList (λ p. hers p && may p) cost i b₀ (take (k + 1) ps)
-  hers-considered r y q s = turn-considered (λ p. hers p && may p) cost i b₀ ps k l e q (rw (sym r ∙ y) s)
+  pub hers-considered : {h : Bool} {c : ℕ} {b′ b″ : Best} → h ≡ hers (getD ps k 0) → h ≡ true → c ≡ cost (getD ps k 0)
+      → b″ ≡ b′ → b′ ≡ considered may (λ q. c) i b (getD ps k 0) → b″ ≡ overList (λ p. hers p && may p) cost i b₀ (take (k + 1) ps)
+  hers-considered r y q j s = j ∙ turn-considered (λ p. hers p && may p) cost i b₀ ps k l e q (rw (sym r ∙ y) s)
 
 -- ---- the unplaced besides her
 
@@ -192,72 +192,115 @@ pub view-agrees : (w : List ℕ) (r : Stored) (P : Phase) → P .nurses ≡ nurs
 unfolding Agree view
 view-agrees w r P e j h = rw (lt-ltb j (P .nurses) (omega arith))
 
-module _ (w : List ℕ) (r : Stored) (i : ℕ) (l : i < nurses w) (P : Phase) where
+-- what is known before her list is looked at: TL, her table, and the unplaced besides her
+pub record NurseTable (byDay : Bool) (w : List ℕ) (cols : Columns) (u : ℕ) (r : Stored) (i tl : ℕ) (t : List ℕ) (others : ℕ) : Type 0 where
+  pub tabu-is : tl ≡ tabu w
+  pub tabu-most : tl ≤ 64
+  pub small : ChunksSmall t
+  pub tables : Tables byDay w cols i t
+  pub others-are : (a : ℕ) → u ≡ a + oneIf (not (getD (r .placed) i false)) → others ≡ a
+  pub others-most : others ≤ 48
+
+pub stretch-begins : {byDay : Bool} {w lists ends : List ℕ} {cols : Columns} {u : ℕ} {r : Stored} {i : ℕ} → NurseNeeds byDay w lists ends cols u r i
+    → byDay ≡ true → getD ends i 0 ≤ getD ends (i + 1) 0
+stretch-begins {i = i} n d = n .listed .begins d i (n .nurse)
+
+pub stretch-ends : {byDay : Bool} {w lists ends : List ℕ} {cols : Columns} {u : ℕ} {r : Stored} {i : ℕ} → NurseNeeds byDay w lists ends cols u r i
+    → byDay ≡ true → getD ends (i + 1) 0 ≤ length lists
+stretch-ends {i = i} n d = n .listed .finishes d i (n .nurse)
+
+pub nights-need : {byDay : Bool} {w lists ends : List ℕ} {cols : Columns} {u : ℕ} {r : Stored} {i tl : ℕ} {t : List ℕ} {others : ℕ} {masks : Masks}
+    → NurseNeeds byDay w lists ends cols u r i → NurseTable byDay w cols u r i tl t others → byDay ≡ false → Masked masks
+    → masks ≡ masksOf (rulesOf w) (days w) (block w i) → NightsNeeds w lists masks t others tl i
+nights-need n y d m e =
+    record {
+      ward = n .ward;
+      nurse = n .nurse;
+      common = n .listed .common-list d;
+      masked = m;
+      masks-are = e;
+      small = y .small;
+      others-most = y .others-most;
+      tabu-most = y .tabu-most;
+    }
+
+-- by the nurses counted, of whom she is one
+pub nurse-needs : {byDay : Bool} {w lists ends : List ℕ} {cols : Columns} {u : ℕ} {r : Stored} {i m : ℕ} → Accepted w → Lists byDay w lists ends → m ≡ nurses w
+    → Is u (countTo m (λ j. not (getD (r .placed) j false))) 48 → ((slots : ℕ → Slot) → Agree w r slots → Shows byDay w slots cols) → i < m
+    → NurseNeeds byDay w lists ends cols u r i
+nurse-needs {u = u} {r = r} a l e q s h =
+    record {
+      ward = a;
+      nurse = omega (arith, e, h);
+      listed = l;
+      counted = subst (λ (k : ℕ). Is u (countTo k (λ j. not (getD (r .placed) j false))) 48) e q;
+      shown = s;
+    }
+
+-- what the loop over her list found, as the phase has it
+module _ {byDay : Bool} {w lists ends : List ℕ} {cols : Columns} {u : ℕ} {r : Stored} {i tl : ℕ} {t : List ℕ} {others : ℕ}
+    (n : NurseNeeds byDay w lists ends cols u r i) (y : NurseTable byDay w cols u r i tl t others) (P : Phase) (s : Seeks byDay w lists ends P) where
   abbrev slotsIn : ℕ → Slot
   slotsIn = (viewOf P r) .slots
 
-  others-are : P .nurses ≡ nurses w → {u others : ℕ} → u ≡ countTo (nurses w) (λ j. not (getD (r .placed) j false))
-      → ((a : ℕ) → u ≡ a + oneIf (not (getD (r .placed) i false)) → others ≡ a) → (p : ℕ) → others ≡ unplacedIn w (exchanged slotsIn i p)
-  others-are e {u} q f p =
-      f (unplacedIn w (exchanged slotsIn i p))
-      (q ∙ unplaced-is w r slotsIn refl (view-agrees w r P e) ∙ unplaced-after w slotsIn i p l
-      ∙ ap (λ (b : Bool). unplacedIn w (exchanged slotsIn i p) + oneIf b) (ap isNone (agree-at w r slotsIn i (view-agrees w r P e) l) ∙ none-flag (getD (r .placed) i false) (getD (r .patterns) i 0)))
+  abbrev may : ℕ → Bool
+  may = mayTake (viewOf P r) i
+
+  -- what is short and over after her exchange
+  abbrev trial : ℕ → ℕ
+  trial p = rest (partsIn byDay w (exchanged slotsIn i p))
+
+  agrees : Agree w r slotsIn
+  agrees = view-agrees w r P (s .nurses-are)
+
+  inside : i < P .nurses
+  inside = omega (arith, s .nurses-are, n .nurse)
+
+  trials : TableTrials byDay w i t trial
+  trials = y .tables slotsIn (n .shown slotsIn agrees)
+
+  same-view : view (P .nurses) tl r ≡ viewOf P r
+  same-view = ap (λ (k : ℕ). view (P .nurses) k r) (y .tabu-is ∙ sym (s .tabu-is))
+
+  unplaced-then : (p : ℕ) → others ≡ unplacedIn w (exchanged slotsIn i p)
+  unplaced-then p =
+      y .others-are (unplacedIn w (exchanged slotsIn i p))
+      (n .counted .is ∙ unplaced-is w r slotsIn refl agrees ∙ unplaced-after w slotsIn i p (n .nurse)
+      ∙ ap (λ (b : Bool). unplacedIn w (exchanged slotsIn i p) + oneIf b) (ap isNone (agree-at w r slotsIn i agrees (n .nurse)) ∙ none-flag (getD (r .placed) i false) (getD (r .patterns) i 0)))
 
   -- her cost is the phase's
-  pub cost-there : (daily : Bool) {lists ends : List ℕ} {u others : ℕ} → Accepted w → Seeks daily w lists ends P
-      → u ≡ countTo (nurses w) (λ j. not (getD (r .placed) j false))
-      → ((a : ℕ) → u ≡ a + oneIf (not (getD (r .placed) i false)) → others ≡ a)
-      → (λ p. rest (partsIn daily w (exchanged slotsIn i p)) + 10000000 * others) ≡ costIn P (viewOf P r) i
-  cost-there daily {others = others} a s q f =
-      fun-ext (λ p. ap (λ (x : ℕ). rest (partsIn daily w (exchanged slotsIn i p)) + 10000000 * x) (others-are (s .nurses-are) q f p)
-      ∙ sym (s .cost-is (exchanged slotsIn i p) ∙ splits daily p))
+  costs : (λ p. trial p + 10000000 * others) ≡ costIn P (viewOf P r) i
+  costs =
+      fun-ext (λ p. ap (λ (x : ℕ). trial p + 10000000 * x) (unplaced-then p)
+      ∙ sym (s .cost-is (exchanged slotsIn i p) ∙ splits byDay p))
     where
       splits : (d : Bool) (p : ℕ) → costOf d w (exchanged slotsIn i p) ≡ rest (partsIn d w (exchanged slotsIn i p)) + 10000000 * unplacedIn w (exchanged slotsIn i p)
-      splits true p = day-split w (exchanged slotsIn i p) a .0 ∙ omega arith
-      splits false p = night-split w (exchanged slotsIn i p) a .0 ∙ omega arith
+      splits true p = day-split w (exchanged slotsIn i p) (n .ward) .0 ∙ omega arith
+      splits false p = night-split w (exchanged slotsIn i p) (n .ward) .0 ∙ omega arith
 
-true-false : _≡_ {A = Bool} true false → ⊥
-true-false z = let y : _≡_ {A = ℕ} 0 1 = cc in omega arith
+  module _ (held : Best) {res : Best} where
+    pub nurse-days : byDay ≡ true
+        → ((m : ℕ) (cost : ℕ → ℕ) → i < m → DayTrials t cost → res ≡ overList (mayTake (view m tl r) i) (λ p. cost p + 10000000 * others) i held (stretch lists ends i))
+        → res ≡ overList may (costIn P (viewOf P r) i) i held (P .patterns i)
+    nurse-days d g =
+        g (P .nurses) trial inside (subst (λ (b : Bool). TableTrials b w i t trial) d trials)
+        ∙ ap (λ (v : Record). overList (mayTake v i) (λ p. trial p + 10000000 * others) i held (stretch lists ends i)) same-view
+        ∙ ap (λ (c : ℕ → ℕ). overList may c i held (stretch lists ends i)) costs
+        ∙ ap (overList may (costIn P (viewOf P r) i) i held) (sym (s .patterns-are i (n .nurse) ∙ ap (λ (b : Bool). triedBy b w lists ends i) d))
 
-false-true : _≡_ {A = Bool} false true → ⊥
-false-true z = let y : _≡_ {A = ℕ} 0 1 = cc in omega arith
-
-same-view : (daily : Bool) (w : List ℕ) (r : Stored) (P : Phase) {lists ends : List ℕ} {tl : ℕ} → tl ≡ tabu w → Seeks daily w lists ends P → view (P .nurses) tl r ≡ viewOf P r
-same-view daily w r P e s = ap (λ (k : ℕ). view (P .nurses) k r) (e ∙ sym (s .tabu-is))
-
--- what the loop over her list found, as the phase has it
-module _ (w : List ℕ) (r : Stored) (i : ℕ) (l : i < nurses w) (P : Phase) (lists ends t : List ℕ) (cols : Columns) {u : ℕ} (others tl : ℕ) (held : Best) {res : Best}
-    (a : Accepted w) (q : u ≡ countTo (nurses w) (λ j. not (getD (r .placed) j false)))
-    (f : (x : ℕ) → u ≡ x + oneIf (not (getD (r .placed) i false)) → others ≡ x) (e : tl ≡ tabu w) where
-  pub nurse-days : (daily : Bool) (part : List ℕ) → daily ≡ true → Seeks daily w lists ends P
-      → ((slots : ℕ → Slot) → Agree w r slots → Shown daily w slots (nurses w) cols) → Tables daily w cols i t → part ≡ stretch lists ends i
-      → ((m : ℕ) (cost : ℕ → ℕ) → i < m → DayTrials t cost → res ≡ overList (mayTake (view m tl r) i) (λ p. cost p + 10000000 * others) i held part)
-      → res ≡ overList (mayTake (viewOf P r) i) (costIn P (viewOf P r) i) i held (P .patterns i)
-  nurse-days false part d s shown tb p g = absurd (false-true d)
-  nurse-days true part d s shown tb p g =
-      let slots = (viewOf P r) .slots in
-      let inside : i < P .nurses = omega (arith, s .nurses-are) in
-      g (P .nurses) (λ x. rest (dayParts w (exchanged slots i x))) inside (tb slots (shown slots (view-agrees w r P (s .nurses-are))))
-      ∙ ap (λ (v : Record). overList (mayTake v i) (λ x. rest (dayParts w (exchanged slots i x)) + 10000000 * others) i held part) (same-view true w r P e s)
-      ∙ ap (λ (c : ℕ → ℕ). overList (mayTake (viewOf P r) i) c i held part) (cost-there w r i l P true a s q f)
-      ∙ ap (overList (mayTake (viewOf P r) i) (costIn P (viewOf P r) i) i held) (p ∙ sym (s .patterns-are i l))
-
-  pub nurse-nights : (daily : Bool) → daily ≡ false → Seeks daily w lists ends P
-      → ((slots : ℕ → Slot) → Agree w r slots → Shown daily w slots (nurses w) cols) → Tables daily w cols i t
-      → ((m : ℕ) (cost : ℕ → ℕ) → i < m → NightTrials w i t cost → res ≡ overList (λ p. hersOf w i p && mayTake (view m tl r) i p) (λ p. cost p + 10000000 * others) i held lists)
-      → res ≡ overList (mayTake (viewOf P r) i) (costIn P (viewOf P r) i) i held (P .patterns i)
-  nurse-nights true d s shown tb g = absurd (true-false d)
-  nurse-nights false d s shown tb g =
-      let slots = (viewOf P r) .slots in
-      let inside : i < P .nurses = omega (arith, s .nurses-are) in
-      g (P .nurses) (λ x. rest (nightParts w (exchanged slots i x))) inside (tb slots (shown slots (view-agrees w r P (s .nurses-are))))
-      ∙ ap (λ (v : Record). overList (λ p. hersOf w i p && mayTake v i p) (λ x. rest (nightParts w (exchanged slots i x)) + 10000000 * others) i held lists) (same-view false w r P e s)
-      ∙ ap (λ (c : ℕ → ℕ). overList (λ p. hersOf w i p && mayTake (viewOf P r) i p) c i held lists) (cost-there w r i l P false a s q f)
-      ∙ sym (over-keep (hersOf w i) (mayTake (viewOf P r) i) (costIn P (viewOf P r) i) i held lists)
-      ∙ ap (overList (mayTake (viewOf P r) i) (costIn P (viewOf P r) i) i held) (sym (s .patterns-are i l))
+    pub nurse-nights : byDay ≡ false
+        → ((m : ℕ) (cost : ℕ → ℕ) → i < m → NightTrials w i t cost
+        → res ≡ overList (λ p. hersOf w i p && mayTake (view m tl r) i p) (λ p. cost p + 10000000 * others) i held lists)
+        → res ≡ overList may (costIn P (viewOf P r) i) i held (P .patterns i)
+    nurse-nights d g =
+        g (P .nurses) trial inside (subst (λ (b : Bool). TableTrials b w i t trial) d trials)
+        ∙ ap (λ (v : Record). overList (λ p. hersOf w i p && mayTake v i p) (λ p. trial p + 10000000 * others) i held lists) same-view
+        ∙ ap (λ (c : ℕ → ℕ). overList (λ p. hersOf w i p && may p) c i held lists) costs
+        ∙ sym (over-keep (hersOf w i) may (costIn P (viewOf P r) i) i held lists)
+        ∙ ap (overList may (costIn P (viewOf P r) i) i held) (sym (s .patterns-are i (n .nurse) ∙ ap (λ (b : Bool). triedBy b w lists ends i) d))
 
 -- the loop over the nurses
-module _ (daily : Bool) (w : List ℕ) (r : Stored) {lists ends : List ℕ} (P : Phase) (s : Seeks daily w lists ends P) where
+module _ {byDay : Bool} {w lists ends : List ℕ} {P : Phase} (s : Seeks byDay w lists ends P) (r : Stored) where
   pub best-start : Nothing ≡ bestOver P (viewOf P r) 0
   best-start = nurses-none (mayTake (viewOf P r)) (costIn P (viewOf P r)) (P .patterns)
 
@@ -269,11 +312,11 @@ module _ (daily : Bool) (w : List ℕ) (r : Stored) {lists ends : List ℕ} (P :
 
 -- ---- step and advance
 
-module _ (daily : Bool) (w : List ℕ) {lists ends : List ℕ} (P : Phase) (s : Seeks daily w lists ends P) where
+module _ {byDay : Bool} {w lists ends : List ℕ} {P : Phase} (s : Seeks byDay w lists ends P) where
   pub seeks-fits : Accepted w → Fits P
   seeks-fits a = record { nurses-most = omega (arith, s .nurses-are, a .nurses-most); tabu-most = omega (arith, s .tabu-is, a .tabu-most) }
 
-  pub seeks-cost : (r : Stored) {pen : ℕ} → ((slots : ℕ → Slot) → Agree w r slots → pen ≡ costOf daily w slots) → pen ≡ P .cost ((viewOf P r) .slots)
+  pub seeks-cost : (r : Stored) {pen : ℕ} → ((slots : ℕ → Slot) → Agree w r slots → pen ≡ costOf byDay w slots) → pen ≡ P .cost ((viewOf P r) .slots)
   seeks-cost r f = f ((viewOf P r) .slots) (view-agrees w r P (s .nurses-are)) ∙ sym (s .cost-is ((viewOf P r) .slots))
 
   pub seeks-nurse : (r : Stored) {b : Best} {i p c : ℕ} → Accepted w → b ≡ bestOver P (viewOf P r) (P .nurses) → b ≡ Exchange i p c → i < 48

@@ -1,15 +1,22 @@
 -- The two searches that the code makes, by night and by day: what they cost, what a nurse tries, and which phases they serve.
 use Prim.Native.Nat.{ℕ, _+_, _-_, _≤_, _<_}
 use mathlib.Core.Path.{_≡_}
-use mathlib.Core.Bool.{Bool, true, false}
+use mathlib.Core.Bool.{Bool, true, false, not}
 use mathlib.Core.List.{List, []}
 use lib.ListN.{length, getD, take, drop}
 use Rattle.numbers.specs.Range.{keep, Ascending}
-use Rattle.fields.specs.Fields.{nurses, tabu}
+use Rattle.numbers.specs.Sum.{countTo, Is}
+use Rattle.fields.specs.Fields.{Accepted, nurses, days, tabu, block}
+use Rattle.fields.specs.Rules.{rulesOf}
 use Rattle.nights.specs.Nights.{commonOf}
 use Rattle.nights.specs.Hers.{hersOf}
+use Rattle.own.specs.CodeMasks.{masksOf, Masked}
+use Rattle.own.specs.declared.masks.Masks.{Masks}
 use Rattle.history.specs.Slot.{Slot}
 use Rattle.penalty.specs.Penalty.{startsIn, workedIn, nightPenalty, dayPenalty}
+use Rattle.penalty.specs.CodeColumns.{Shows}
+use Rattle.penalty.specs.declared.columns.Columns.{Columns}
+use Rattle.trials.specs.CodeCosts.{ChunksSmall}
 use Rattle.history.specs.Phase.{Phase, Answer, ended, End·zero, End·asked, End·none}
 use Rattle.search.specs.Stored.{slotAt, viewOf, soundStored}
 use Rattle.search.specs.declared.Ending.{Ending}
@@ -45,6 +52,25 @@ pub record Lists (byDay : Bool) (w lists ends : List ℕ) : Type 0 where
   pub common-list : byDay ≡ false → lists ≡ commonOf w
   pub begins : byDay ≡ true → (i : ℕ) → i < nurses w → getD ends i 0 ≤ getD ends (i + 1) 0
   pub finishes : byDay ≡ true → (i : ℕ) → i < nurses w → getD ends (i + 1) 0 ≤ length lists
+
+-- what the search over nurse i's list asks: the ward and its lists, who is unplaced in the record, and everyone's columns
+pub record NurseNeeds (byDay : Bool) (w lists ends : List ℕ) (cols : Columns) (unplaced : ℕ) (r : Stored) (i : ℕ) : Type 0 where
+  pub ward : Accepted w
+  pub nurse : i < nurses w
+  pub listed : Lists byDay w lists ends
+  pub counted : Is unplaced (countTo (nurses w) (λ j. not (getD (r .placed) j false))) 48
+  pub shown : (slots : ℕ → Slot) → Agree w r slots → Shows byDay w slots cols
+
+-- what the loop over the common list asks: nurse i's masks and her table
+pub record NightsNeeds (w list : List ℕ) (masks : Masks) (t : List ℕ) (others tl i : ℕ) : Type 0 where
+  pub ward : Accepted w
+  pub nurse : i < nurses w
+  pub common : list ≡ commonOf w
+  pub masked : Masked masks
+  pub masks-are : masks ≡ masksOf (rulesOf w) (days w) (block w i)
+  pub small : ChunksSmall t
+  pub others-most : others ≤ 48
+  pub tabu-most : tl ≤ 64
 
 -- a phase that the search over these lists serves
 pub record Seeks (byDay : Bool) (w lists ends : List ℕ) (P : Phase) : Type 0 where

@@ -9,21 +9,16 @@ ghost use mathlib.Core.Path.{_≡_};
 ghost use mathlib.Core.Bool.{false, not, _&&_};
 ghost use Prim.Native.Nat.{ℕ, _+_, _*_, _≤_, _<_};
 ghost use lib.ListN.{getD};
-ghost use Rattle.numbers.specs.Sum.{countTo, oneIf, Is};
-ghost use Rattle.fields.specs.Fields.{Accepted, nurses, days, tabu, block};
-ghost use Rattle.fields.specs.Rules.{rulesOf};
-ghost use Rattle.nights.specs.Nights.{commonOf};
+ghost use Rattle.numbers.specs.Sum.{oneIf};
+ghost use Rattle.fields.specs.Fields.{Accepted};
 ghost use Rattle.nights.specs.Hers.{hersOf};
-ghost use Rattle.own.specs.CodeMasks.{masksOf, Masked};
-ghost use Rattle.history.specs.Slot.{Slot};
 ghost use Rattle.trials.specs.CodeCosts.{ChunksSmall};
 ghost use Rattle.trials.specs.CodeTables.{DayTrials, NightTrials};
 ghost use Rattle.history.specs.Phase.{Phase};
 ghost use Rattle.history.specs.Record.{mayTake};
 ghost use Rattle.search.specs.Stored.{view, viewOf};
 ghost use Rattle.best.specs.CodeBest.{considered, overList, costIn, bestOver};
-ghost use Rattle.penalty.specs.CodeColumns.{Shown};
-ghost use Rattle.search.specs.CodeSeek.{Agree, Lists, Seeks};
+ghost use Rattle.search.specs.CodeSeek.{Lists, NurseNeeds, NightsNeeds, Seeks};
 
 // Which search it is, and by day where each nurse's stretch of the lists ends.
 pub struct Plan {
@@ -86,9 +81,7 @@ fn over_nights(
     i: usize,
     held: Best,
 ) -> Best
-    requires { ⌜ Accepted (now w) × (i < nurses (now w)) × (now list ≡ commonOf (now w)) ⌝ }
-    requires { ⌜ Masked masks × (masks ≡ masksOf (rulesOf (now w)) (days (now w)) (block (now w) i)) ⌝ }
-    requires { ⌜ ChunksSmall (now t) × (others ≤ 48) × (tl ≤ 64) ⌝ }
+    requires { ⌜ NightsNeeds (now w) (now list) masks (now t) others tl i ⌝ }
     ensures { λ r. ⌜ ((m : ℕ) (cost : ℕ → ℕ) → i < m → NightTrials (now (w .entry)) i (now (t .entry)) cost → r ≡ overList (λ p. hersOf (now (w .entry)) i p && mayTake (view m tl rec) i p) (λ p. cost p + 10000000 * others) i held (now (list .entry))) ⌝ }
 {
     let mut best = held;
@@ -131,9 +124,7 @@ fn over_nurse(
     i: usize,
     held: Best,
 ) -> Best
-    requires { ⌜ Accepted (now w) × (i < nurses (now w)) × Lists (plan .daily) (now w) (now lists) (plan .ends) ⌝ }
-    requires { ⌜ Is waiting (countTo (nurses (now w)) (λ j. not (getD (rec .placed) j false))) 48 ⌝ }
-    requires { ⌜ ((slots : ℕ → Slot) → Agree (now w) rec slots → Shown (plan .daily) (now w) slots (nurses (now w)) cols) ⌝ }
+    requires { ⌜ NurseNeeds (plan .daily) (now w) (now lists) (plan .ends) cols waiting rec i ⌝ }
     ensures { λ r. ⌜ ((P : Phase) → Seeks (plan .daily) (now (w .entry)) (now (lists .entry)) (plan .ends) P → r ≡ overList (mayTake (viewOf P rec) i) (costIn P (viewOf P rec) i) i held (P .patterns i)) ⌝ }
 {
     let daily = plan.daily;

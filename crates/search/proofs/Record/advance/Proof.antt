@@ -9,7 +9,7 @@ use borrow.Author.Needs.{needs}
 use Rattle.history.specs.Phase.{Phase}
 use Rattle.search.specs.Stored.{Sized, soundStored}
 use Rattle.search.specs.CodeSeek.{Seeks}
-use Rattle.search.proofs.AdvanceLaws.{Running, running-start, ends-zero, ends-asked, stays-none, moves-on}
+use Rattle.search.proofs.AdvanceLaws.{Running, Turn, running-start, ends-zero, ends-asked, stays-none, moves-on}
 use Rattle.search.proofs.SeekLaws.{seeks-fits, seeks-cost}
 use Rattle.search.proofs.Record.advance.Statement.{statement}
 use Rattle.search.proofs.Record.advance.Tie as tie
@@ -24,44 +24,82 @@ Inv-loop w lists plan k daily kept₀ made₀ kept made = (P : Phase) → Seeks 
 abbrev μ-loop : tie.MeasureT-loop
 μ-loop w lists plan k daily kept₀ made₀ kept made = k - made
 
+-- the places, each from the next
+abbrev at-start : tie.At-loop Inv-loop μ-loop → tie.Start Inv-loop μ-loop
+at-start c = c .before .before .before
+
+abbrev at-loop : tie.After-penalty-of Inv-loop μ-loop → tie.At-loop Inv-loop μ-loop
+at-loop c = c .before
+
+abbrev not-zero : tie.Else2 Inv-loop μ-loop → tie.Else1 Inv-loop μ-loop
+not-zero c = c .before
+
+abbrev at-penalty : tie.Else1 Inv-loop μ-loop → tie.After-penalty-of Inv-loop μ-loop
+at-penalty c = c .before
+
+abbrev not-asked : tie.After-step Inv-loop μ-loop → tie.Else2 Inv-loop μ-loop
+not-asked c = c .before
+
+abbrev step-stays : tie.Then3 Inv-loop μ-loop → tie.After-step Inv-loop μ-loop
+step-stays c = c .before .before
+
+abbrev step-moves : tie.Else3 Inv-loop μ-loop → tie.After-step Inv-loop μ-loop
+step-moves c = c .before .before
+
+abbrev moved : tie.After-after Inv-loop μ-loop → tie.Else3 Inv-loop μ-loop
+moved c = c .before
+
+-- the turn, in any phase that is served
+turn-at : (c : tie.After-penalty-of Inv-loop μ-loop) (P : Phase) → let loop = at-loop c in let a = (at-start loop) .args in
+    Seeks (a .plan .daily) (a .w .now) (a .lists .now) (a .plan .ends) P → soundStored P (a .self) ≡ true
+    → Turn P (a .k) (a .self) (loop .loop .kept) (loop .loop .made) (c .penalty-of .result)
+turn-at c P s e = let loop = at-loop c in
+    record { running = loop .loop .inv P s e; fits = seeks-fits s ((at-start loop) .pre .0 .0); cost = seeks-cost s (loop .loop .kept) (c .penalty-of .ensures) }
+
+-- where the loop is: there is such a phase
+running-at : (c : tie.At-loop Inv-loop μ-loop) → let a = (at-start c) .args in Running ((at-start c) .pre .1 .0) (a .k) (a .self) (c .loop .kept) (c .loop .made)
+running-at c = let served = (at-start c) .pre .1 in c .loop .inv (served .0) (served .1) (served .2)
+
 loop-holds : tie.Need-loop-holds Inv-loop μ-loop
 loop-holds c = λ P s e.
-    let z : Sized (c .before .before .args .self) = record { patterns-long = search needs; placed-long = search needs; removals-long = simp length-map at (c .before .before .good .0 .1 .1 .1 .1 .0 .1 .0 .1) } in
-    running-start P (c .before .before .args .k) (c .before .before .args .self) z e
+    let start = c .before .before in
+    let z : Sized (start .args .self) = record { patterns-long = search needs; placed-long = search needs; removals-long = simp length-map at (start .good .0 .1 .1 .1 .1 .0 .1 .0 .1) } in
+    running-start P (start .args .k) (start .args .self) z e
 
 penalty-of-requires : tie.Need-penalty-of-requires Inv-loop μ-loop
-penalty-of-requires c κs = c .before .before .before .pre .0 .0
+penalty-of-requires c κs = (at-start c) .pre .0 .0
 
 returns : tie.Need-returns Inv-loop μ-loop
-returns c = λ P s e. ends-zero P (c .before .before .before .before .before .args .k) (c .before .before .before .before .before .args .self) (c .before .before .loop .inv P s e) (seeks-fits (c .before .before .before .before .before .args .plan .daily) (c .before .before .before .before .before .args .w .now) P s (c .before .before .before .before .before .pre .0 .0)) (seeks-cost (c .before .before .before .before .before .args .plan .daily) (c .before .before .before .before .before .args .w .now) P s (c .before .before .loop .kept) (c .before .penalty-of .ensures)) (c .if1 .taken)
+returns c = λ P s e. ends-zero (turn-at (c .before) P s e) (c .if1 .taken)
 
 returns-2 : tie.Need-returns-2 Inv-loop μ-loop
-returns-2 c = λ P s e. ends-asked P (c .before .before .before .before .before .before .args .k) (c .before .before .before .before .before .before .args .self) (c .before .before .before .loop .inv P s e) (seeks-fits (c .before .before .before .before .before .before .args .plan .daily) (c .before .before .before .before .before .before .args .w .now) P s (c .before .before .before .before .before .before .pre .0 .0)) (seeks-cost (c .before .before .before .before .before .before .args .plan .daily) (c .before .before .before .before .before .before .args .w .now) P s (c .before .before .before .loop .kept) (c .before .before .penalty-of .ensures)) (c .before .if1 .left) (c .if2 .taken)
+returns-2 c = let zero = c .before in λ P s e. ends-asked (turn-at (at-penalty zero) P s e) (zero .if1 .left) (c .if2 .taken)
 
 step-requires : tie.Need-step-requires Inv-loop μ-loop
-step-requires c κs = let v = c .before .before .before .before .before .before .pre .1 in
-    let run = c .before .before .before .loop .inv (v .0) (v .1) (v .2) in
-    ((c .before .before .before .before .before .before .pre .0 .0, c .before .before .before .before .before .before .pre .0 .1, omega (arith, run .counted, run .at-most, c .if2 .left, c .before .before .before .before .before .before .pre .0 .2)), (v .0, v .1))
+step-requires c κs = let loop = at-loop (at-penalty (not-zero c)) in
+    let start = at-start loop in
+    let run = running-at loop in
+    ((start .pre .0 .0, start .pre .0 .1, omega (arith, run .counted, run .at-most, c .if2 .left, start .pre .0 .2)), (start .pre .1 .0, start .pre .1 .1))
 
 returns-3 : tie.Need-returns-3 Inv-loop μ-loop
-returns-3 c = λ P s e.
-    let run = c .before .before .before .before .before .before .loop .inv P s e in
-    stays-none P (c .before .before .before .before .before .before .before .before .before .args .k) (c .before .before .before .before .before .before .before .before .before .args .self) run (seeks-fits (c .before .before .before .before .before .before .before .before .before .args .plan .daily) (c .before .before .before .before .before .before .before .before .before .args .w .now) P s (c .before .before .before .before .before .before .before .before .before .pre .0 .0)) (seeks-cost (c .before .before .before .before .before .before .before .before .before .args .plan .daily) (c .before .before .before .before .before .before .before .before .before .args .w .now) P s (c .before .before .before .before .before .before .loop .kept) (c .before .before .before .before .before .penalty-of .ensures)) (c .before .before .before .before .if1 .left) (omega (arith, run .at-most, c .before .before .before .if2 .left)) (c .before .before .step .ensures P s) (not-true _ (c .if3 .taken))
+returns-3 c = let step = step-stays c in
+    let asked = not-asked step in
+    let zero = not-zero asked in
+    λ P s e. stays-none (turn-at (at-penalty zero) P s e) (zero .if1 .left) (asked .if2 .left) (step .step .ensures P s) (not-true _ (c .if3 .taken))
 
 add-made : tie.Need-add-made Inv-loop μ-loop
-add-made c = let v = c .before .before .before .before .before .before .before .before .before .before .pre .1 in
-    let run = c .before .before .before .before .before .before .before .loop .inv (v .0) (v .1) (v .2) in
-    omega (arith, run .at-most, c .before .before .before .before .before .before .before .before .before .before .pre .0 .2)
+add-made c = let loop = at-loop (at-penalty (not-zero (not-asked (step-moves (moved c))))) in
+    omega (arith, running-at loop .at-most, (at-start loop) .pre .0 .2)
 
 loop-less : tie.Need-loop-less Inv-loop μ-loop
-loop-less c = let v = c .before .before .before .before .before .before .before .before .before .before .pre .1 in
-    let run = c .before .before .before .before .before .before .before .loop .inv (v .0) (v .1) (v .2) in
-    omega (arith, run .at-most, c .before .before .before .before .if2 .left)
+loop-less c = let asked = not-asked (step-moves (moved c)) in
+    omega (arith, running-at (at-loop (at-penalty (not-zero asked))) .at-most, asked .if2 .left)
 
 loop-again : tie.Need-loop-again Inv-loop μ-loop
-loop-again c = λ P s e.
-    let run = c .before .before .before .before .before .before .before .loop .inv P s e in
-    moves-on P (c .before .before .before .before .before .before .before .before .before .before .args .k) (c .before .before .before .before .before .before .before .before .before .before .args .self) run (seeks-fits (c .before .before .before .before .before .before .before .before .before .before .args .plan .daily) (c .before .before .before .before .before .before .before .before .before .before .args .w .now) P s (c .before .before .before .before .before .before .before .before .before .before .pre .0 .0)) (seeks-cost (c .before .before .before .before .before .before .before .before .before .before .args .plan .daily) (c .before .before .before .before .before .before .before .before .before .before .args .w .now) P s (c .before .before .before .before .before .before .before .loop .kept) (c .before .before .before .before .before .before .penalty-of .ensures)) (c .before .before .before .before .before .if1 .left) (omega (arith, run .at-most, c .before .before .before .before .if2 .left)) (c .before .before .before .step .ensures P s) (not-false _ (c .before .if3 .left))
+loop-again c = let step = step-moves (moved c) in
+    let asked = not-asked step in
+    let zero = not-zero asked in
+    λ P s e. moves-on (turn-at (at-penalty zero) P s e) (zero .if1 .left) (asked .if2 .left) (step .step .ensures P s) (not-false _ ((moved c) .if3 .left))
 
 pub advance-spec : {M : Type 1} → statement M
 advance-spec =

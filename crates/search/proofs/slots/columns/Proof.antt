@@ -20,6 +20,16 @@ Inv-loop w rec daily m cols₀ i₀ cols i = (i ≤ m) × ((slots : ℕ → Slot
 abbrev μ-loop : tie.MeasureT-loop
 μ-loop w rec daily m cols₀ i₀ cols i = m - i
 
+-- the places, each from the next
+abbrev at-start : tie.After-nurses Inv-loop μ-loop → tie.Start Inv-loop μ-loop
+at-start c = c .before .before
+
+abbrev at-nurses : tie.After-empty Inv-loop μ-loop → tie.After-nurses Inv-loop μ-loop
+at-nurses c = c .before
+
+abbrev at-empty : tie.At-loop Inv-loop μ-loop → tie.After-empty Inv-loop μ-loop
+at-empty c = c .before
+
 nurses-requires : tie.Need-nurses-requires Inv-loop μ-loop
 nurses-requires c κs = search needs
 
@@ -27,7 +37,7 @@ empty-requires : tie.Need-empty-requires Inv-loop μ-loop
 empty-requires c κs = search needs
 
 loop-holds : tie.Need-loop-holds Inv-loop μ-loop
-loop-holds c = (omega arith, λ slots a. columns-start (c .before .before .before .args .daily) (c .before .before .before .args .w .now) slots _ (c .empty .ensures))
+loop-holds c = let args = (at-start (at-nurses c)) .args in (omega arith, λ slots a. columns-start (args .daily) (args .w .now) slots _ (c .empty .ensures))
 
 with-row-requires : tie.Need-with-row-requires Inv-loop μ-loop
 with-row-requires c κs = search needs
@@ -39,10 +49,16 @@ loop-less : tie.Need-loop-less Inv-loop μ-loop
 loop-less c = search needs
 
 loop-again : tie.Need-loop-again Inv-loop μ-loop
-loop-again c = (search needs, λ slots a. c .with-row .ensures slots (agree-at (c .before .before .before .before .before .before .args .w .now) (c .before .before .before .before .before .before .args .rec) slots (c .before .before .loop .i) a (omega (arith, c .before .before .before .before .nurses .ensures .0))) (c .before .before .loop .inv .1 slots a))
+loop-again c = let loop = c .before .before in
+    let nurses = at-nurses (at-empty loop) in
+    let args = (at-start nurses) .args in
+    (search needs, λ slots a. c .with-row .ensures slots (agree-at (args .w .now) (args .rec) slots (loop .loop .i) a (omega (arith, nurses .nurses .ensures .0))) (loop .loop .inv .1 slots a))
 
 returns : tie.Need-returns Inv-loop μ-loop
-returns c = λ slots a. columns-end (c .before .before .before .before .before .args .daily) (c .before .before .before .before .before .args .w .now) slots _ (c .before .loop .inv .1 slots a) (c .before .loop .inv .0) (c .loop-test .left) (c .before .before .before .nurses .ensures .0)
+returns c = let loop = c .before in
+    let nurses = at-nurses (at-empty loop) in
+    let args = (at-start nurses) .args in
+    λ slots a. columns-end (args .daily) (args .w .now) slots _ (loop .loop .inv .1 slots a) (loop .loop .inv .0) (c .loop-test .left) (nurses .nurses .ensures .0)
 
 pub columns-spec : {M : Type 1} → statement M
 columns-spec =

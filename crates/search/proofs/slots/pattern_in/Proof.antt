@@ -1,5 +1,7 @@
 -- `search::slots::pattern_in` meets its contract.
 use Rattle.search.proofs.SeekLaws.{block-of, pattern-placed, pattern-days, pattern-nights}
+use Prim.Native.Nat.{_≤_}
+use Rattle.fields.specs.Fields.{Block}
 use borrow.Author.Needs.{needs}
 use Rattle.search.proofs.slots.pattern_in.Statement.{statement}
 use Rattle.search.proofs.slots.pattern_in.Tie as tie
@@ -8,6 +10,32 @@ use Rattle.search.proofs.slots.pattern_in.Lts as lts
 use Rattle.search.proofs.slots.marked_days.Reads as marked-days-reads
 use Rattle.fields.proofs.block.Reads as block-reads
 use Rattle.fields.proofs.days.Reads as days-reads
+
+-- the places, each from the next
+abbrev start-placed : tie.Then1 → tie.Start
+start-placed c = c .before .before .before
+
+abbrev start-unplaced : tie.Else1 → tie.Start
+start-unplaced c = c .before .before .before
+
+abbrev is-unplaced : tie.After-days → tie.Else1
+is-unplaced c = c .before
+
+abbrev at-days : tie.After-block → tie.After-days
+at-days c = c .before
+
+abbrev block-day : tie.Then2 → tie.After-block
+block-day c = c .before
+
+abbrev block-night : tie.Else2 → tie.After-block
+block-night c = c .before
+
+abbrev start-of : tie.After-block → tie.Start
+start-of c = start-unplaced (is-unplaced (at-days c))
+
+-- her block and its days
+block-at : (c : tie.After-block) → Block (c .block .result .now) ((at-days c) .days .result) × ((at-days c) .days .result ≤ 31)
+block-at c = let start = start-of c in block-of (start .args .w .now) (start .args .i) (start .pre .0) (start .pre .1) (c .block .ensures) ((at-days c) .days .ensures)
 
 element-copy-out-if1 : tie.Need-element-copy-out-if1
 element-copy-out-if1 c = search needs
@@ -19,7 +47,7 @@ element-copy-out-result : tie.Need-element-copy-out-result
 element-copy-out-result c = search needs
 
 returns : tie.Need-returns
-returns c = pattern-placed _ (c .before .before .before .before .args .t2) (c .before .before .before .before .args .i) (c .before .before .before .before .args .daily) (c .before .if1 .taken)
+returns c = let a = (start-placed (c .before)) .args in pattern-placed (a .w .now) (a .t2) (a .i) (a .daily) (c .before .if1 .taken)
 
 days-requires : tie.Need-days-requires
 days-requires c κs = search needs
@@ -28,16 +56,22 @@ block-requires : tie.Need-block-requires
 block-requires c κs = search needs
 
 marked-days-requires : tie.Need-marked-days-requires
-marked-days-requires c κs = block-of _ (c .before .before .before .before .before .before .args .i) (c .before .before .before .before .before .before .pre .0) (c .before .before .before .before .before .before .pre .1) (c .before .block .ensures) (c .before .before .days .ensures)
+marked-days-requires c κs = block-at (block-day c)
 
 returns-2 : tie.Need-returns-2
-returns-2 c = pattern-days _ (c .before .before .before .before .before .before .before .args .t2) (c .before .before .before .before .before .before .before .args .i) (c .before .before .before .before .before .before .before .args .daily) (c .before .before .before .before .if1 .left) (c .before .if2 .taken) (c .before .before .before .days .ensures .0) (c .before .before .block .ensures) (c .marked-days .ensures)
+returns-2 c = let block = block-day (c .before) in
+    let days = at-days block in
+    let a = (start-of block) .args in
+    pattern-days (a .w .now) (a .t2) (a .i) (a .daily) ((is-unplaced days) .if1 .left) (c .before .if2 .taken) (days .days .ensures .0) (block .block .ensures) (c .marked-days .ensures)
 
 marked-days-requires-2 : tie.Need-marked-days-requires-2
-marked-days-requires-2 c κs = block-of _ (c .before .before .before .before .before .before .args .i) (c .before .before .before .before .before .before .pre .0) (c .before .before .before .before .before .before .pre .1) (c .before .block .ensures) (c .before .before .days .ensures)
+marked-days-requires-2 c κs = block-at (block-night c)
 
 returns-3 : tie.Need-returns-3
-returns-3 c = pattern-nights _ (c .before .before .before .before .before .before .before .args .t2) (c .before .before .before .before .before .before .before .args .i) (c .before .before .before .before .before .before .before .args .daily) (c .before .before .before .before .if1 .left) (c .before .if2 .left) (c .before .before .before .days .ensures .0) (c .before .before .block .ensures) (c .marked-days2 .ensures)
+returns-3 c = let block = block-night (c .before) in
+    let days = at-days block in
+    let a = (start-of block) .args in
+    pattern-nights (a .w .now) (a .t2) (a .i) (a .daily) ((is-unplaced days) .if1 .left) (c .before .if2 .left) (days .days .ensures .0) (block .block .ensures) (c .marked-days2 .ensures)
 
 pub pattern-in-spec : {M : Type 1} → statement M
 pattern-in-spec =

@@ -20,7 +20,12 @@ total-requires : tie.Need-total-requires
 total-requires c κs = search needs
 
 returns : tie.Need-returns
-returns c = λ slots a. penalty-is (c .before .before .before .before .before .before .args .daily) (c .before .before .before .before .before .before .args .w .now) (c .before .before .before .before .before .before .args .rec) slots _ (c .before .before .before .before .nurses .ensures .0) (c .before .before .unplaced .ensures) a (c .before .before .before .columns .ensures) (c .total .ensures) (c .before .parts .ensures .1)
+returns c = let parts = c .before in
+    let unplaced = parts .before in
+    let columns = unplaced .before in
+    let nurses = columns .before in
+    let start = nurses .before .before in
+    λ slots a. penalty-is (start .args .daily) (start .args .w .now) (start .args .rec) slots _ (nurses .nurses .ensures .0) (unplaced .unplaced .ensures) a (columns .columns .ensures) (c .total .ensures) (parts .parts .ensures .1)
 
 pub penalty-of-spec : {M : Type 1} → statement M
 penalty-of-spec =

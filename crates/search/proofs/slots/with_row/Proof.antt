@@ -12,6 +12,22 @@ use Rattle.penalty.proofs.columns.Columns.with_nurse.Reads as with-nurse-reads
 use Rattle.search.proofs.slots.pattern_in.Reads as pattern-in-reads
 use Rattle.fields.proofs.days.Reads as days-reads
 
+-- the places, each from the next
+abbrev at-start : tie.After-days → tie.Start
+at-start c = c .before .before
+
+abbrev at-days : tie.After-pattern-in → tie.After-days
+at-days c = c .before
+
+abbrev at-pattern : tie.Else1 → tie.After-pattern-in
+at-pattern c = c .before
+
+abbrev by-night : tie.After-masks-of → tie.Else1
+by-night c = c .before
+
+abbrev at-masks : tie.After-available-days → tie.After-masks-of
+at-masks c = c .before
+
 days-requires : tie.Need-days-requires
 days-requires c κs = search needs
 
@@ -22,7 +38,10 @@ with-nurse-requires : tie.Need-with-nurse-requires
 with-nurse-requires c κs = search needs
 
 returns : tie.Need-returns
-returns c = λ slots a s. row-day (c .before .before .before .before .before .args .w .now) (c .before .before .before .before .before .args .rec) (c .before .before .before .before .before .args .i) (c .before .before .before .before .before .args .cols) slots (c .before .before .before .before .before .args .daily) (c .before .if1 .taken) (c .before .before .before .days .ensures .0) (c .before .before .pattern-in .ensures) (c .with-nurse .ensures) a s
+returns c = let pattern = c .before .before in
+    let days = at-days pattern in
+    let a = (at-start days) .args in
+    λ slots same s. row-day (a .w .now) (a .rec) (a .i) (a .cols) slots (a .daily) (c .before .if1 .taken) (days .days .ensures .0) (pattern .pattern-in .ensures) (c .with-nurse .ensures) same s
 
 masks-of-requires : tie.Need-masks-of-requires
 masks-of-requires c κs = search needs
@@ -34,7 +53,13 @@ with-nurse-requires-2 : tie.Need-with-nurse-requires-2
 with-nurse-requires-2 c κs = search needs
 
 returns-2 : tie.Need-returns-2
-returns-2 c = λ slots a s. row-night (c .before .before .before .before .before .before .before .args .w .now) (c .before .before .before .before .before .before .before .args .rec) (c .before .before .before .before .before .before .before .args .i) (c .before .before .before .before .before .before .before .args .cols) slots (c .before .before .before .before .before .before .before .args .daily) (c .before .before .before .if1 .left) (c .before .before .before .before .before .days .ensures .0) (c .before .before .before .before .before .before .before .pre .0 .days-most) (c .before .before .before .before .pattern-in .ensures) (c .before .before .masks-of .ensures .0) (λ k b l e. c .before .available-days .ensures (rulesOf (c .before .before .before .before .before .before .before .args .w .now)) k b l e) (c .with-nurse2 .ensures) a s
+returns-2 c = let masks = at-masks (c .before) in
+    let night = by-night masks in
+    let pattern = at-pattern night in
+    let days = at-days pattern in
+    let start = at-start days in
+    let a = start .args in
+    λ slots same s. row-night (a .w .now) (a .rec) (a .i) (a .cols) slots (a .daily) (night .if1 .left) (days .days .ensures .0) (start .pre .0 .days-most) (pattern .pattern-in .ensures) (masks .masks-of .ensures .0) (c .before .available-days .ensures (rulesOf (a .w .now))) (c .with-nurse2 .ensures) same s
 
 pub with-row-spec : {M : Type 1} → statement M
 with-row-spec =

@@ -1,16 +1,13 @@
 -- `search::tries::best_of` meets its contract: the best of the nurses before i.
-use Rattle.numbers.specs.Sum.{countTo, Is}
-use mathlib.Core.Bool.{false, not}
-use lib.ListN.{getD}
 use borrow.Author.Needs.{needs}
-use Prim.Native.Nat.{ℕ, _-_, _≤_}
-use mathlib.Core.Path.{_≡_, subst}
+use Prim.Native.Nat.{_-_, _≤_}
+use mathlib.Core.Path.{_≡_}
 use native.Mathlib.Omega.{arith}
 use Rattle.history.specs.Phase.{Phase}
 use Rattle.search.specs.Stored.{viewOf}
 use Rattle.best.specs.CodeBest.{bestOver}
 use Rattle.search.specs.CodeSeek.{Seeks}
-use Rattle.search.proofs.SeekLaws.{best-start, best-turn, best-end}
+use Rattle.search.proofs.SeekLaws.{nurse-needs, best-start, best-turn, best-end}
 use Rattle.search.proofs.tries.best_of.Statement.{statement}
 use Rattle.search.proofs.tries.best_of.Tie as tie
 use Rattle.search.proofs.tries.best_of.Reads as reads
@@ -26,6 +23,22 @@ Inv-loop w lists plan rec m cols waiting best₀ i₀ best i = (i ≤ m) × ((P 
 abbrev μ-loop : tie.MeasureT-loop
 μ-loop w lists plan rec m cols waiting best₀ i₀ best i = m - i
 
+-- the places, each from the next
+abbrev at-start : tie.After-nurses Inv-loop μ-loop → tie.Start Inv-loop μ-loop
+at-start c = c .before .before .before
+
+abbrev at-nurses : tie.After-columns Inv-loop μ-loop → tie.After-nurses Inv-loop μ-loop
+at-nurses c = c .before
+
+abbrev at-columns : tie.After-unplaced Inv-loop μ-loop → tie.After-columns Inv-loop μ-loop
+at-columns c = c .before
+
+abbrev at-unplaced : tie.At-loop Inv-loop μ-loop → tie.After-unplaced Inv-loop μ-loop
+at-unplaced c = c .before
+
+abbrev start-of : tie.After-unplaced Inv-loop μ-loop → tie.Start Inv-loop μ-loop
+start-of c = at-start (at-nurses (at-columns c))
+
 nurses-requires : tie.Need-nurses-requires Inv-loop μ-loop
 nurses-requires c κs = search needs
 
@@ -36,10 +49,13 @@ unplaced-requires : tie.Need-unplaced-requires Inv-loop μ-loop
 unplaced-requires c κs = search needs
 
 loop-holds : tie.Need-loop-holds Inv-loop μ-loop
-loop-holds c = (omega arith, λ P s. best-start (c .before .before .before .before .before .args .plan .daily) (c .before .before .before .before .before .args .w .now) (c .before .before .before .before .before .args .rec) P s)
+loop-holds c = (omega arith, λ P s. best-start s ((start-of c) .args .rec))
 
 over-nurse-requires : tie.Need-over-nurse-requires Inv-loop μ-loop
-over-nurse-requires c κs = ((c .before .before .before .before .before .before .before .pre .0, omega (arith, c .before .before .before .before .nurses .ensures .0), c .before .before .before .before .before .before .before .pre .1), (subst (λ (k : ℕ). Is (c .before .before .unplaced .result) (countTo k (λ j. not (getD (c .before .before .before .before .before .before .before .args .rec .placed) j false))) 48) (c .before .before .before .before .nurses .ensures .0) (c .before .before .unplaced .ensures), c .before .before .before .columns .ensures))
+over-nurse-requires c κs = let unplaced = at-unplaced (c .before) in
+    let columns = at-columns unplaced in
+    let start = start-of unplaced in
+    nurse-needs (start .pre .0) (start .pre .1) ((at-nurses columns) .nurses .ensures .0) (unplaced .unplaced .ensures) (columns .columns .ensures) (c .loop-test .taken)
 
 add-i : tie.Need-add-i Inv-loop μ-loop
 add-i c = search needs
@@ -48,10 +64,14 @@ loop-less : tie.Need-loop-less Inv-loop μ-loop
 loop-less c = search needs
 
 loop-again : tie.Need-loop-again Inv-loop μ-loop
-loop-again c = (search needs, λ P s. best-turn (c .before .before .before .before .before .before .before .before .args .plan .daily) (c .before .before .before .before .before .before .before .before .args .w .now) (c .before .before .before .before .before .before .before .before .args .rec) P s (c .before .before .loop .i) (c .before .before .loop .inv .1 P s) (c .over-nurse .ensures P s))
+loop-again c = let loop = c .before .before in
+    let start = start-of (at-unplaced loop) in
+    (search needs, λ P s. best-turn s (start .args .rec) (loop .loop .i) (loop .loop .inv .1 P s) (c .over-nurse .ensures P s))
 
 returns : tie.Need-returns Inv-loop μ-loop
-returns c = λ P s. best-end (c .before .before .before .before .before .before .before .args .plan .daily) (c .before .before .before .before .before .before .before .args .w .now) (c .before .before .before .before .before .before .before .args .rec) P s (c .before .loop .inv .1 P s) (c .before .loop .inv .0) (c .loop-test .left) (c .before .before .before .before .nurses .ensures .0)
+returns c = let unplaced = at-unplaced (c .before) in
+    let inv = c .before .loop .inv in
+    λ P s. best-end s ((start-of unplaced) .args .rec) (inv .1 P s) (inv .0) (c .loop-test .left) ((at-nurses (at-columns unplaced)) .nurses .ensures .0)
 
 pub best-of-spec : {M : Type 1} → statement M
 best-of-spec =

@@ -25,6 +25,13 @@ Inv-loop part t others rec tl i best₀ k₀ k-end best k = (k ≤ length part) 
 abbrev μ-loop : tie.MeasureT-loop
 μ-loop part t others rec tl i best₀ k₀ k-end best k = length part - k
 
+-- the places, each from the next
+abbrev at-start : tie.At-loop Inv-loop μ-loop → tie.Start Inv-loop μ-loop
+at-start c = c .before .before
+
+abbrev in-loop : tie.After-chunk-trial Inv-loop μ-loop → tie.In-loop Inv-loop μ-loop
+in-loop c = c .before .before
+
 loop-holds : tie.Need-loop-holds Inv-loop μ-loop
 loop-holds c = (search needs, λ m cost l t. sym (over-nil _ _ _ _))
 
@@ -56,14 +63,22 @@ loop-less : tie.Need-loop-less Inv-loop μ-loop
 loop-less c = search needs
 
 loop-again : tie.Need-loop-again Inv-loop μ-loop
-loop-again c = let a = c .before .before .before .before .before .before .before .args in (
-  omega arith,
-  λ m cost l t.
-      ⊎-elim
-      (λ x. turn-considered (mayTake (view m (a .tl) (a .rec)) (a .i)) (λ q. cost q + 10000000 * a .others) (a .i) (a .held) (a .part .now) (c .before .before .before .before .before .loop .k) (c .before .before .before .before .loop-test .taken) (c .before .before .before .before .before .loop .inv .1 m cost l t) (trial-costs 0 _ (a .others) (t .worked _) (c .before .before .chunk-trial .ensures .0)) (x .2 ∙ x .1 .ensures m l))
-      (λ x. x .1 ∙ turn-worse (mayTake (view m (a .tl) (a .rec)) (a .i)) (λ q. cost q + 10000000 * a .others) (a .i) (a .held) (a .part .now) (c .before .before .before .before .before .loop .k) (c .before .before .before .before .loop-test .taken) (c .before .before .before .before .before .loop .inv .1 m cost l t) (trial-costs 0 _ (a .others) (t .worked _) (c .before .before .chunk-trial .ensures .0)) (c .before .improves .ensures) (x .0 .left))
-      (c .if1 .came),
-)
+loop-again c = let improves = c .before in
+    let trial = improves .before in
+    let inside = in-loop trial in
+    let loop = inside .before in
+    let a = (at-start loop) .args in
+    let taken = inside .loop-test .taken in (
+      omega arith,
+      λ m cost l t.
+          let may = mayTake (view m (a .tl) (a .rec)) (a .i) in
+          let so-far = loop .loop .inv .1 m cost l t in
+          let costs = trial-costs 0 _ (a .others) (t .worked _) (trial .chunk-trial .ensures .0) in
+          ⊎-elim
+          (λ x. turn-considered may (λ q. cost q + 10000000 * a .others) (a .i) (a .held) (a .part .now) (loop .loop .k) taken so-far costs (x .2 ∙ x .1 .ensures m l))
+          (λ x. x .1 ∙ turn-worse may (λ q. cost q + 10000000 * a .others) (a .i) (a .held) (a .part .now) (loop .loop .k) taken so-far costs (improves .improves .ensures) (x .0 .left))
+          (c .if1 .came),
+    )
 
 returns : tie.Need-returns Inv-loop μ-loop
 returns c = λ m cost l t. c .before .loop .inv .1 m cost l t ∙ over-done _ _ _ _ _ _ (c .loop-test .left)

@@ -30,6 +30,21 @@ Inv-loop w list masks t others rec tl i best₀ k₀ k-end best k = (k ≤ lengt
 abbrev μ-loop : tie.MeasureT-loop
 μ-loop w list masks t others rec tl i best₀ k₀ k-end best k = length list - k
 
+-- the places, each from the next
+abbrev at-start : tie.At-loop Inv-loop μ-loop → tie.Start Inv-loop μ-loop
+at-start c = c .before .before .before
+
+abbrev in-loop : tie.After-passes Inv-loop μ-loop → tie.In-loop Inv-loop μ-loop
+in-loop c = c .before .before
+
+-- whether the pattern is hers, by the masks
+passes-at : (c : tie.After-passes Inv-loop μ-loop) → let loop = (in-loop c) .before in let a = (at-start loop) .args in
+    c .passes .result ≡ hersOf (a .w .now) (a .i) (getD (a .list .now) (loop .loop .k) 0)
+passes-at c = let loop = (in-loop c) .before in
+    let start = at-start loop in
+    let kept = common-at (start .args .w .now) (start .args .list .now) (loop .loop .k) (start .pre .common) ((in-loop c) .loop-test .taken) in
+    c .passes .ensures (start .args .i) (start .pre .masks-are) (kept .0) (kept .1)
+
 loop-holds : tie.Need-loop-holds Inv-loop μ-loop
 loop-holds c = (search needs, λ m cost l t. sym (over-nil _ _ _ _))
 
@@ -67,26 +82,26 @@ loop-less : tie.Need-loop-less Inv-loop μ-loop
 loop-less c = search needs
 
 loop-again : tie.Need-loop-again Inv-loop μ-loop
-loop-again c = let a = c .before .before .before .before .before .before .before .args in
-    let w = a .w .now in
-    let ps = a .list .now in
-    let k = c .before .before .before .before .loop .k in
-    let inside = c .before .before .before .loop-test .taken in
-    let at = common-at w ps k (c .before .before .before .before .before .before .before .pre .0 .2) inside in
-    let passed = c .before .passes .ensures (a .i) (c .before .before .before .before .before .before .before .pre .1 .0 .1) (at .0) (at .1) in (
+loop-again c = let inside = in-loop (c .before) in
+    let loop = inside .before in
+    let start = at-start loop in
+    let a = start .args in
+    let taken = inside .loop-test .taken in
+    let hers-is = passes-at (c .before) in (
       omega arith,
       λ m cost l t.
           let may = mayTake (view m (a .tl) (a .rec)) (a .i) in
-          let hers = hersOf w (a .i) in
+          let hers = hersOf (a .w .now) (a .i) in
+          let so-far = loop .loop .inv .1 m cost l t in
           ⊎-elim
-          (λ x. hers-considered hers may (λ p. cost p + 10000000 * a .others) (a .i) (a .held) ps k inside (c .before .before .before .before .loop .inv .1 m cost l t) passed (x .0 .taken)
-          (night-costs w (a .i) (getD ps k 0) _ cost (a .others) t (c .before .before .before .before .before .before .before .pre .0 .0 .days-most) (c .before .before .before .before .before .before .before .pre .1 .0 .1) (λ j b h e. x .1 .ensures (rulesOf w) j b h e) (x .2 .ensures .0))
-          (x .6 ∙ x .5 .ensures m l))
+          (λ x. let hers-here = x .0 .taken in let free = x .1 .ensures in let trial = x .2 .ensures in
+          hers-considered hers may (λ p. cost p + 10000000 * a .others) (a .i) (a .held) (a .list .now) (loop .loop .k) taken so-far hers-is hers-here
+          (night-costs (start .pre) _ t (free (rulesOf (a .w .now))) (trial .0)) (x .6) (x .5 .ensures m l))
           (λ y. ⊎-elim
-          (λ x. x .5 ∙ no-better hers may (λ p. cost p + 10000000 * a .others) (a .i) (a .held) ps k inside (c .before .before .before .before .loop .inv .1 m cost l t)
-          (night-costs w (a .i) (getD ps k 0) _ cost (a .others) t (c .before .before .before .before .before .before .before .pre .0 .0 .days-most) (c .before .before .before .before .before .before .before .pre .1 .0 .1) (λ j b h e. x .1 .ensures (rulesOf w) j b h e) (x .2 .ensures .0))
-          (x .3 .ensures) (x .4 .left))
-          (λ x. x .1 ∙ not-hers hers may (λ p. cost p + 10000000 * a .others) (a .i) (a .held) ps k inside (c .before .before .before .before .loop .inv .1 m cost l t) passed (x .0 .left))
+          (λ x. let free = x .1 .ensures in let trial = x .2 .ensures in let worse = x .4 .left in
+          x .5 ∙ no-better hers may (λ p. cost p + 10000000 * a .others) (a .i) (a .held) (a .list .now) (loop .loop .k) taken so-far
+          (night-costs (start .pre) _ t (free (rulesOf (a .w .now))) (trial .0)) (x .3 .ensures) worse)
+          (λ x. x .1 ∙ not-hers hers may (λ p. cost p + 10000000 * a .others) (a .i) (a .held) (a .list .now) (loop .loop .k) taken so-far hers-is (x .0 .left))
           y)
           (c .if1 .came),
     )

@@ -1,7 +1,8 @@
 -- `search::tries::over_nurse` meets its contract.
 use native.Mathlib.Omega.{arith}
-use mathlib.Core.Path.{refl}
-use Rattle.search.proofs.SeekLaws.{nurse-days, nurse-nights}
+use Prim.Native.Nat.{_+_, _≤_}
+use lib.ListN.{getD, length}
+use Rattle.search.proofs.SeekLaws.{NurseTable, stretch-begins, stretch-ends, nights-need, nurse-days, nurse-nights}
 use borrow.Author.Needs.{needs}
 use Rattle.search.proofs.tries.over_nurse.Statement.{statement}
 use Rattle.search.proofs.tries.over_nurse.Tie as tie
@@ -13,6 +14,54 @@ use Rattle.search.proofs.tries.over_days.Reads as over-days-reads
 use Rattle.search.proofs.tries.over_nights.Reads as over-nights-reads
 use Rattle.trials.proofs.table.Reads as table-reads
 use Rattle.fields.proofs.tabu.Reads as tabu-reads
+
+-- the places, each from the next
+abbrev at-start : tie.After-tabu → tie.Start
+at-start c = c .before .before .before
+
+abbrev at-tabu : tie.After-table → tie.After-tabu
+at-tabu c = c .before
+
+abbrev at-table : tie.After-others-than → tie.After-table
+at-table c = c .before
+
+abbrev others-day : tie.Then1 → tie.After-others-than
+others-day c = c .before
+
+abbrev others-night : tie.Else1 → tie.After-others-than
+others-night c = c .before
+
+abbrev by-day : tie.After-e → tie.Then1
+by-day c = c .before .before
+
+abbrev at-e : tie.After-over-days → tie.After-e
+at-e c = c .before .before .before
+
+abbrev at-masks : tie.After-t2 → tie.After-masks-of
+at-masks c = c .before
+
+abbrev by-night : tie.After-masks-of → tie.Else1
+by-night c = c .before
+
+abbrev start-of : tie.After-others-than → tie.Start
+start-of c = at-start (at-tabu (at-table c))
+
+-- what was known before her list is looked at
+table-at : (c : tie.After-others-than) → let a = (start-of c) .args in
+    NurseTable (a .t3 .daily) (a .w .now) (a .cols) (a .waiting) (a .rec) (a .i) ((at-tabu (at-table c)) .tabu .result) ((at-table c) .table .result) (c .others-than .result)
+table-at c =
+    record {
+      tabu-is = (at-tabu (at-table c)) .tabu .ensures .0;
+      tabu-most = (at-tabu (at-table c)) .tabu .ensures .1;
+      small = (at-table c) .table .ensures .0;
+      tables = (at-table c) .table .ensures .1;
+      others-are = c .others-than .ensures .0;
+      others-most = omega (arith, c .others-than .ensures .1, (start-of c) .pre .counted .most);
+    }
+
+stretch-at : (c : tie.Then1) → let a = (start-of (others-day c)) .args in
+    (getD (a .t3 .ends) (a .i) 0 ≤ getD (a .t3 .ends) (a .i + 1) 0) × (getD (a .t3 .ends) (a .i + 1) 0 ≤ length (a .lists .now))
+stretch-at c = (stretch-begins ((start-of (others-day c)) .pre) (c .if1 .taken), stretch-ends ((start-of (others-day c)) .pre) (c .if1 .taken))
 
 tabu-requires : tie.Need-tabu-requires
 tabu-requires c κs = search needs
@@ -39,31 +88,40 @@ element-copy-out-e : tie.Need-element-copy-out-e
 element-copy-out-e c = search needs
 
 mul-over-days : tie.Need-mul-over-days
-mul-over-days c = omega (arith, c .before .before .before .before .before .before .before .before .pre .0 .2 .begins (c .before .before .if1 .taken) (c .before .before .before .before .before .before .before .before .args .i) (c .before .before .before .before .before .before .before .before .pre .0 .1), c .before .before .before .before .before .before .before .before .pre .0 .2 .finishes (c .before .before .if1 .taken) (c .before .before .before .before .before .before .before .before .args .i) (c .before .before .before .before .before .before .before .before .pre .0 .1), c .before .before .before .before .before .before .before .before .good)
+mul-over-days c = omega (arith, stretch-at (by-day c), (start-of (others-day (by-day c))) .good)
 
 sub-over-days : tie.Need-sub-over-days
-sub-over-days c = c .before .before .before .before .before .before .before .before .pre .0 .2 .begins (c .before .before .if1 .taken) (c .before .before .before .before .before .before .before .before .args .i) (c .before .before .before .before .before .before .before .before .pre .0 .1)
+sub-over-days c = stretch-at (by-day c) .0
 
 part-over-days-start : tie.Need-part-over-days-start
-part-over-days-start c = c .before .before .before .before .before .before .before .before .pre .0 .2 .begins (c .before .before .if1 .taken) (c .before .before .before .before .before .before .before .before .args .i) (c .before .before .before .before .before .before .before .before .pre .0 .1)
+part-over-days-start c = stretch-at (by-day c) .0
 
 part-over-days-end : tie.Need-part-over-days-end
-part-over-days-end c = c .before .before .before .before .before .before .before .before .pre .0 .2 .finishes (c .before .before .if1 .taken) (c .before .before .before .before .before .before .before .before .args .i) (c .before .before .before .before .before .before .before .before .pre .0 .1)
+part-over-days-end c = stretch-at (by-day c) .1
 
 over-days-requires : tie.Need-over-days-requires
 over-days-requires c κs = search needs
 
 returns : tie.Need-returns
-returns c = λ P s. nurse-days (c .before .before .before .before .before .before .before .before .before .before .before .args .w .now) (c .before .before .before .before .before .before .before .before .before .before .before .args .rec) (c .before .before .before .before .before .before .before .before .before .before .before .args .i) (c .before .before .before .before .before .before .before .before .before .before .before .pre .0 .1) P (c .before .before .before .before .before .before .before .before .before .before .before .args .lists .now) (c .before .before .before .before .before .before .before .before .before .before .before .args .t3 .ends) _ (c .before .before .before .before .before .before .before .before .before .before .before .args .cols) _ _ (c .before .before .before .before .before .before .before .before .before .before .before .args .held) (c .before .before .before .before .before .before .before .before .before .before .before .pre .0 .0) (c .before .before .before .before .before .before .before .before .before .before .before .pre .1 .0 .is) (c .before .before .before .before .before .before .others-than .ensures .0) (c .before .before .before .before .before .before .before .before .tabu .ensures .0) (c .before .before .before .before .before .before .before .before .before .before .before .args .t3 .daily) _ (c .before .before .before .before .before .if1 .taken) s (c .before .before .before .before .before .before .before .before .before .before .before .pre .1 .1) (c .before .before .before .before .before .before .before .table .ensures .1) refl (c .over-days .ensures)
+returns c = let day = by-day (at-e c) in
+    let others = others-day day in
+    let start = start-of others in
+    λ P s. nurse-days (start .pre) (table-at others) P s (start .args .held) (day .if1 .taken) (c .over-days .ensures)
 
 masks-of-requires : tie.Need-masks-of-requires
 masks-of-requires c κs = search needs
 
 over-nights-requires : tie.Need-over-nights-requires
-over-nights-requires c κs = ((c .before .before .before .before .before .before .before .before .pre .0 .0, c .before .before .before .before .before .before .before .before .pre .0 .1, c .before .before .before .before .before .before .before .before .pre .0 .2 .common-list (c .before .before .if1 .left)), ((c .before .masks-of .ensures .1, c .before .masks-of .ensures .0), (c .before .before .before .before .table .ensures .0, omega (arith, c .before .before .before .others-than .ensures .1, c .before .before .before .before .before .before .before .before .pre .1 .0 .most), c .before .before .before .before .before .tabu .ensures .1)))
+over-nights-requires c κs = let masks = at-masks c in
+    let night = by-night masks in
+    let others = others-night night in
+    nights-need ((start-of others) .pre) (table-at others) (night .if1 .left) (masks .masks-of .ensures .1) (masks .masks-of .ensures .0)
 
 returns-2 : tie.Need-returns-2
-returns-2 c = λ P s. nurse-nights (c .before .before .before .before .before .before .before .before .before .args .w .now) (c .before .before .before .before .before .before .before .before .before .args .rec) (c .before .before .before .before .before .before .before .before .before .args .i) (c .before .before .before .before .before .before .before .before .before .pre .0 .1) P (c .before .before .before .before .before .before .before .before .before .args .lists .now) (c .before .before .before .before .before .before .before .before .before .args .t3 .ends) _ (c .before .before .before .before .before .before .before .before .before .args .cols) _ _ (c .before .before .before .before .before .before .before .before .before .args .held) (c .before .before .before .before .before .before .before .before .before .pre .0 .0) (c .before .before .before .before .before .before .before .before .before .pre .1 .0 .is) (c .before .before .before .before .others-than .ensures .0) (c .before .before .before .before .before .before .tabu .ensures .0) (c .before .before .before .before .before .before .before .before .before .args .t3 .daily) (c .before .before .before .if1 .left) s (c .before .before .before .before .before .before .before .before .before .pre .1 .1) (c .before .before .before .before .before .table .ensures .1) (c .over-nights .ensures)
+returns-2 c = let night = by-night (at-masks (c .before)) in
+    let others = others-night night in
+    let start = start-of others in
+    λ P s. nurse-nights (start .pre) (table-at others) P s (start .args .held) (night .if1 .left) (c .over-nights .ensures)
 
 pub over-nurse-spec : {M : Type 1} → statement M
 over-nurse-spec =
