@@ -15,6 +15,7 @@ use Rattle.fields.specs.Fields.{Accepted, nurses}
 use Rattle.daylists.specs.Lists.{upTo, firstOver}
 use Rattle.daylists.specs.CodeLists.{Counted}
 use Rattle.daylists.proofs.ListsLaws.{up-length, up-mono, stretch-is}
+use Rattle.history.specs.declared.Search.the-variants.{Days}
 use Rattle.history.specs.Slot.{Slot}
 use Rattle.history.specs.Phase.{Phase, Answer, refusal}
 use Rattle.refusals.specs.declared.Refusal.{Refusal}
@@ -22,6 +23,7 @@ use Rattle.refusals.specs.Refusals.{numbered, unless, first}
 use Rattle.refusals.specs.Questions as question
 use Rattle.refusals.proofs.OrderLaws.{first-none, unless-none}
 use Rattle.history.specs.Record.{Record, lacking, replyOf, proceed}
+use Rattle.history.proofs.SearchLaws.{days≢nights}
 use Rattle.removals.specs.Removals.{slot, patternOf, flagOf}
 use Rattle.search.specs.Stored.{slotAt, view, viewOf, store, refusalStored, replyStored, soundStored}
 use Rattle.search.specs.CodeSeek.{answerOf, answerWith, Lists, Seeks}
@@ -79,7 +81,7 @@ module _ (w : List ℕ) (nights : ℕ → ℕ) (r : Stored) {m : ℕ} (em : m �
 
   -- where all fit, the questions after it
   pub after-ten : (nights′ : List ℕ) → nights ≡ nightOf nights′ → m ≤ over
-      → first (lacking (dayListOver w nights) (upFrom 0 m)) (unless (soundStored (phaseOf true w nights′) r) question.record-sound 0) ≡ afterLists w nights places r
+      → first (lacking (dayListOver w nights) (upFrom 0 m)) (unless (soundStored (phaseOf Days w nights′) r) question.record-sound 0) ≡ afterLists w nights places r
   unfolding afterLists phaseOf
   after-ten nights′ e h = rw (lists-fit h, em, e)
 
@@ -200,15 +202,15 @@ module _ (w : List ℕ) (nights : ℕ → ℕ) where
     begin-is : (i : ℕ) → i ≤ nurses w → getD ends i 0 ≡ length (upTo (dayListOver w nights) i)
     begin-is i h = c .ends-are i (omega arith)
 
-    pub day-lists : Lists true w lists ends
+    pub day-lists : Lists Days w lists ends
     day-lists = record {
-      common-list = λ q. absurd (true≢false q);
+      common-list = λ q. absurd (days≢nights q);
       begins = λ q i h. rw (begin-is i (omega arith), begin-is (i + 1) (omega arith)) (up-mono (dayListOver w nights) i (i + 1) (omega arith));
       finishes = λ q i h. rw (begin-is (i + 1) (omega arith), e)
           (omega (arith, up-mono (dayListOver w nights) (i + 1) (nurses w) (omega arith), length-append (upTo (dayListOver w nights) (nurses w)) rest));
     }
 
-    pub day-seeks : Seeks true w lists ends (dayPhase w nights)
+    pub day-seeks : Seeks Days w lists ends (dayPhase w nights)
     unfolding dayPhase
     day-seeks = record {
       nurses-are = refl;

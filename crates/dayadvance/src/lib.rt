@@ -1,5 +1,6 @@
 // The day advance on a ward that was read.
 use daylists::lists::Ends;
+use history::Search;
 use letters::written::Roster;
 use phases::opening;
 use phases::outcomes;
@@ -10,7 +11,7 @@ use refusals::question;
 use search::Advanced;
 use search::Ending;
 use search::Record;
-use search::tries::Plan;
+use search::tries::Stretches;
 ghost use mathlib.Core.Path.{_≡_};
 ghost use mathlib.Core.List.{List};
 ghost use mathlib.Core.Option.{none};
@@ -84,7 +85,7 @@ fn next_no(rec: Record, w: &[u64], nights: &[u32; 48], counted: Ends) -> Answer
     let ends = counted.ends;
     match days_lacking(ends, m) {
         Answer::No(n) => Answer::No(n),
-        Answer::Yes => questions::record_asked(w, nights, true, rec),
+        Answer::Yes => questions::record_asked(w, nights, Search::Days, rec),
     }
 }
 
@@ -106,8 +107,11 @@ fn with_lists(
         Answer::Yes => {
             let len = daylists::lists::lists_fill(w, nights, buffer);
             let ends = counted.ends;
-            let plan = Plan { daily: true, ends };
-            let x = rec.advance(w, &buffer[..len], plan, k);
+            let stretches = Stretches {
+                search: Search::Days,
+                ends,
+            };
+            let x = rec.advance(w, &buffer[..len], stretches, k);
             let roster = roster_given(w, nights, x);
             outcomes::finished(x, roster)
         }

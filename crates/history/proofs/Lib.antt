@@ -10,3 +10,4 @@ pub mod TurnLaws
 pub mod WithoutLaws
 pub mod FirstLaws
 pub mod Unique
+pub mod SearchLaws

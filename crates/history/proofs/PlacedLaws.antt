@@ -19,9 +19,9 @@ use Rattle.history.specs.Claim.{Allowed, Least}
 use Rattle.history.proofs.Lawful.{Lawful, unplaced}
 use Rattle.history.proofs.FollowLaws.{Grown, start, more}
 
--- how many of the first n slots are empty
-abbrev waiting : (ℕ → Slot) → ℕ → ℕ
-waiting slots n = countTo n (λ i. isNone (slots i))
+-- how many of the first n nurses are unplaced
+abbrev unplacedTo : (ℕ → Slot) → ℕ → ℕ
+unplacedTo slots n = countTo n (λ i. isNone (slots i))
 
 -- a nurse who is not placed
 record Missing (slots : ℕ → Slot) (n : ℕ) : Type 0 where
@@ -29,25 +29,25 @@ record Missing (slots : ℕ → Slot) (n : ℕ) : Type 0 where
   within : at < n
   missing : slots at ≡ none
 
-find-step : (slots : ℕ → Slot) (n : ℕ) → (0 < waiting slots n → Missing slots n) → 0 < waiting slots n + oneIf (isNone (slots n)) → (s : Slot) → slots n ≡ s → Missing slots (suc n)
+find-step : (slots : ℕ → Slot) (n : ℕ) → (0 < unplacedTo slots n → Missing slots n) → 0 < unplacedTo slots n + oneIf (isNone (slots n)) → (s : Slot) → slots n ≡ s → Missing slots (suc n)
 find-step slots n f h none e = record { at = n; within = omega arith; missing = e }
 find-step slots n f h (some p) e =
     let z : oneIf (isNone (slots n)) ≡ 0 = rw e in
     let m = f (omega arith) in
     record { at = m .at; within = omega (arith, m .within); missing = m .missing }
 
-find : (slots : ℕ → Slot) (n : ℕ) → 0 < waiting slots n → Missing slots n
+find : (slots : ℕ → Slot) (n : ℕ) → 0 < unplacedTo slots n → Missing slots n
 unfolding sumTo
 find slots zero h = absurd (not-suc-le-zero h)
 find slots (suc n) h = find-step slots n (find slots n) h (slots n) refl
 
-none-waiting : (slots : ℕ → Slot) (n i : ℕ) → waiting slots n ≤ 0 → i < n → slots i ≢ none
+none-unplaced : (slots : ℕ → Slot) (n i : ℕ) → unplacedTo slots n ≤ 0 → i < n → slots i ≢ none
 unfolding sumTo
-none-waiting slots zero i u h e = not-suc-le-zero h
-none-waiting slots (suc n) i u h e =
+none-unplaced slots zero i u h e = not-suc-le-zero h
+none-unplaced slots (suc n) i u h e =
     ⊎-elim
     (λ q. let z : oneIf (isNone (slots n)) ≡ 1 = rw (← q, e) in let y : ⊥ = omega arith in y)
-    (λ l. none-waiting slots n i (omega arith) l e)
+    (λ l. none-unplaced slots n i (omega arith) l e)
     (eq-or-lt-of-le (le-of-suc-le-suc h))
 
 -- to place a nurse leaves no more unplaced, and one less if she was not placed
@@ -56,19 +56,19 @@ module _ (slots : ℕ → Slot) (s : Step) where
   at-most i true = omega arith
   at-most i false = omega arith
 
-  exchange-fewer : (n : ℕ) → waiting (exchanged slots s) n ≤ waiting slots n
+  exchange-fewer : (n : ℕ) → unplacedTo (exchanged slots s) n ≤ unplacedTo slots n
   unfolding sumTo
   exchange-fewer zero = omega arith
   exchange-fewer (suc n) = omega (arith, exchange-fewer n, at-most n (eqb n (s .nurse)))
 
-  exchange-past : (n : ℕ) → n ≤ s .nurse → waiting (exchanged slots s) n ≡ waiting slots n
+  exchange-past : (n : ℕ) → n ≤ s .nurse → unplacedTo (exchanged slots s) n ≡ unplacedTo slots n
   unfolding sumTo
   exchange-past zero l = refl
   exchange-past (suc n) l =
       let d : n ≢ s .nurse = λ e. let z : ⊥ = omega arith in z in
       rw (exchange-past n (omega arith), ne-eqb n (s .nurse) d)
 
-  exchange-places : (n : ℕ) → s .nurse < n → slots (s .nurse) ≡ none → suc (waiting (exchanged slots s) n) ≡ waiting slots n
+  exchange-places : (n : ℕ) → s .nurse < n → slots (s .nurse) ≡ none → suc (unplacedTo (exchanged slots s) n) ≡ unplacedTo slots n
   unfolding sumTo
   exchange-places zero l e = absurd (not-suc-le-zero l)
   exchange-places (suc n) l e =
@@ -137,4 +137,4 @@ module _ (P : Phase) (w : Lawful P) where
   fewer-left (more {s = s} {h = h} g _ f) = omega (arith, fewer-left g, fewer f)
 
   pub all-placed : {h : History} → Grown P h → P .nurses ≤ length h → (i : ℕ) → i < P .nurses → inUse h i ≢ none
-  all-placed {h} g m i l = none-waiting (inUse h) (P .nurses) i (omega (arith, fewer-left g)) l
+  all-placed {h} g m i l = none-unplaced (inUse h) (P .nurses) i (omega (arith, fewer-left g)) l

@@ -1,6 +1,6 @@
 -- Laws of the night advance: its questions in order, its list in the buffer, and what it hands back.
 use Prim.Native.Nat.{ℕ, _+_, _≤_, min}
-use mathlib.Core.Bool.{Bool, true, false, _&&_, false≢true}
+use mathlib.Core.Bool.{Bool, true, false, _&&_}
 use mathlib.Core.Path.{_≡_, refl, sym}
 use mathlib.Core.List.{List, []}
 use mathlib.Core.Option.{Option, none}
@@ -18,7 +18,9 @@ use Rattle.fields.specs.Fields.{nurses}
 use Rattle.nights.specs.Nights.{commonOf}
 use Rattle.nights.specs.Hers.{nightList}
 use Rattle.nights.proofs.ListLaws.{list-of-common}
+use Rattle.history.specs.declared.Search.the-variants.{Nights}
 use Rattle.history.specs.Phase.{refusal}
+use Rattle.history.proofs.SearchLaws.{nights≢days}
 use Rattle.history.specs.Record.{lacking}
 use Rattle.search.specs.declared.Record.{Record as Stored}
 use Rattle.search.specs.declared.Advanced.{Advanced}
@@ -51,7 +53,7 @@ module _ (w : List ℕ) (r : Stored) (k places : ℕ) where
   asksPatterns = lacking (nightList w) (upFrom 0 (nurses w))
 
   abbrev asksRecord : List ℕ → Option Refusal
-  asksRecord nights = unless (soundStored (phaseOf false w nights) r) question.record-sound 0
+  asksRecord nights = unless (soundStored (phaseOf Nights w nights) r) question.record-sound 0
 
   pub in-order : (nights : List ℕ)
       → first asksSteps (first (commonFits w places) (first asksPatterns (asksRecord nights))) ≡ refusalStored (nightPhase w) (callOf k places) r
@@ -90,10 +92,10 @@ night-letters w x = no-letters w (x .after) (x .steps) (x .penalty) (x .ending)
 
 -- the common list in the buffer, as the search over it needs it
 module _ (w ends : List ℕ) {lists : List ℕ} (e : lists ≡ commonOf w) where
-  pub night-lists : Lists false w lists ends
-  night-lists = record { common-list = λ q. e; begins = λ q. absurd (false≢true q); finishes = λ q. absurd (false≢true q) }
+  pub night-lists : Lists Nights w lists ends
+  night-lists = record { common-list = λ q. e; begins = λ q. absurd (nights≢days q); finishes = λ q. absurd (nights≢days q) }
 
-  pub night-seeks : Seeks false w lists ends (nightPhase w)
+  pub night-seeks : Seeks Nights w lists ends (nightPhase w)
   unfolding nightPhase
   night-seeks = record {
     nurses-are = refl;

@@ -1,11 +1,12 @@
 // The night advance on a ward that was read.
+use history::Search;
 use phases::outcomes;
 use phases::outcomes::Advance;
 use phases::questions;
 use refusals::Answer;
 use refusals::question;
 use search::Record;
-use search::tries::Plan;
+use search::tries::Stretches;
 ghost use mathlib.Core.Path.{_≡_};
 ghost use Prim.Native.Nat.{_<_};
 ghost use lib.ListN.{length};
@@ -38,7 +39,7 @@ fn first_no(rec: Record, w: &[u64], k: u32, places: usize) -> Answer
                 Answer::No(n) => Answer::No(n),
                 Answer::Yes => {
                     let none = [0u32; 48];
-                    questions::record_asked(w, &none, false, rec)
+                    questions::record_asked(w, &none, Search::Nights, rec)
                 }
             },
         },
@@ -55,11 +56,11 @@ pub fn advance_on(rec: Record, w: &[u64], k: u32, buffer: &mut [u32]) -> Advance
         Answer::No(n) => outcomes::refuse(rec, n),
         Answer::Yes => {
             let len = nightlists::common::fill(w, buffer);
-            let plan = Plan {
-                daily: false,
+            let stretches = Stretches {
+                search: Search::Nights,
                 ends: [0; 49],
             };
-            let x = rec.advance(w, &buffer[..len], plan, k);
+            let x = rec.advance(w, &buffer[..len], stretches, k);
             outcomes::finished(x, outcomes::no_roster())
         }
     }

@@ -1,6 +1,6 @@
 -- What is counted on columns is what the ward says: sums over 64 places are counts over the nurses.
 use mathlib.Core.Path.{_≡_, refl, sym, ap, ap₂, _∙_, subst}
-use mathlib.Core.Bool.{Bool, true, false}
+use mathlib.Core.Bool.{Bool}
 use mathlib.Core.List.{List}
 use Prim.Native.Nat.{ℕ, _+_, _-_, _*_, _≤_, _<_}
 use native.Mathlib.Nat.{zero-mul, zero-add}
@@ -14,6 +14,8 @@ use Rattle.penalty.specs.declared.columns.Columns.{Columns}
 use Rattle.penalty.specs.declared.duty.Weights.{Weights}
 use Rattle.penalty.specs.declared.duty.Duty.{Duty}
 use Rattle.penalty.specs.declared.Penalty.{Penalty}
+use Rattle.history.specs.declared.Search.{Search}
+use Rattle.history.specs.declared.Search.the-variants.{Nights, Days}
 use Rattle.history.specs.Slot.{Slot}
 use Rattle.penalty.specs.Penalty.{partsOf, onDuty, members, shortOn, overOn, unplacedIn, nightParts, dayParts, partsIn}
 use Rattle.penalty.specs.CodeCounts.{Bounded, weightsOf, noHigh, Counts, membersIn, needTerm, lowTerm, highTerm, groupTerm, dutyShort, dutyOver, dutyCost, shortIn, overIn, DayCounts, shortAt, overAt}
@@ -63,29 +65,29 @@ duty-of w k d column e m q h = record {
 }
 
 pub night-of : (w : List ℕ) (d night day : ℕ) {a b r : Duty} → Counts a (shortIn w 0 d (has night)) 81600 (overIn w 0 d (has night)) 104000
-    → Counts b (shortIn w 1 d (has day)) 81600 (overIn w 1 d (has day)) 104000 → r .short ≡ a .short + b .short → r .over ≡ a .over → DayCounts false w d night day r
+    → Counts b (shortIn w 1 d (has day)) 81600 (overIn w 1 d (has day)) 104000 → r .short ≡ a .short + b .short → r .over ≡ a .over → DayCounts Nights w d night day r
 night-of w d night day x y e q = record {
   short-is = record { is = e ∙ ap₂ (λ (m n : ℕ). m + n) (x .short-is .is) (y .short-is .is); most = omega (arith, x .short-is .most, y .short-is .most, e) };
   over-is = record { is = q ∙ x .over-is .is; most = omega (arith, x .over-is .most, q) };
 }
 
-pub worked-of : (w : List ℕ) (d day : ℕ) {r : Duty} → Counts r (shortIn w 1 d (has day)) 81600 (overIn w 1 d (has day)) 104000 → (night : ℕ) → DayCounts true w d night day r
+pub worked-of : (w : List ℕ) (d day : ℕ) {r : Duty} → Counts r (shortIn w 1 d (has day)) 81600 (overIn w 1 d (has day)) 104000 → (night : ℕ) → DayCounts Days w d night day r
 worked-of w d day h night = record { short-is = record { is = h .short-is .is; most = omega (arith, h .short-is .most) }; over-is = h .over-is }
 
--- in the search that the flag says
-pub counts-as : (daily b : Bool) (w : List ℕ) (d night day : ℕ) {r : Duty} → daily ≡ b → DayCounts b w d night day r → DayCounts daily w d night day r
-counts-as daily b w d night day {r} e h = subst (λ (x : Bool). DayCounts x w d night day r) (sym e) h
+-- in the search that was told
+pub counts-as : (which b : Search) (w : List ℕ) (d night day : ℕ) {r : Duty} → which ≡ b → DayCounts b w d night day r → DayCounts which w d night day r
+counts-as which b w d night day {r} e h = subst (λ (x : Search). DayCounts x w d night day r) (sym e) h
 
 -- ---- the month: the loop over the days
 
-pub record MonthSums (daily : Bool) (w nights worked : List ℕ) (n d unplaced : ℕ) (p : Penalty) : Type 0 where
+pub record MonthSums (which : Search) (w nights worked : List ℕ) (n d unplaced : ℕ) (p : Penalty) : Type 0 where
   pub inside : d ≤ n
-  pub short-sum : Is (p .short) (0 + sumTo d (shortAt daily w nights worked)) (0 + 163200 * d)
-  pub over-sum : Is (p .over) (0 + sumTo d (overAt daily w nights worked)) (0 + 104000 * d)
+  pub short-sum : Is (p .short) (0 + sumTo d (shortAt which w nights worked)) (0 + 163200 * d)
+  pub over-sum : Is (p .over) (0 + sumTo d (overAt which w nights worked)) (0 + 104000 * d)
   pub unplaced-is : p .unplaced ≡ unplaced
 
-module _ (daily : Bool) (w nights worked : List ℕ) (n u : ℕ) where
-  pub month-start : {p : Penalty} → p .short ≡ 0 → p .over ≡ 0 → p .unplaced ≡ u → MonthSums daily w nights worked n 0 u p
+module _ (which : Search) (w nights worked : List ℕ) (n u : ℕ) where
+  pub month-start : {p : Penalty} → p .short ≡ 0 → p .over ≡ 0 → p .unplaced ≡ u → MonthSums which w nights worked n 0 u p
   month-start e q h = record {
     inside = omega arith;
     short-sum = loop-start 0 0 _ (record { is = e; most = omega arith });
@@ -93,18 +95,18 @@ module _ (daily : Bool) (w nights worked : List ℕ) (n u : ℕ) where
     unplaced-is = h;
   }
 
-  pub month-turn : {d : ℕ} {p : Penalty} {t : Duty} → MonthSums daily w nights worked n d u p → d < n
-      → DayCounts daily w d (getD nights d 0) (getD worked d 0) t
-      → MonthSums daily w nights worked n (d + 1) u (record { short = p .short + t .short; over = p .over + t .over; unplaced = p .unplaced })
+  pub month-turn : {d : ℕ} {p : Penalty} {t : Duty} → MonthSums which w nights worked n d u p → d < n
+      → DayCounts which w d (getD nights d 0) (getD worked d 0) t
+      → MonthSums which w nights worked n (d + 1) u (record { short = p .short + t .short; over = p .over + t .over; unplaced = p .unplaced })
   unfolding shortAt overAt
   month-turn h l c = record {
     inside = omega arith;
-    short-sum = loop-turn 0 0 163200 (shortAt daily w nights worked) _ (h .short-sum) (c .short-is);
-    over-sum = loop-turn 0 0 104000 (overAt daily w nights worked) _ (h .over-sum) (c .over-is);
+    short-sum = loop-turn 0 0 163200 (shortAt which w nights worked) _ (h .short-sum) (c .short-is);
+    over-sum = loop-turn 0 0 104000 (overAt which w nights worked) _ (h .over-sum) (c .over-is);
     unplaced-is = h .unplaced-is;
   }
 
-  pub month-bounded : {d : ℕ} {p : Penalty} → MonthSums daily w nights worked n d u p → n ≤ 31 → u ≤ 48 → Bounded p
+  pub month-bounded : {d : ℕ} {p : Penalty} → MonthSums which w nights worked n d u p → n ≤ 31 → u ≤ 48 → Bounded p
   month-bounded h l m = record {
     short-most = omega (arith, h .short-sum .most, h .inside);
     over-most = omega (arith, h .over-sum .most, h .inside);
@@ -113,26 +115,26 @@ module _ (daily : Bool) (w nights worked : List ℕ) (n u : ℕ) where
 
 -- the sums over columns that show the slots are the ward's
 module _ (w : List ℕ) (cols : Columns) (a : Accepted w) (slots : ℕ → Slot) where
-  shorts-are : (daily : Bool) → Shows daily w slots cols → sumTo (days w) (shortAt daily w (cols .night) (cols .day)) ≡ partsIn daily w slots .short
+  shorts-are : (which : Search) → Shows which w slots cols → sumTo (days w) (shortAt which w (cols .night) (cols .day)) ≡ partsIn which w slots .short
   unfolding shortAt nightParts dayParts
-  shorts-are false g = sum-ext (days w) _ _ (λ d l. ap₂ (λ (x y : ℕ). x + y) (short-same w a 0 d _ _ (g .night-shown d l)) (short-same w a 1 d _ _ (g .free-shown d l)))
-  shorts-are true g = sum-ext (days w) _ _ (λ d l. short-same w a 1 d _ _ (g .day-shown d l))
+  shorts-are Nights g = sum-ext (days w) _ _ (λ d l. ap₂ (λ (x y : ℕ). x + y) (short-same w a 0 d _ _ (g .night-shown d l)) (short-same w a 1 d _ _ (g .free-shown d l)))
+  shorts-are Days g = sum-ext (days w) _ _ (λ d l. short-same w a 1 d _ _ (g .day-shown d l))
 
-  overs-are : (daily : Bool) → Shows daily w slots cols → sumTo (days w) (overAt daily w (cols .night) (cols .day)) ≡ partsIn daily w slots .over
+  overs-are : (which : Search) → Shows which w slots cols → sumTo (days w) (overAt which w (cols .night) (cols .day)) ≡ partsIn which w slots .over
   unfolding overAt nightParts dayParts
-  overs-are false g = sum-ext (days w) _ _ (λ d l. over-same w a 0 d _ _ (g .night-shown d l))
-  overs-are true g = sum-ext (days w) _ _ (λ d l. over-same w a 1 d _ _ (g .day-shown d l))
+  overs-are Nights g = sum-ext (days w) _ _ (λ d l. over-same w a 0 d _ _ (g .night-shown d l))
+  overs-are Days g = sum-ext (days w) _ _ (λ d l. over-same w a 1 d _ _ (g .day-shown d l))
 
-  unplaced-are : (daily : Bool) → unplacedIn w slots ≡ partsIn daily w slots .unplaced
+  unplaced-are : (which : Search) → unplacedIn w slots ≡ partsIn which w slots .unplaced
   unfolding nightParts dayParts
-  unplaced-are false = refl
-  unplaced-are true = refl
+  unplaced-are Nights = refl
+  unplaced-are Days = refl
 
-  pub month-is : (daily : Bool) {n d u : ℕ} {p : Penalty} → MonthSums daily w (cols .night) (cols .day) n d u p → n ≤ d → n ≡ days w
-      → Shows daily w slots cols → u ≡ unplacedIn w slots → partsOf p ≡ partsIn daily w slots
-  month-is daily {n} {d} h l e g q =
+  pub month-is : (which : Search) {n d u : ℕ} {p : Penalty} → MonthSums which w (cols .night) (cols .day) n d u p → n ≤ d → n ≡ days w
+      → Shows which w slots cols → u ≡ unplacedIn w slots → partsOf p ≡ partsIn which w slots
+  month-is which {n} {d} h l e g q =
       let m : d ≡ days w = omega (arith, h .inside) in
-      let x = h .short-sum .is ∙ zero-add _ ∙ ap (λ (k : ℕ). sumTo k (shortAt daily w (cols .night) (cols .day))) m ∙ shorts-are daily g in
-      let y = h .over-sum .is ∙ zero-add _ ∙ ap (λ (k : ℕ). sumTo k (overAt daily w (cols .night) (cols .day))) m ∙ overs-are daily g in
-      let z = h .unplaced-is ∙ q ∙ unplaced-are daily in
+      let x = h .short-sum .is ∙ zero-add _ ∙ ap (λ (k : ℕ). sumTo k (shortAt which w (cols .night) (cols .day))) m ∙ shorts-are which g in
+      let y = h .over-sum .is ∙ zero-add _ ∙ ap (λ (k : ℕ). sumTo k (overAt which w (cols .night) (cols .day))) m ∙ overs-are which g in
+      let z = h .unplaced-is ∙ q ∙ unplaced-are which in
       λ j. record { short = x j; over = y j; unplaced = z j }

@@ -1,6 +1,6 @@
 -- A day's column: nurse i as bit i, from 0. The columns show a choice of slots when each bit says whether the nurse counts.
 use mathlib.Core.Path.{_≡_}
-use mathlib.Core.Bool.{Bool, true, false}
+use mathlib.Core.Bool.{Bool, false}
 use mathlib.Core.List.{List}
 use Prim.Native.Nat.{ℕ, suc, _≤_, _<_}
 use lib.ListN.{getD}
@@ -8,6 +8,8 @@ use Rattle.numbers.specs.Digits.{has, put}
 use Rattle.fields.specs.Fields.{nurses, days, block}
 use Rattle.rows.specs.Rows.{availableOn}
 use Rattle.penalty.specs.declared.columns.Columns.{Columns}
+use Rattle.history.specs.declared.Search.{Search}
+use Rattle.history.specs.declared.Search.the-variants.{Nights, Days}
 use Rattle.history.specs.Slot.{Slot}
 use Rattle.penalty.specs.Penalty.{atNight, free, atDay}
 
@@ -25,14 +27,14 @@ pub record ShownNight (w : List ℕ) (slots : ℕ → Slot) (m : ℕ) (c : Colum
 pub record ShownDay (w : List ℕ) (slots : ℕ → Slot) (m : ℕ) (c : Columns) : Type 0 where
   pub day-shown : (d : ℕ) → d < days w → Same m (has (getD (c .day) d 0)) (atDay w slots d)
 
--- by night (false) or by day (true)
-abbrev pub Shown : Bool → List ℕ → (ℕ → Slot) → ℕ → Columns → Type 0
-Shown false w slots m c = ShownNight w slots m c
-Shown true w slots m c = ShownDay w slots m c
+-- by night or by day
+abbrev pub Shown : Search → List ℕ → (ℕ → Slot) → ℕ → Columns → Type 0
+Shown Nights w slots m c = ShownNight w slots m c
+Shown Days w slots m c = ShownDay w slots m c
 
 -- all nurses
-abbrev pub Shows : Bool → List ℕ → (ℕ → Slot) → Columns → Type 0
-Shows daily w slots c = Shown daily w slots (nurses w) c
+abbrev pub Shows : Search → List ℕ → (ℕ → Slot) → Columns → Type 0
+Shows which w slots c = Shown which w slots (nurses w) c
 
 -- nobody on any day
 pub record Empty (c : Columns) : Type 0 where

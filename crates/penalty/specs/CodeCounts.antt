@@ -1,9 +1,11 @@
 -- What the code counts on columns: sums over 64 places, whoever stands there. f says which bits of the column are set.
 use mathlib.Core.Path.{_≡_}
-use mathlib.Core.Bool.{Bool, true, false, _&&_}
+use mathlib.Core.Bool.{Bool, _&&_}
 use mathlib.Core.List.{List}
 use Prim.Native.Nat.{ℕ, _+_, _-_, _*_, _≤_}
 use lib.ListN.{length, getD}
+use Rattle.history.specs.declared.Search.{Search}
+use Rattle.history.specs.declared.Search.the-variants.{Nights, Days}
 use Rattle.numbers.specs.Sum.{sumTo, countTo, Is}
 use Rattle.numbers.specs.Digits.{has}
 use Rattle.fields.specs.Fields.{weight, masks, needs, need, low, high}
@@ -70,23 +72,23 @@ shortIn w k d f = dutyShort (weightsOf w k) (masks w) (needs w d) k f
 abbrev pub overIn : List ℕ → ℕ → ℕ → (ℕ → Bool) → ℕ
 overIn w k d f = dutyOver (weightsOf w k) (masks w) (needs w d) k f
 
--- one day on its two columns, by night (false) or by day (true)
-abbrev pub shortWith : Bool → List ℕ → ℕ → ℕ → ℕ → ℕ
-shortWith false w d night day = shortIn w 0 d (has night) + shortIn w 1 d (has day)
-shortWith true w d night day = shortIn w 1 d (has day)
+-- one day on its two columns, by night or by day
+abbrev pub shortWith : Search → List ℕ → ℕ → ℕ → ℕ → ℕ
+shortWith Nights w d night day = shortIn w 0 d (has night) + shortIn w 1 d (has day)
+shortWith Days w d night day = shortIn w 1 d (has day)
 
-abbrev pub overWith : Bool → List ℕ → ℕ → ℕ → ℕ → ℕ
-overWith false w d night day = overIn w 0 d (has night)
-overWith true w d night day = overIn w 1 d (has day)
+abbrev pub overWith : Search → List ℕ → ℕ → ℕ → ℕ → ℕ
+overWith Nights w d night day = overIn w 0 d (has night)
+overWith Days w d night day = overIn w 1 d (has day)
 
-abbrev pub DayCounts : Bool → List ℕ → ℕ → ℕ → ℕ → Duty → Type 0
-DayCounts daily w d night day r = Counts r (shortWith daily w d night day) 163200 (overWith daily w d night day) 104000
+abbrev pub DayCounts : Search → List ℕ → ℕ → ℕ → ℕ → Duty → Type 0
+DayCounts which w d night day r = Counts r (shortWith which w d night day) 163200 (overWith which w d night day) 104000
 
-unfoldable pub shortAt : Bool → List ℕ → List ℕ → List ℕ → ℕ → ℕ
-shortAt daily w night day d = shortWith daily w d (getD night d 0) (getD day d 0)
+unfoldable pub shortAt : Search → List ℕ → List ℕ → List ℕ → ℕ → ℕ
+shortAt which w night day d = shortWith which w d (getD night d 0) (getD day d 0)
 
-unfoldable pub overAt : Bool → List ℕ → List ℕ → List ℕ → ℕ → ℕ
-overAt daily w night day d = overWith daily w d (getD night d 0) (getD day d 0)
+unfoldable pub overAt : Search → List ℕ → List ℕ → List ℕ → ℕ → ℕ
+overAt which w night day d = overWith which w d (getD night d 0) (getD day d 0)
 
 -- a penalty's bounds, from which its total fits
 pub record Bounded (p : Penalty) : Type 0 where

@@ -1,6 +1,6 @@
 -- The penalty: what is short of the needs and lows, what is above the highs, and the nurses not yet placed.
 -- Nurses, groups and days count from 0 here; k is 0 for night and 1 for day.
-use mathlib.Core.Bool.{Bool, true, false, cond, _&&_}
+use mathlib.Core.Bool.{Bool, cond, _&&_}
 use mathlib.Core.List.{List}
 use mathlib.Core.Option.{none, some}
 use Prim.Native.Nat.{ℕ, suc, _+_, _-_, _*_}
@@ -8,6 +8,8 @@ use lib.Dec.{eqb}
 use lib.ListN.{getD}
 use Rattle.numbers.specs.Sum.{sumTo, countTo}
 use Rattle.numbers.specs.Digits.{has, numberOf}
+use Rattle.history.specs.declared.Search.{Search}
+use Rattle.history.specs.declared.Search.the-variants.{Nights, Days}
 use Rattle.history.specs.Slot.{Slot, isNone, unplacedCost}
 use Rattle.fields.specs.Fields.{nurses, days, groups, weight, block, masks, needs, need, low, high}
 use Rattle.rows.specs.Rows.{availableOn, fixedNight, fixedDay}
@@ -100,8 +102,8 @@ dayParts w slots = record {
 unfoldable pub dayPenalty : List ℕ → (ℕ → Slot) → ℕ
 dayPenalty w slots = total (dayParts w slots)
 
--- ---- either search: by night (false) or by day (true)
+-- ---- either search: by night or by day
 
-abbrev pub partsIn : Bool → List ℕ → (ℕ → Slot) → Parts
-partsIn false w slots = nightParts w slots
-partsIn true w slots = dayParts w slots
+abbrev pub partsIn : Search → List ℕ → (ℕ → Slot) → Parts
+partsIn Nights w slots = nightParts w slots
+partsIn Days w slots = dayParts w slots

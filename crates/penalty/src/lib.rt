@@ -5,10 +5,11 @@ pub mod weights;
 
 use columns::Columns;
 use duty::Duty;
+use history::Search;
 ghost use mathlib.Core.Path.{_≡_};
-ghost use mathlib.Core.Bool.{true, false};
 ghost use Prim.Native.Nat.{ℕ, _<_, _≤_};
 ghost use Rattle.fields.specs.Fields.{Accepted, days};
+ghost use Rattle.history.specs.declared.Search.the-variants.{Nights, Days};
 ghost use Rattle.history.specs.Slot.{Slot};
 ghost use Rattle.penalty.specs.Penalty.{partsOf, total, unplacedIn, partsIn};
 ghost use Rattle.penalty.specs.CodeCounts.{Bounded};
@@ -47,7 +48,7 @@ impl Penalty {
 // One day in the night search: nights on N days, day need and lows on available nurses, day highs ignored.
 fn night_day(w: &[u64], d: usize, night: u64, day: u64) -> Duty
     requires { ⌜ Accepted (now w) × (d < days (now w)) ⌝ }
-    ensures { λ r. ⌜ DayCounts false (now (w .entry)) d night day r ⌝ }
+    ensures { λ r. ⌜ DayCounts Nights (now (w .entry)) d night day r ⌝ }
 {
     let masks = fields::masks(w);
     let row = fields::needs(w, d);
@@ -62,7 +63,7 @@ fn night_day(w: &[u64], d: usize, night: u64, day: u64) -> Duty
 // One day in the day search: the night terms are zero.
 fn day_day(w: &[u64], d: usize, day: u64) -> Duty
     requires { ⌜ Accepted (now w) × (d < days (now w)) ⌝ }
-    ensures { λ r. ⌜ ((night : ℕ) → DayCounts true (now (w .entry)) d night day r) ⌝ }
+    ensures { λ r. ⌜ ((night : ℕ) → DayCounts Days (now (w .entry)) d night day r) ⌝ }
 {
     duty::on_column(
         weights::weights(w, 1),
@@ -74,28 +75,28 @@ fn day_day(w: &[u64], d: usize, day: u64) -> Duty
 }
 
 // One day in either search.
-fn on_day(w: &[u64], d: usize, night: u64, day: u64, daily: bool) -> Duty
+fn on_day(w: &[u64], d: usize, night: u64, day: u64, search: Search) -> Duty
     requires { ⌜ Accepted (now w) × (d < days (now w)) ⌝ }
-    ensures { λ r. ⌜ DayCounts daily (now (w .entry)) d night day r ⌝ }
+    ensures { λ r. ⌜ DayCounts search (now (w .entry)) d night day r ⌝ }
 {
-    if daily {
-        return day_day(w, d, day);
+    match search {
+        Search::Nights => night_day(w, d, night, day),
+        Search::Days => day_day(w, d, day),
     }
-    night_day(w, d, night, day)
 }
 
 // The penalty of columns, by night or by day.
-pub fn parts(w: &[u64], cols: Columns, unplaced: u64, daily: bool) -> Penalty
+pub fn parts(w: &[u64], cols: Columns, unplaced: u64, search: Search) -> Penalty
     requires { ⌜ Accepted (now w) × (unplaced ≤ 48) ⌝ }
     ensures bounded { λ r. ⌜ Bounded r ⌝ }
-    ensures parts { λ r. ⌜ ((slots : ℕ → Slot) → Shows daily (now (w .entry)) slots cols → unplaced ≡ unplacedIn (now (w .entry)) slots →
-        partsOf r ≡ partsIn daily (now (w .entry)) slots) ⌝ }
+    ensures parts { λ r. ⌜ ((slots : ℕ → Slot) → Shows search (now (w .entry)) slots cols → unplaced ≡ unplacedIn (now (w .entry)) slots →
+        partsOf r ≡ partsIn search (now (w .entry)) slots) ⌝ }
 {
     let mut sum = Penalty::fresh();
     sum.unplaced = unplaced;
     let n = fields::days(w);
     for d in 0..n {
-        let t = on_day(w, d, cols.night[d], cols.day[d], daily);
+        let t = on_day(w, d, cols.night[d], cols.day[d], search);
         sum.short = sum.short + t.short;
         sum.over = sum.over + t.over;
     }

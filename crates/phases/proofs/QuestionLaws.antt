@@ -19,6 +19,8 @@ use Rattle.days.specs.Days.{dayRuleOf, dayList}
 use Rattle.days.proofs.SheetLaws.{rule-below}
 use Rattle.refusals.specs.Refusals.{numbered}
 use Rattle.refusals.specs.Questions as question
+use Rattle.history.specs.declared.Search.{Search}
+use Rattle.history.specs.declared.Search.the-variants.{Nights, Days}
 use Rattle.history.specs.Slot.{Slot}
 use Rattle.history.specs.Phase.{Phase}
 use Rattle.refusals.specs.declared.Refusal.{Refusal}
@@ -61,18 +63,18 @@ among-keep t n p f = go (t p) refl
     go false e = among-not t p e (upFrom 0 n) ∙ sym e
 
 module _ (w nights : List ℕ) (i p : ℕ) where
-  pub own-by-night : hersOf w i p ≡ among (phaseOf false w nights .patterns i) p
+  pub own-by-night : hersOf w i p ≡ among (phaseOf Nights w nights .patterns i) p
   unfolding phaseOf nightPhase nightList
   own-by-night = sym (among-keep (hersOf w i) (2 ^ days w) p (hers-below w i p))
 
-  pub own-by-day : dayRuleOf w i (getD nights i 0) p ≡ among (phaseOf true w nights .patterns i) p
+  pub own-by-day : dayRuleOf w i (getD nights i 0) p ≡ among (phaseOf Days w nights .patterns i) p
   unfolding phaseOf dayPhase dayList
   own-by-day = sym (among-keep (dayRuleOf w i (getD nights i 0)) (2 ^ days w) p (rule-below w i (getD nights i 0) p))
 
-  pub own-night : {daily r : Bool} → daily ≡ false → r ≡ hersOf w i p → r ≡ among (phaseOf daily w nights .patterns i) p
+  pub own-night : {which : Search} {r : Bool} → which ≡ Nights → r ≡ hersOf w i p → r ≡ among (phaseOf which w nights .patterns i) p
   own-night e h = rw e (h ∙ own-by-night)
 
-  pub own-day : {daily r : Bool} → daily ≡ true → r ≡ dayRuleOf w i (getD nights i 0) p → r ≡ among (phaseOf daily w nights .patterns i) p
+  pub own-day : {which : Search} {r : Bool} → which ≡ Days → r ≡ dayRuleOf w i (getD nights i 0) p → r ≡ among (phaseOf which w nights .patterns i) p
   own-day e h = rw e (h ∙ own-by-day)
 
 pub slot-placed : (P : Phase) (i p : ℕ) {placed r : Bool} → placed ≡ true → r ≡ among (P .patterns i) p → r ≡ hers P i (slot placed p)
@@ -81,28 +83,28 @@ slot-placed P i p e h = rw e h
 -- ---- the phase of a search
 
 module _ (w nights : List ℕ) where
-  pub phase-night : phaseOf false w nights ≡ nightPhase w
+  pub phase-night : phaseOf Nights w nights ≡ nightPhase w
   unfolding phaseOf
   phase-night = refl
 
-  pub phase-day : phaseOf true w nights ≡ dayPhase w (λ i. getD nights i 0)
+  pub phase-day : phaseOf Days w nights ≡ dayPhase w (λ i. getD nights i 0)
   unfolding phaseOf
   phase-day = refl
 
-  pub phase-nurses : (daily : Bool) → phaseOf daily w nights .nurses ≡ nurses w
+  pub phase-nurses : (which : Search) → phaseOf which w nights .nurses ≡ nurses w
   unfolding phaseOf nightPhase dayPhase
-  phase-nurses false = refl
-  phase-nurses true = refl
+  phase-nurses Nights = refl
+  phase-nurses Days = refl
 
-  pub phase-tabu : (daily : Bool) → phaseOf daily w nights .tabu ≡ tabu w
+  pub phase-tabu : (which : Search) → phaseOf which w nights .tabu ≡ tabu w
   unfolding phaseOf nightPhase dayPhase
-  phase-tabu false = refl
-  phase-tabu true = refl
+  phase-tabu Nights = refl
+  phase-tabu Days = refl
 
-  pub phase-fits : (daily : Bool) → Accepted w → Fits (phaseOf daily w nights)
+  pub phase-fits : (which : Search) → Accepted w → Fits (phaseOf which w nights)
   unfolding phaseOf
-  phase-fits false a = night-fits w a
-  phase-fits true a = day-fits w (λ i. getD nights i 0) a
+  phase-fits Nights a = night-fits w a
+  phase-fits Days a = day-fits w (λ i. getD nights i 0) a
 
 -- ---- one removal
 
@@ -110,18 +112,18 @@ number-of : (x : ℕ) → (x ≡ 0 → ⊥) → x ≡ suc (x - 1)
 number-of zero n = absurd (n refl)
 number-of (suc x) n = omega arith
 
-module _ (daily : Bool) (w nights : List ℕ) (x : ℕ) (s : Slot) (named : x ≡ 0 → ⊥) where
-  pub names-within : {m : ℕ} {r : Bool} → m ≡ nurses w → x - 1 < m → r ≡ hers (phaseOf daily w nights) (x - 1) s → r ≡ names (phaseOf daily w nights) x s
+module _ (which : Search) (w nights : List ℕ) (x : ℕ) (s : Slot) (named : x ≡ 0 → ⊥) where
+  pub names-within : {m : ℕ} {r : Bool} → m ≡ nurses w → x - 1 < m → r ≡ hers (phaseOf which w nights) (x - 1) s → r ≡ names (phaseOf which w nights) x s
   names-within e l h =
-      let here : x - 1 < phaseOf daily w nights .nurses = rw (phase-nurses w nights daily) (omega arith) in
-      h ∙ sym (ap (λ (b : Bool). b && hers (phaseOf daily w nights) (x - 1) s) (lt-ltb (x - 1) (phaseOf daily w nights .nurses) here))
-      ∙ ap (λ (y : ℕ). names (phaseOf daily w nights) y s) (sym (number-of x named))
+      let here : x - 1 < phaseOf which w nights .nurses = rw (phase-nurses w nights which) (omega arith) in
+      h ∙ sym (ap (λ (b : Bool). b && hers (phaseOf which w nights) (x - 1) s) (lt-ltb (x - 1) (phaseOf which w nights .nurses) here))
+      ∙ ap (λ (y : ℕ). names (phaseOf which w nights) y s) (sym (number-of x named))
 
-  pub names-past : {m : ℕ} → m ≡ nurses w → m ≤ x - 1 → false ≡ names (phaseOf daily w nights) x s
+  pub names-past : {m : ℕ} → m ≡ nurses w → m ≤ x - 1 → false ≡ names (phaseOf which w nights) x s
   names-past e l =
-      let past : phaseOf daily w nights .nurses ≤ x - 1 = rw (phase-nurses w nights daily) (omega arith) in
-      sym (ap (λ (b : Bool). b && hers (phaseOf daily w nights) (x - 1) s) (le-ltb (x - 1) (phaseOf daily w nights .nurses) past))
-      ∙ ap (λ (y : ℕ). names (phaseOf daily w nights) y s) (sym (number-of x named))
+      let past : phaseOf which w nights .nurses ≤ x - 1 = rw (phase-nurses w nights which) (omega arith) in
+      sym (ap (λ (b : Bool). b && hers (phaseOf which w nights) (x - 1) s) (le-ltb (x - 1) (phaseOf which w nights .nurses) past))
+      ∙ ap (λ (y : ℕ). names (phaseOf which w nights) y s) (sym (number-of x named))
 
 -- ---- the loops over the nurses and over the removals held: all that are asked
 
@@ -130,42 +132,42 @@ all-from t {m} {n} e =
     let q : n ≡ m - 0 = omega arith in
     ap (λ (k : ℕ). all t (upFrom 0 k)) q
 
-pub nurses-begin : (t : ℕ → Bool) (daily : Bool) (w nights : List ℕ) {m : ℕ} → m ≡ nurses w
-    → all t (upFrom 0 (phaseOf daily w nights .nurses)) ≡ all t (upFrom 0 (m - 0))
-nurses-begin t daily w nights e = all-from t (e ∙ sym (phase-nurses w nights daily))
+pub nurses-begin : (t : ℕ → Bool) (which : Search) (w nights : List ℕ) {m : ℕ} → m ≡ nurses w
+    → all t (upFrom 0 (phaseOf which w nights .nurses)) ≡ all t (upFrom 0 (m - 0))
+nurses-begin t which w nights e = all-from t (e ∙ sym (phase-nurses w nights which))
 
-pub held-all : (t : ℕ → Bool) (daily : Bool) (w nights : List ℕ) (steps : ℕ) {n tl : ℕ} {r : Bool} → r ≡ all t (upFrom 0 n) → n ≡ min steps tl → tl ≡ tabu w
-    → r ≡ all t (upFrom 0 (min steps (phaseOf daily w nights .tabu)))
-held-all t daily w nights steps h e q =
-    h ∙ ap (λ (k : ℕ). all t (upFrom 0 k)) (e ∙ ap (λ (l : ℕ). min steps l) (q ∙ sym (phase-tabu w nights daily)))
+pub held-all : (t : ℕ → Bool) (which : Search) (w nights : List ℕ) (steps : ℕ) {n tl : ℕ} {r : Bool} → r ≡ all t (upFrom 0 n) → n ≡ min steps tl → tl ≡ tabu w
+    → r ≡ all t (upFrom 0 (min steps (phaseOf which w nights .tabu)))
+held-all t which w nights steps h e q =
+    h ∙ ap (λ (k : ℕ). all t (upFrom 0 k)) (e ∙ ap (λ (l : ℕ). min steps l) (q ∙ sym (phase-tabu w nights which)))
 
 -- ---- question 11, by its three parts
 
-module _ (daily : Bool) (w nights : List ℕ) (x : Stored) (a : Accepted w) (s : Sized x) where
+module _ (which : Search) (w nights : List ℕ) (x : Stored) (a : Accepted w) (s : Sized x) where
   abbrev slotsOwn : Bool
-  slotsOwn = all (λ i. hers (phaseOf daily w nights) i (slotAt x i)) (upFrom 0 (phaseOf daily w nights .nurses))
+  slotsOwn = all (λ i. hers (phaseOf which w nights) i (slotAt x i)) (upFrom 0 (phaseOf which w nights .nurses))
 
   abbrev removalsName : Bool
-  removalsName = all (namesAt (phaseOf daily w nights) (x .removals)) (upFrom 0 (held (phaseOf daily w nights .tabu) x))
+  removalsName = all (namesAt (phaseOf which w nights) (x .removals)) (upFrom 0 (held (phaseOf which w nights .tabu) x))
 
-  three-parts : soundStored (phaseOf daily w nights) x ≡ (slotsOwn && (removalsName && unusedZero (phaseOf daily w nights .nurses) (phaseOf daily w nights .tabu) x))
-  three-parts = question-eleven (phaseOf daily w nights) x s (phase-fits w nights daily a)
+  three-parts : soundStored (phaseOf which w nights) x ≡ (slotsOwn && (removalsName && unusedZero (phaseOf which w nights .nurses) (phaseOf which w nights .tabu) x))
+  three-parts = question-eleven (phaseOf which w nights) x s (phase-fits w nights which a)
 
   pub sound-unused : {r q z : Bool} {m tl : ℕ} → r ≡ slotsOwn → r ≡ true → q ≡ removalsName → q ≡ true → m ≡ nurses w → tl ≡ tabu w → z ≡ unusedZero m tl x
-      → z ≡ soundStored (phaseOf daily w nights) x
+      → z ≡ soundStored (phaseOf which w nights) x
   sound-unused {r} {q} {z} {m} {tl} e f g h n t u =
       let first : slotsOwn ≡ true = sym e ∙ f in
       let second : removalsName ≡ true = sym g ∙ h in
-      u ∙ ap₂ (λ (k l : ℕ). unusedZero k l x) (n ∙ sym (phase-nurses w nights daily)) (t ∙ sym (phase-tabu w nights daily))
+      u ∙ ap₂ (λ (k l : ℕ). unusedZero k l x) (n ∙ sym (phase-nurses w nights which)) (t ∙ sym (phase-tabu w nights which))
       ∙ sym (three-parts ∙ rw (first, second))
 
-  pub sound-removals : {r q : Bool} → r ≡ slotsOwn → r ≡ true → q ≡ removalsName → q ≡ false → false ≡ soundStored (phaseOf daily w nights) x
+  pub sound-removals : {r q : Bool} → r ≡ slotsOwn → r ≡ true → q ≡ removalsName → q ≡ false → false ≡ soundStored (phaseOf which w nights) x
   sound-removals e f g h =
       let first : slotsOwn ≡ true = sym e ∙ f in
       let second : removalsName ≡ false = sym g ∙ h in
       sym (three-parts ∙ rw (first, second))
 
-  pub sound-slots : {r : Bool} → r ≡ slotsOwn → r ≡ false → false ≡ soundStored (phaseOf daily w nights) x
+  pub sound-slots : {r : Bool} → r ≡ slotsOwn → r ≡ false → false ≡ soundStored (phaseOf which w nights) x
   sound-slots e f =
       let first : slotsOwn ≡ false = sym e ∙ f in
       sym (three-parts ∙ rw first)

@@ -1,7 +1,7 @@
 -- The phase that an advance searches, and what its questions are answered by.
 use Prim.Native.Nat.{ℕ, suc, _+_, _≤_, _<_}
 use mathlib.Core.Path.{_≡_}
-use mathlib.Core.Bool.{Bool, true, false, cond, _&&_}
+use mathlib.Core.Bool.{false, cond, _&&_}
 use mathlib.Core.List.{List}
 use mathlib.Core.Option.{Option, none, some}
 use lib.Dec.{leb, ltb}
@@ -13,6 +13,8 @@ use Rattle.history.specs.Phase.{Phase}
 use Rattle.refusals.specs.declared.Refusal.{Refusal}
 use Rattle.refusals.specs.Refusals.{numbered, first, unless}
 use Rattle.refusals.specs.Questions as question
+use Rattle.history.specs.declared.Search.{Search}
+use Rattle.history.specs.declared.Search.the-variants.{Nights, Days}
 use Rattle.history.specs.Record.{lacking}
 use Rattle.search.specs.Stored.{soundStored}
 use Rattle.search.specs.declared.Record.{Record as Stored}
@@ -22,10 +24,10 @@ use Rattle.phases.specs.Phases.{nightPhase, dayPhase, nightsOpen, listsF
 use Rattle.phases.specs.declared.outcomes.Outcome.{Outcome}
 use Rattle.phases.specs.declared.outcomes.Outcome.the-variants as outcomes
 
--- by night (false) the nights; by day (true) the days over these night patterns, one for each nurse
-unfoldable pub phaseOf : Bool → List ℕ → List ℕ → Phase
-phaseOf false w nights = nightPhase w
-phaseOf true w nights = dayPhase w (λ i. getD nights i 0)
+-- by night the nights; by day the days over these night patterns, one for each nurse
+unfoldable pub phaseOf : Search → List ℕ → List ℕ → Phase
+phaseOf Nights w nights = nightPhase w
+phaseOf Days w nights = dayPhase w (λ i. getD nights i 0)
 
 -- ---- by day: the questions before the lists are counted, 7 and 8, and those after, 9 to 11
 

@@ -1,6 +1,7 @@
 // Question 8: whether the day search opens on a choice of nights.
 use refusals::Answer;
 use refusals::question;
+use history::Search;
 use search::Record;
 ghost use mathlib.Core.Path.{_≡_};
 ghost use mathlib.Core.Option.{some};
@@ -39,7 +40,7 @@ fn night_penalty(w: &[u64], nights: &[u32; 48]) -> u64
     let mut rec = Record::fresh();
     rec.patterns = patterns;
     rec.placed = placed;
-    search::slots::penalty_of(w, rec, false)
+    search::slots::penalty_of(w, rec, Search::Nights)
 }
 
 fn nights_open(w: &[u64], nights: &[u32; 48]) -> bool

@@ -1,5 +1,6 @@
-// The questions that an advance asks of its steps, its record and its nurses. Where `daily` is false they are asked by night,
-// and the night patterns are not looked at; where it is true, by day over those patterns.
+// The questions that an advance asks of its steps, its record and its nurses. By night the night patterns are not looked at;
+// by day the questions are asked over those patterns.
+use history::Search;
 use refusals::Answer;
 use refusals::question;
 ghost use mathlib.Core.Path.{_≡_};
@@ -27,43 +28,43 @@ fn steps_allowed(steps: u32, k: u32) -> bool
 }
 
 // Whether p is one of nurse i's own.
-pub(crate) fn is_own(w: &[u64], nights: &[u32; 48], daily: bool, i: usize, p: u32) -> bool
+pub(crate) fn is_own(w: &[u64], nights: &[u32; 48], search: Search, i: usize, p: u32) -> bool
     requires { ⌜ Accepted (now w) × (i < nurses (now w)) ⌝ }
-    ensures { λ r. ⌜ r ≡ among (phaseOf daily (now (w .entry)) (now (nights .entry)) .patterns i) p ⌝ }
+    ensures { λ r. ⌜ r ≡ among (phaseOf search (now (w .entry)) (now (nights .entry)) .patterns i) p ⌝ }
 {
-    if daily {
-        return days::is_day_pattern(w, i, nights[i], p);
+    match search {
+        Search::Nights => nights::is_hers(w, i, p),
+        Search::Days => days::is_day_pattern(w, i, nights[i], p),
     }
-    nights::is_hers(w, i, p)
 }
 
 // Whether a slot holds one of nurse i's own, or none.
 pub(crate) fn slot_own(
     w: &[u64],
     nights: &[u32; 48],
-    daily: bool,
+    search: Search,
     i: usize,
     placed: bool,
     p: u32,
 ) -> bool
     requires { ⌜ Accepted (now w) × (i < nurses (now w)) ⌝ }
-    ensures { λ r. ⌜ r ≡ hers (phaseOf daily (now (w .entry)) (now (nights .entry))) i (slot placed p) ⌝ }
+    ensures { λ r. ⌜ r ≡ hers (phaseOf search (now (w .entry)) (now (nights .entry))) i (slot placed p) ⌝ }
 {
     if placed {
-        return is_own(w, nights, daily, i, p);
+        return is_own(w, nights, search, i, p);
     }
     true
 }
 
 // Whether each placed nurse holds one of her own.
-pub(crate) fn slots_own(w: &[u64], nights: &[u32; 48], daily: bool, rec: search::Record) -> bool
+pub(crate) fn slots_own(w: &[u64], nights: &[u32; 48], search: Search, rec: search::Record) -> bool
     requires { ⌜ Accepted (now w) ⌝ }
-    ensures { λ r. ⌜ r ≡ all (λ i. hers (phaseOf daily (now (w .entry)) (now (nights .entry))) i (slotAt rec i)) (upFrom 0 (phaseOf daily (now (w .entry)) (now (nights .entry)) .nurses)) ⌝ }
+    ensures { λ r. ⌜ r ≡ all (λ i. hers (phaseOf search (now (w .entry)) (now (nights .entry))) i (slotAt rec i)) (upFrom 0 (phaseOf search (now (w .entry)) (now (nights .entry)) .nurses)) ⌝ }
 {
     let m = fields::nurses(w);
     let mut i: usize = 0;
     while i < m {
-        if slot_own(w, nights, daily, i, rec.placed[i], rec.patterns[i]) {
+        if slot_own(w, nights, search, i, rec.placed[i], rec.patterns[i]) {
             i += 1;
         } else {
             return false;
@@ -76,11 +77,11 @@ pub(crate) fn slots_own(w: &[u64], nights: &[u32; 48], daily: bool, rec: search:
 pub(crate) fn removal_names(
     w: &[u64],
     nights: &[u32; 48],
-    daily: bool,
+    search: Search,
     x: removals::Removal,
 ) -> bool
     requires { ⌜ Accepted (now w) ⌝ }
-    ensures { λ r. ⌜ r ≡ names (phaseOf daily (now (w .entry)) (now (nights .entry))) (x .nurse) (slot (x .has) (x .pattern)) ⌝ }
+    ensures { λ r. ⌜ r ≡ names (phaseOf search (now (w .entry)) (now (nights .entry))) (x .nurse) (slot (x .has) (x .pattern)) ⌝ }
 {
     if x.nurse == 0 {
         return false;
@@ -88,22 +89,27 @@ pub(crate) fn removal_names(
     let i = (x.nurse - 1) as usize;
     let m = fields::nurses(w);
     if i < m {
-        return slot_own(w, nights, daily, i, x.has, x.pattern);
+        return slot_own(w, nights, search, i, x.has, x.pattern);
     }
     false
 }
 
 // Whether each removal held names a nurse, with one of hers or with none.
-pub(crate) fn removals_name(w: &[u64], nights: &[u32; 48], daily: bool, rec: search::Record) -> bool
+pub(crate) fn removals_name(
+    w: &[u64],
+    nights: &[u32; 48],
+    search: Search,
+    rec: search::Record,
+) -> bool
     requires { ⌜ Accepted (now w) ⌝ }
-    ensures { λ r. ⌜ r ≡ all (namesAt (phaseOf daily (now (w .entry)) (now (nights .entry))) (rec .removals)) (upFrom 0 (held (phaseOf daily (now (w .entry)) (now (nights .entry)) .tabu) rec)) ⌝ }
+    ensures { λ r. ⌜ r ≡ all (namesAt (phaseOf search (now (w .entry)) (now (nights .entry))) (rec .removals)) (upFrom 0 (held (phaseOf search (now (w .entry)) (now (nights .entry)) .tabu) rec)) ⌝ }
 {
     let n = removals::lesser(rec.steps as usize, fields::tabu(w));
     let list = rec.removals;
     let mut j: usize = 0;
     while j < n {
         let x = list[j];
-        if removal_names(w, nights, daily, x) {
+        if removal_names(w, nights, search, x) {
             j += 1;
         } else {
             return false;
@@ -113,13 +119,13 @@ pub(crate) fn removals_name(w: &[u64], nights: &[u32; 48], daily: bool, rec: sea
 }
 
 // Each placed nurse holds one of her own, each removal held names a nurse, and unused fields are 0.
-pub(crate) fn record_sound(w: &[u64], nights: &[u32; 48], daily: bool, rec: search::Record) -> bool
+pub(crate) fn record_sound(w: &[u64], nights: &[u32; 48], search: Search, rec: search::Record) -> bool
     requires { ⌜ Accepted (now w) ⌝ }
-    ensures { λ r. ⌜ r ≡ soundStored (phaseOf daily (now (w .entry)) (now (nights .entry))) rec ⌝ }
+    ensures { λ r. ⌜ r ≡ soundStored (phaseOf search (now (w .entry)) (now (nights .entry))) rec ⌝ }
 {
     let zero = rec.unused_zero(fields::nurses(w), fields::tabu(w));
-    if slots_own(w, nights, daily, rec) {
-        if removals_name(w, nights, daily, rec) {
+    if slots_own(w, nights, search, rec) {
+        if removals_name(w, nights, search, rec) {
             return zero;
         }
     }
@@ -153,9 +159,9 @@ pub fn nights_lacking(w: &[u64]) -> Answer
 }
 
 // Question 11.
-pub fn record_asked(w: &[u64], nights: &[u32; 48], daily: bool, rec: search::Record) -> Answer
+pub fn record_asked(w: &[u64], nights: &[u32; 48], search: Search, rec: search::Record) -> Answer
     requires { ⌜ Accepted (now w) ⌝ }
-    ensures { λ r. ⌜ refusalIn r ≡ unless (soundStored (phaseOf daily (now (w .entry)) (now (nights .entry))) rec) question.record-sound 0 ⌝ }
+    ensures { λ r. ⌜ refusalIn r ≡ unless (soundStored (phaseOf search (now (w .entry)) (now (nights .entry))) rec) question.record-sound 0 ⌝ }
 {
-    refusals::unless(record_sound(w, nights, daily, rec), question::RECORD, 0)
+    refusals::unless(record_sound(w, nights, search, rec), question::RECORD, 0)
 }

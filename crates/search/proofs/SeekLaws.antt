@@ -24,6 +24,8 @@ use Rattle.nights.proofs.ListLaws.{common-below, common-keeps}
 use Rattle.penalty.specs.declared.Penalty.{Penalty}
 use Rattle.penalty.specs.declared.columns.Columns.{Columns}
 use Rattle.trials.specs.declared.costs.Costs.{Costs}
+use Rattle.history.specs.declared.Search.{Search}
+use Rattle.history.specs.declared.Search.the-variants.{Nights, Days}
 use Rattle.history.specs.Slot.{Slot, isNone}
 use Rattle.penalty.specs.Penalty.{partsOf, total, rest, unplacedIn, exchanged, startsIn, workedIn, partsIn, nightPenalty, dayPenalty}
 use Rattle.penalty.specs.CodeColumns.{Shown, Shows, Empty, NursePut}
@@ -71,46 +73,43 @@ pub block-of : (w : List ℕ) (i : ℕ) {b : List ℕ} {n : ℕ} → Accepted w 
 block-of w i {b} a l e q = (block-as w i a l e (q .0), q .1)
 
 module _ (w : List ℕ) (r : Stored) (i : ℕ) where
-  pub pattern-placed : (daily : Bool) → getD (r .placed) i false ≡ true → getD (r .patterns) i 0 ≡ patternFor daily w i (slotAt r i)
-  pattern-placed true e = rw e
-  pattern-placed false e = rw e
+  pub pattern-placed : (which : Search) → getD (r .placed) i false ≡ true → getD (r .patterns) i 0 ≡ patternFor which w i (slotAt r i)
+  pattern-placed Days e = rw e
+  pattern-placed Nights e = rw e
 
-  pub pattern-days : {p n : ℕ} {b : List ℕ} (daily : Bool) → getD (r .placed) i false ≡ false → daily ≡ true → n ≡ days w → b ≡ block w i
-      → p ≡ numberOf (λ d. eqb (markOn b (suc d)) 2) n → p ≡ patternFor daily w i (slotAt r i)
-  pattern-days daily e d x y q = rw (d, e) (q ∙ rw (x, y))
+  pub pattern-days : {p n : ℕ} {b : List ℕ} (which : Search) → getD (r .placed) i false ≡ false → which ≡ Days → n ≡ days w → b ≡ block w i
+      → p ≡ numberOf (λ d. eqb (markOn b (suc d)) 2) n → p ≡ patternFor which w i (slotAt r i)
+  pattern-days which e d x y q = rw (d, e) (q ∙ rw (x, y))
 
-  pub pattern-nights : {p n : ℕ} {b : List ℕ} (daily : Bool) → getD (r .placed) i false ≡ false → daily ≡ false → n ≡ days w → b ≡ block w i
-      → p ≡ numberOf (λ d. eqb (markOn b (suc d)) 3) n → p ≡ patternFor daily w i (slotAt r i)
-  pattern-nights daily e d x y q = rw (d, e) (q ∙ rw (x, y))
+  pub pattern-nights : {p n : ℕ} {b : List ℕ} (which : Search) → getD (r .placed) i false ≡ false → which ≡ Nights → n ≡ days w → b ≡ block w i
+      → p ≡ numberOf (λ d. eqb (markOn b (suc d)) 3) n → p ≡ patternFor which w i (slotAt r i)
+  pattern-nights which e d x y q = rw (d, e) (q ∙ rw (x, y))
 
 -- ---- columns
 
 module _ (w : List ℕ) (r : Stored) (i : ℕ) (cols : Columns) (slots : ℕ → Slot) where
-  pub row-day : (daily : Bool) {p n : ℕ} {c : Columns} → daily ≡ true → n ≡ days w → p ≡ patternFor daily w i (slotAt r i) → NursePut cols c n i 0 p
-      → slots i ≡ slotAt r i → Shown daily w slots i cols → Shown daily w slots (i + 1) c
-  row-day true {p} {n} {c} d e q x a s = day-more w slots i cols c s (q ∙ ap (workedIn w i) (sym a)) (subst (λ (k : ℕ). NursePut cols c k i 0 p) e x)
-  row-day false d e q x a s = absurd (no d)
-    where
-      no : _≡_ {A = Bool} false true → ⊥
-      no z = let y : _≡_ {A = ℕ} 0 1 = cc in omega arith
+  pub row-day : (which : Search) {p n : ℕ} {c : Columns} → which ≡ Days → n ≡ days w → p ≡ patternFor which w i (slotAt r i) → NursePut cols c n i 0 p
+      → slots i ≡ slotAt r i → Shown which w slots i cols → Shown which w slots (i + 1) c
+  row-day which {p} {n} {c} d e q x a s =
+      subst (λ (b : Search). Shown b w slots (i + 1) c) (sym d)
+      (day-more w slots i cols c (subst (λ (b : Search). Shown b w slots i cols) d s) (q ∙ ap (λ (b : Search). patternFor b w i (slotAt r i)) d ∙ ap (workedIn w i) (sym a))
+      (subst (λ (k : ℕ). NursePut cols c k i 0 p) e x))
 
-  pub row-night : (daily : Bool) {p n f : ℕ} {c : Columns} {m : Masks} → daily ≡ false → n ≡ days w → days w ≤ 31 → p ≡ patternFor daily w i (slotAt r i)
+  pub row-night : (which : Search) {p n f : ℕ} {c : Columns} {m : Masks} → which ≡ Nights → n ≡ days w → days w ≤ 31 → p ≡ patternFor which w i (slotAt r i)
       → m ≡ masksOf (rulesOf w) (days w) (block w i)
       → ((k : ℕ) (b : List ℕ) → k ≤ 31 → m ≡ masksOf (rulesOf w) k b → AvailableDays b k p f)
-      → NursePut cols c n i p f → slots i ≡ slotAt r i → Shown daily w slots i cols → Shown daily w slots (i + 1) c
-  row-night true d e l q em av x a s = absurd (no d)
-    where
-      no : _≡_ {A = Bool} true false → ⊥
-      no z = let y : _≡_ {A = ℕ} 0 1 = cc in omega arith
-  row-night false {p} {n} {f} {c} d e l q em av x a s =
-      night-more w slots i cols c s (q ∙ ap (startsIn w i) (sym a)) (av (days w) (block w i) l em .each) (subst (λ (k : ℕ). NursePut cols c k i p f) e x)
+      → NursePut cols c n i p f → slots i ≡ slotAt r i → Shown which w slots i cols → Shown which w slots (i + 1) c
+  row-night which {p} {n} {f} {c} d e l q em av x a s =
+      subst (λ (b : Search). Shown b w slots (i + 1) c) (sym d)
+      (night-more w slots i cols c (subst (λ (b : Search). Shown b w slots i cols) d s) (q ∙ ap (λ (b : Search). patternFor b w i (slotAt r i)) d ∙ ap (startsIn w i) (sym a))
+      (av (days w) (block w i) l em .each) (subst (λ (k : ℕ). NursePut cols c k i p f) e x))
 
-pub columns-end : (daily : Bool) (w : List ℕ) (slots : ℕ → Slot) (c : Columns) {i m : ℕ} → Shown daily w slots i c → i ≤ m → m ≤ i → m ≡ nurses w → Shown daily w slots (nurses w) c
-columns-end daily w slots c {i} {m} s l h e = let q : i ≡ nurses w = omega arith in subst (λ (k : ℕ). Shown daily w slots k c) q s
+pub columns-end : (which : Search) (w : List ℕ) (slots : ℕ → Slot) (c : Columns) {i m : ℕ} → Shown which w slots i c → i ≤ m → m ≤ i → m ≡ nurses w → Shown which w slots (nurses w) c
+columns-end which w slots c {i} {m} s l h e = let q : i ≡ nurses w = omega arith in subst (λ (k : ℕ). Shown which w slots k c) q s
 
-pub columns-start : (daily : Bool) (w : List ℕ) (slots : ℕ → Slot) (c : Columns) → Empty c → Shown daily w slots 0 c
-columns-start true w slots c e = day-none w slots c e
-columns-start false w slots c e = night-none w slots c e
+pub columns-start : (which : Search) (w : List ℕ) (slots : ℕ → Slot) (c : Columns) → Empty c → Shown which w slots 0 c
+columns-start Days w slots c e = day-none w slots c e
+columns-start Nights w slots c e = night-none w slots c e
 
 -- ---- the penalty
 
@@ -127,20 +126,20 @@ unplaced-is w r slots e a =
     ∙ sum-ext (nurses w) (λ i. oneIf (not (getD (r .placed) i false))) (λ i. oneIf (isNone (slots i)))
     (λ i l. ap oneIf (sym (ap isNone (a i l) ∙ none-flag (getD (r .placed) i false) (getD (r .patterns) i 0))))
 
-cost-total : (daily : Bool) (w : List ℕ) (slots : ℕ → Slot) → total (partsIn daily w slots) ≡ costOf daily w slots
+cost-total : (which : Search) (w : List ℕ) (slots : ℕ → Slot) → total (partsIn which w slots) ≡ costOf which w slots
 unfolding nightPenalty dayPenalty
-cost-total false w slots = refl
-cost-total true w slots = refl
+cost-total Nights w slots = refl
+cost-total Days w slots = refl
 
-module _ (daily : Bool) (w : List ℕ) (r : Stored) (slots : ℕ → Slot) (cols : Columns) {m u : ℕ} (e : m ≡ nurses w)
+module _ (which : Search) (w : List ℕ) (r : Stored) (slots : ℕ → Slot) (cols : Columns) {m u : ℕ} (e : m ≡ nurses w)
     (q : Is u (countTo m (λ i. not (getD (r .placed) i false))) 48) (a : Agree w r slots)
-    (s : (l : ℕ → Slot) → Agree w r l → Shown daily w l (nurses w) cols) where
-  waiting : u ≡ unplacedIn w slots
-  waiting = q .is ∙ unplaced-is w r slots e a
+    (s : (l : ℕ → Slot) → Agree w r l → Shown which w l (nurses w) cols) where
+  counted : u ≡ unplacedIn w slots
+  counted = q .is ∙ unplaced-is w r slots e a
 
   pub penalty-is : {x : ℕ} {y : Penalty} → x ≡ total (partsOf y)
-      → ((l : ℕ → Slot) → Shows daily w l cols → u ≡ unplacedIn w l → partsOf y ≡ partsIn daily w l) → x ≡ costOf daily w slots
-  penalty-is f g = f ∙ ap total (g slots (s slots a) waiting) ∙ cost-total daily w slots
+      → ((l : ℕ → Slot) → Shows which w l cols → u ≡ unplacedIn w l → partsOf y ≡ partsIn which w l) → x ≡ costOf which w slots
+  penalty-is f g = f ∙ ap total (g slots (s slots a) counted) ∙ cost-total which w slots
 
 -- ---- a nurse's trials
 
@@ -193,24 +192,24 @@ unfolding Agree view
 view-agrees w r P e j h = rw (lt-ltb j (P .nurses) (omega arith))
 
 -- what is known before her list is looked at: TL, her table, and the unplaced besides her
-pub record NurseTable (byDay : Bool) (w : List ℕ) (cols : Columns) (u : ℕ) (r : Stored) (i tl : ℕ) (t : List ℕ) (others : ℕ) : Type 0 where
+pub record NurseTable (which : Search) (w : List ℕ) (cols : Columns) (u : ℕ) (r : Stored) (i tl : ℕ) (t : List ℕ) (others : ℕ) : Type 0 where
   pub tabu-is : tl ≡ tabu w
   pub tabu-most : tl ≤ 64
   pub small : ChunksSmall t
-  pub tables : Tables byDay w cols i t
+  pub tables : Tables which w cols i t
   pub others-are : (a : ℕ) → u ≡ a + oneIf (not (getD (r .placed) i false)) → others ≡ a
   pub others-most : others ≤ 48
 
-pub stretch-begins : {byDay : Bool} {w lists ends : List ℕ} {cols : Columns} {u : ℕ} {r : Stored} {i : ℕ} → NurseNeeds byDay w lists ends cols u r i
-    → byDay ≡ true → getD ends i 0 ≤ getD ends (i + 1) 0
+pub stretch-begins : {which : Search} {w lists ends : List ℕ} {cols : Columns} {u : ℕ} {r : Stored} {i : ℕ} → NurseNeeds which w lists ends cols u r i
+    → which ≡ Days → getD ends i 0 ≤ getD ends (i + 1) 0
 stretch-begins {i = i} n d = n .listed .begins d i (n .nurse)
 
-pub stretch-ends : {byDay : Bool} {w lists ends : List ℕ} {cols : Columns} {u : ℕ} {r : Stored} {i : ℕ} → NurseNeeds byDay w lists ends cols u r i
-    → byDay ≡ true → getD ends (i + 1) 0 ≤ length lists
+pub stretch-ends : {which : Search} {w lists ends : List ℕ} {cols : Columns} {u : ℕ} {r : Stored} {i : ℕ} → NurseNeeds which w lists ends cols u r i
+    → which ≡ Days → getD ends (i + 1) 0 ≤ length lists
 stretch-ends {i = i} n d = n .listed .finishes d i (n .nurse)
 
-pub nights-need : {byDay : Bool} {w lists ends : List ℕ} {cols : Columns} {u : ℕ} {r : Stored} {i tl : ℕ} {t : List ℕ} {others : ℕ} {masks : Masks}
-    → NurseNeeds byDay w lists ends cols u r i → NurseTable byDay w cols u r i tl t others → byDay ≡ false → Masked masks
+pub nights-need : {which : Search} {w lists ends : List ℕ} {cols : Columns} {u : ℕ} {r : Stored} {i tl : ℕ} {t : List ℕ} {others : ℕ} {masks : Masks}
+    → NurseNeeds which w lists ends cols u r i → NurseTable which w cols u r i tl t others → which ≡ Nights → Masked masks
     → masks ≡ masksOf (rulesOf w) (days w) (block w i) → NightsNeeds w lists masks t others tl i
 nights-need n y d m e =
     record {
@@ -225,9 +224,9 @@ nights-need n y d m e =
     }
 
 -- by the nurses counted, of whom she is one
-pub nurse-needs : {byDay : Bool} {w lists ends : List ℕ} {cols : Columns} {u : ℕ} {r : Stored} {i m : ℕ} → Accepted w → Lists byDay w lists ends → m ≡ nurses w
-    → Is u (countTo m (λ j. not (getD (r .placed) j false))) 48 → ((slots : ℕ → Slot) → Agree w r slots → Shows byDay w slots cols) → i < m
-    → NurseNeeds byDay w lists ends cols u r i
+pub nurse-needs : {which : Search} {w lists ends : List ℕ} {cols : Columns} {u : ℕ} {r : Stored} {i m : ℕ} → Accepted w → Lists which w lists ends → m ≡ nurses w
+    → Is u (countTo m (λ j. not (getD (r .placed) j false))) 48 → ((slots : ℕ → Slot) → Agree w r slots → Shows which w slots cols) → i < m
+    → NurseNeeds which w lists ends cols u r i
 nurse-needs {u = u} {r = r} a l e q s h =
     record {
       ward = a;
@@ -238,8 +237,8 @@ nurse-needs {u = u} {r = r} a l e q s h =
     }
 
 -- what the loop over her list found, as the phase has it
-module _ {byDay : Bool} {w lists ends : List ℕ} {cols : Columns} {u : ℕ} {r : Stored} {i tl : ℕ} {t : List ℕ} {others : ℕ}
-    (n : NurseNeeds byDay w lists ends cols u r i) (y : NurseTable byDay w cols u r i tl t others) (P : Phase) (s : Seeks byDay w lists ends P) where
+module _ {which : Search} {w lists ends : List ℕ} {cols : Columns} {u : ℕ} {r : Stored} {i tl : ℕ} {t : List ℕ} {others : ℕ}
+    (n : NurseNeeds which w lists ends cols u r i) (y : NurseTable which w cols u r i tl t others) (P : Phase) (s : Seeks which w lists ends P) where
   abbrev slotsIn : ℕ → Slot
   slotsIn = (viewOf P r) .slots
 
@@ -248,7 +247,7 @@ module _ {byDay : Bool} {w lists ends : List ℕ} {cols : Columns} {u : ℕ} {r 
 
   -- what is short and over after her exchange
   abbrev trial : ℕ → ℕ
-  trial p = rest (partsIn byDay w (exchanged slotsIn i p))
+  trial p = rest (partsIn which w (exchanged slotsIn i p))
 
   agrees : Agree w r slotsIn
   agrees = view-agrees w r P (s .nurses-are)
@@ -256,7 +255,7 @@ module _ {byDay : Bool} {w lists ends : List ℕ} {cols : Columns} {u : ℕ} {r 
   inside : i < P .nurses
   inside = omega (arith, s .nurses-are, n .nurse)
 
-  trials : TableTrials byDay w i t trial
+  trials : TableTrials which w i t trial
   trials = y .tables slotsIn (n .shown slotsIn agrees)
 
   same-view : view (P .nurses) tl r ≡ viewOf P r
@@ -272,35 +271,35 @@ module _ {byDay : Bool} {w lists ends : List ℕ} {cols : Columns} {u : ℕ} {r 
   costs : (λ p. trial p + 10000000 * others) ≡ costIn P (viewOf P r) i
   costs =
       fun-ext (λ p. ap (λ (x : ℕ). trial p + 10000000 * x) (unplaced-then p)
-      ∙ sym (s .cost-is (exchanged slotsIn i p) ∙ splits byDay p))
+      ∙ sym (s .cost-is (exchanged slotsIn i p) ∙ splits which p))
     where
-      splits : (d : Bool) (p : ℕ) → costOf d w (exchanged slotsIn i p) ≡ rest (partsIn d w (exchanged slotsIn i p)) + 10000000 * unplacedIn w (exchanged slotsIn i p)
-      splits true p = day-split w (exchanged slotsIn i p) (n .ward) .0 ∙ omega arith
-      splits false p = night-split w (exchanged slotsIn i p) (n .ward) .0 ∙ omega arith
+      splits : (d : Search) (p : ℕ) → costOf d w (exchanged slotsIn i p) ≡ rest (partsIn d w (exchanged slotsIn i p)) + 10000000 * unplacedIn w (exchanged slotsIn i p)
+      splits Days p = day-split w (exchanged slotsIn i p) (n .ward) .0 ∙ omega arith
+      splits Nights p = night-split w (exchanged slotsIn i p) (n .ward) .0 ∙ omega arith
 
   module _ (held : Best) {res : Best} where
-    pub nurse-days : byDay ≡ true
+    pub nurse-days : which ≡ Days
         → ((m : ℕ) (cost : ℕ → ℕ) → i < m → DayTrials t cost → res ≡ overList (mayTake (view m tl r) i) (λ p. cost p + 10000000 * others) i held (stretch lists ends i))
         → res ≡ overList may (costIn P (viewOf P r) i) i held (P .patterns i)
     nurse-days d g =
-        g (P .nurses) trial inside (subst (λ (b : Bool). TableTrials b w i t trial) d trials)
+        g (P .nurses) trial inside (subst (λ (b : Search). TableTrials b w i t trial) d trials)
         ∙ ap (λ (v : Record). overList (mayTake v i) (λ p. trial p + 10000000 * others) i held (stretch lists ends i)) same-view
         ∙ ap (λ (c : ℕ → ℕ). overList may c i held (stretch lists ends i)) costs
-        ∙ ap (overList may (costIn P (viewOf P r) i) i held) (sym (s .patterns-are i (n .nurse) ∙ ap (λ (b : Bool). triedBy b w lists ends i) d))
+        ∙ ap (overList may (costIn P (viewOf P r) i) i held) (sym (s .patterns-are i (n .nurse) ∙ ap (λ (b : Search). triedBy b w lists ends i) d))
 
-    pub nurse-nights : byDay ≡ false
+    pub nurse-nights : which ≡ Nights
         → ((m : ℕ) (cost : ℕ → ℕ) → i < m → NightTrials w i t cost
         → res ≡ overList (λ p. hersOf w i p && mayTake (view m tl r) i p) (λ p. cost p + 10000000 * others) i held lists)
         → res ≡ overList may (costIn P (viewOf P r) i) i held (P .patterns i)
     nurse-nights d g =
-        g (P .nurses) trial inside (subst (λ (b : Bool). TableTrials b w i t trial) d trials)
+        g (P .nurses) trial inside (subst (λ (b : Search). TableTrials b w i t trial) d trials)
         ∙ ap (λ (v : Record). overList (λ p. hersOf w i p && mayTake v i p) (λ p. trial p + 10000000 * others) i held lists) same-view
         ∙ ap (λ (c : ℕ → ℕ). overList (λ p. hersOf w i p && may p) c i held lists) costs
         ∙ sym (over-keep (hersOf w i) may (costIn P (viewOf P r) i) i held lists)
-        ∙ ap (overList may (costIn P (viewOf P r) i) i held) (sym (s .patterns-are i (n .nurse) ∙ ap (λ (b : Bool). triedBy b w lists ends i) d))
+        ∙ ap (overList may (costIn P (viewOf P r) i) i held) (sym (s .patterns-are i (n .nurse) ∙ ap (λ (b : Search). triedBy b w lists ends i) d))
 
 -- the loop over the nurses
-module _ {byDay : Bool} {w lists ends : List ℕ} {P : Phase} (s : Seeks byDay w lists ends P) (r : Stored) where
+module _ {which : Search} {w lists ends : List ℕ} {P : Phase} (s : Seeks which w lists ends P) (r : Stored) where
   pub best-start : Nothing ≡ bestOver P (viewOf P r) 0
   best-start = nurses-none (mayTake (viewOf P r)) (costIn P (viewOf P r)) (P .patterns)
 
@@ -312,11 +311,11 @@ module _ {byDay : Bool} {w lists ends : List ℕ} {P : Phase} (s : Seeks byDay w
 
 -- ---- step and advance
 
-module _ {byDay : Bool} {w lists ends : List ℕ} {P : Phase} (s : Seeks byDay w lists ends P) where
+module _ {which : Search} {w lists ends : List ℕ} {P : Phase} (s : Seeks which w lists ends P) where
   pub seeks-fits : Accepted w → Fits P
   seeks-fits a = record { nurses-most = omega (arith, s .nurses-are, a .nurses-most); tabu-most = omega (arith, s .tabu-is, a .tabu-most) }
 
-  pub seeks-cost : (r : Stored) {pen : ℕ} → ((slots : ℕ → Slot) → Agree w r slots → pen ≡ costOf byDay w slots) → pen ≡ P .cost ((viewOf P r) .slots)
+  pub seeks-cost : (r : Stored) {pen : ℕ} → ((slots : ℕ → Slot) → Agree w r slots → pen ≡ costOf which w slots) → pen ≡ P .cost ((viewOf P r) .slots)
   seeks-cost r f = f ((viewOf P r) .slots) (view-agrees w r P (s .nurses-are)) ∙ sym (s .cost-is ((viewOf P r) .slots))
 
   pub seeks-nurse : (r : Stored) {b : Best} {i p c : ℕ} → Accepted w → b ≡ bestOver P (viewOf P r) (P .nurses) → b ≡ Exchange i p c → i < 48

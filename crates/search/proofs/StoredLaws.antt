@@ -350,8 +350,8 @@ module _ (m tl : ℕ) (R : Record) (h : Held m tl R) (room : tl ≤ 64) (i p : �
   abbrev took : Step
   took = record { nurse = i; pattern = p }
 
-  abbrev away : Removal
-  away = record { nurse = suc i; pattern = R .slots i }
+  abbrev removal : Removal
+  removal = record { nurse = suc i; pattern = R .slots i }
 
   patterns-step : set (map (λ j. patternOf (R .slots j)) (upFrom 0 48)) i p ≡ map (λ j. patternOf (exchanged (R .slots) took j)) (upFrom 0 48)
   patterns-step =
@@ -364,11 +364,11 @@ module _ (m tl : ℕ) (R : Record) (h : Held m tl R) (room : tl ≤ 64) (i p : �
       ∙ ap (λ (f : ℕ → Bool). map f (upFrom 0 48)) (fun-ext (λ j. cond-flag (eqb j i) p (R .slots j)))
 
   removals-step : pushed tl (R .steps) (removalBy (store R) i) (padded 64 noRemoval (map storedRemoval (R .removals)))
-      ≡ padded 64 noRemoval (map storedRemoval (take tl (away ∷ R .removals)))
+      ≡ padded 64 noRemoval (map storedRemoval (take tl (removal ∷ R .removals)))
   removals-step =
       ap (λ (s : Slot). pushed tl (R .steps) (storedRemoval (record { nurse = suc i; pattern = s })) (padded 64 noRemoval (map storedRemoval (R .removals)))) (store-slot m tl R h i l)
-      ∙ push-padded 64 noRemoval (storedRemoval away) (map storedRemoval (R .removals)) (R .steps) tl (length-map (R .removals) storedRemoval ∙ h .count) room
-      ∙ ap (padded 64 noRemoval) (sym (map-take storedRemoval tl (away ∷ R .removals)))
+      ∙ push-padded 64 noRemoval (storedRemoval removal) (map storedRemoval (R .removals)) (R .steps) tl (length-map (R .removals) storedRemoval ∙ h .count) room
+      ∙ ap (padded 64 noRemoval) (sym (map-take storedRemoval tl (removal ∷ R .removals)))
 
   pub exchanged-store : exchangedIn tl (store R) i p ≡ store (stepped tl took R)
   unfolding exchangedIn store stepped

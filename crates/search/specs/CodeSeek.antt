@@ -1,7 +1,7 @@
 -- The two searches that the code makes, by night and by day: what they cost, what a nurse tries, and which phases they serve.
 use Prim.Native.Nat.{ℕ, _+_, _-_, _≤_, _<_}
 use mathlib.Core.Path.{_≡_}
-use mathlib.Core.Bool.{Bool, true, false, not}
+use mathlib.Core.Bool.{true, false, not}
 use mathlib.Core.List.{List, []}
 use lib.ListN.{length, getD, take, drop}
 use Rattle.numbers.specs.Range.{keep, Ascending}
@@ -12,6 +12,8 @@ use Rattle.nights.specs.Nights.{commonOf}
 use Rattle.nights.specs.Hers.{hersOf}
 use Rattle.own.specs.CodeMasks.{masksOf, Masked}
 use Rattle.own.specs.declared.masks.Masks.{Masks}
+use Rattle.history.specs.declared.Search.{Search}
+use Rattle.history.specs.declared.Search.the-variants.{Nights, Days}
 use Rattle.history.specs.Slot.{Slot}
 use Rattle.penalty.specs.Penalty.{startsIn, workedIn, nightPenalty, dayPenalty}
 use Rattle.penalty.specs.CodeColumns.{Shows}
@@ -25,14 +27,14 @@ use Rattle.search.specs.declared.Advanced.{Advanced}
 use Rattle.search.specs.declared.Record.{Record as Stored}
 
 -- the penalty of everyone's slots
-abbrev pub costOf : Bool → List ℕ → (ℕ → Slot) → ℕ
-costOf true w slots = dayPenalty w slots
-costOf false w slots = nightPenalty w slots
+abbrev pub costOf : Search → List ℕ → (ℕ → Slot) → ℕ
+costOf Days w slots = dayPenalty w slots
+costOf Nights w slots = nightPenalty w slots
 
 -- the days that a slot counts on: her pattern, or her marks while she is unplaced
-abbrev pub patternFor : Bool → List ℕ → ℕ → Slot → ℕ
-patternFor true w i s = workedIn w i s
-patternFor false w i s = startsIn w i s
+abbrev pub patternFor : Search → List ℕ → ℕ → Slot → ℕ
+patternFor Days w i s = workedIn w i s
+patternFor Nights w i s = startsIn w i s
 
 -- these slots are those of a stored record, as far as there are nurses
 unfoldable pub Agree : List ℕ → Stored → (ℕ → Slot) → Type 0
@@ -43,23 +45,23 @@ abbrev pub stretch : List ℕ → List ℕ → ℕ → List ℕ
 stretch lists ends i = take (getD ends (i + 1) 0 - getD ends i 0) (drop (getD ends i 0) lists)
 
 -- what nurse i tries: by day her stretch, by night what is hers of the common list
-abbrev pub triedBy : Bool → List ℕ → List ℕ → List ℕ → ℕ → List ℕ
-triedBy true w lists ends i = stretch lists ends i
-triedBy false w lists ends i = keep (hersOf w i) lists
+abbrev pub triedBy : Search → List ℕ → List ℕ → List ℕ → ℕ → List ℕ
+triedBy Days w lists ends i = stretch lists ends i
+triedBy Nights w lists ends i = keep (hersOf w i) lists
 
 -- the lists as the loops over them need them
-pub record Lists (byDay : Bool) (w lists ends : List ℕ) : Type 0 where
-  pub common-list : byDay ≡ false → lists ≡ commonOf w
-  pub begins : byDay ≡ true → (i : ℕ) → i < nurses w → getD ends i 0 ≤ getD ends (i + 1) 0
-  pub finishes : byDay ≡ true → (i : ℕ) → i < nurses w → getD ends (i + 1) 0 ≤ length lists
+pub record Lists (which : Search) (w lists ends : List ℕ) : Type 0 where
+  pub common-list : which ≡ Nights → lists ≡ commonOf w
+  pub begins : which ≡ Days → (i : ℕ) → i < nurses w → getD ends i 0 ≤ getD ends (i + 1) 0
+  pub finishes : which ≡ Days → (i : ℕ) → i < nurses w → getD ends (i + 1) 0 ≤ length lists
 
 -- what the search over nurse i's list asks: the ward and its lists, who is unplaced in the record, and everyone's columns
-pub record NurseNeeds (byDay : Bool) (w lists ends : List ℕ) (cols : Columns) (unplaced : ℕ) (r : Stored) (i : ℕ) : Type 0 where
+pub record NurseNeeds (which : Search) (w lists ends : List ℕ) (cols : Columns) (unplaced : ℕ) (r : Stored) (i : ℕ) : Type 0 where
   pub ward : Accepted w
   pub nurse : i < nurses w
-  pub listed : Lists byDay w lists ends
+  pub listed : Lists which w lists ends
   pub counted : Is unplaced (countTo (nurses w) (λ j. not (getD (r .placed) j false))) 48
-  pub shown : (slots : ℕ → Slot) → Agree w r slots → Shows byDay w slots cols
+  pub shown : (slots : ℕ → Slot) → Agree w r slots → Shows which w slots cols
 
 -- what the loop over the common list asks: nurse i's masks and her table
 pub record NightsNeeds (w list : List ℕ) (masks : Masks) (t : List ℕ) (others tl i : ℕ) : Type 0 where
@@ -73,20 +75,20 @@ pub record NightsNeeds (w list : List ℕ) (masks : Masks) (t : List ℕ) (other
   pub tabu-most : tl ≤ 64
 
 -- a phase that the search over these lists serves
-pub record Seeks (byDay : Bool) (w lists ends : List ℕ) (P : Phase) : Type 0 where
+pub record Seeks (which : Search) (w lists ends : List ℕ) (P : Phase) : Type 0 where
   pub nurses-are : P .nurses ≡ nurses w
   pub tabu-is : P .tabu ≡ tabu w
-  pub cost-is : (slots : ℕ → Slot) → P .cost slots ≡ costOf byDay w slots
-  pub patterns-are : (i : ℕ) → i < nurses w → P .patterns i ≡ triedBy byDay w lists ends i
+  pub cost-is : (slots : ℕ → Slot) → P .cost slots ≡ costOf which w slots
+  pub patterns-are : (i : ℕ) → i < nurses w → P .patterns i ≡ triedBy which w lists ends i
   pub ascending : (i : ℕ) → i < P .nurses → Ascending (P .patterns i)
 
 -- there is such a phase
-abbrev pub Served : Bool → List ℕ → List ℕ → List ℕ → Type 0
-Served daily w lists ends = (P : Phase) × Seeks daily w lists ends P
+abbrev pub Served : Search → List ℕ → List ℕ → List ℕ → Type 0
+Served which w lists ends = (P : Phase) × Seeks which w lists ends P
 
 -- there is one by which the record is sound: question 11
-abbrev pub ServedSound : Bool → List ℕ → List ℕ → List ℕ → Stored → Type 0
-ServedSound daily w lists ends r = (P : Phase) × Seeks daily w lists ends P × (soundStored P r ≡ true)
+abbrev pub ServedSound : Search → List ℕ → List ℕ → List ℕ → Stored → Type 0
+ServedSound which w lists ends r = (P : Phase) × Seeks which w lists ends P × (soundStored P r ≡ true)
 
 -- the answers of an advance that ended so, of the phase P
 abbrev pub answerWith : Phase → Stored → ℕ → ℕ → Ending → Answer

@@ -4,7 +4,7 @@ pub mod tries;
 
 use best::Best;
 use removals::Removal;
-use tries::Plan;
+use tries::Stretches;
 ghost use mathlib.Core.Path.{_≡_};
 ghost use mathlib.Core.Bool.{true};
 ghost use Prim.Native.Nat.{ℕ, _+_, _<_, _≤_};
@@ -100,15 +100,15 @@ impl Record {
         requires { ⌜ (tl ≤ 64) × (nurse < 48) × (self .steps < 1000000) ⌝ }
         ensures { λ r. ⌜ r ≡ exchangedIn tl self nurse pattern ⌝ }
     {
-        let away = self.removal_by(nurse);
+        let removal = self.removal_by(nurse);
         let old = self.removals;
-        let kept = removals::push(old, tl, self.steps as usize, away);
-        let mut next = self;
-        next.patterns[nurse] = pattern;
-        next.placed[nurse] = true;
-        next.removals = kept;
-        next.steps = next.steps + 1;
-        next
+        let pushed = removals::push(old, tl, self.steps as usize, removal);
+        let mut after = self;
+        after.patterns[nurse] = pattern;
+        after.placed[nurse] = true;
+        after.removals = pushed;
+        after.steps = after.steps + 1;
+        after
     }
 
     // Whether every field that m nurses and the removals held leave unused is 0. That its arrays have their lengths is told with it.
@@ -127,13 +127,13 @@ impl Record {
 
 impl Record {
     // One step, if there is an exchange to make.
-    pub fn step(self, w: &[u64], lists: &[u32], plan: Plan) -> Stepped
-        requires { ⌜ Accepted (now w) × Lists (plan .daily) (now w) (now lists) (plan .ends) × (self .steps < 1000000) ⌝ }
-        requires { ⌜ Served (plan .daily) (now w) (now lists) (plan .ends) ⌝ }
-        ensures { λ x. ⌜ ((P : Phase) → Seeks (plan .daily) (now (w .entry)) (now (lists .entry)) (plan .ends) P → x ≡ steppedOf P self) ⌝ }
+    pub fn step(self, w: &[u64], lists: &[u32], stretches: Stretches) -> Stepped
+        requires { ⌜ Accepted (now w) × Lists (stretches .search) (now w) (now lists) (stretches .ends) × (self .steps < 1000000) ⌝ }
+        requires { ⌜ Served (stretches .search) (now w) (now lists) (stretches .ends) ⌝ }
+        ensures { λ x. ⌜ ((P : Phase) → Seeks (stretches .search) (now (w .entry)) (now (lists .entry)) (stretches .ends) P → x ≡ steppedOf P self) ⌝ }
     {
         let tl = fields::tabu(w);
-        let best = tries::best_of(w, lists, plan, self);
+        let best = tries::best_of(w, lists, stretches, self);
         match best {
             Best::Nothing => Stepped {
                 moved: false,
@@ -151,19 +151,19 @@ impl Record {
     }
 
     // Up to k steps.
-    pub fn advance(self, w: &[u64], lists: &[u32], plan: Plan, k: u32) -> Advanced
-        requires { ⌜ Accepted (now w) × Lists (plan .daily) (now w) (now lists) (plan .ends) × (self .steps + k ≤ 1000000) ⌝ }
-        requires { ⌜ ServedSound (plan .daily) (now w) (now lists) (plan .ends) self ⌝ }
-        ensures { λ x. ⌜ ((P : Phase) → Seeks (plan .daily) (now (w .entry)) (now (lists .entry)) (plan .ends) P → soundStored P self ≡ true → replyStored P k self ≡ (answerOf P x, x .after)) ⌝ }
+    pub fn advance(self, w: &[u64], lists: &[u32], stretches: Stretches, k: u32) -> Advanced
+        requires { ⌜ Accepted (now w) × Lists (stretches .search) (now w) (now lists) (stretches .ends) × (self .steps + k ≤ 1000000) ⌝ }
+        requires { ⌜ ServedSound (stretches .search) (now w) (now lists) (stretches .ends) self ⌝ }
+        ensures { λ x. ⌜ ((P : Phase) → Seeks (stretches .search) (now (w .entry)) (now (lists .entry)) (stretches .ends) P → soundStored P self ≡ true → replyStored P k self ≡ (answerOf P x, x .after)) ⌝ }
     {
-        let daily = plan.daily;
-        let mut kept = self;
+        let search = stretches.search;
+        let mut after = self;
         let mut made: u32 = 0;
         loop {
-            let penalty = slots::penalty_of(w, kept, daily);
+            let penalty = slots::penalty_of(w, after, search);
             if penalty == 0 {
                 return Advanced {
-                    after: kept,
+                    after,
                     penalty: 0,
                     steps: made,
                     ending: Ending::Zero,
@@ -171,23 +171,22 @@ impl Record {
             }
             if made == k {
                 return Advanced {
-                    after: kept,
-                    penalty: penalty,
+                    after,
+                    penalty,
                     steps: made,
                     ending: Ending::Asked,
                 };
             }
-            let next = kept.step(w, lists, plan);
+            let next = after.step(w, lists, stretches);
             if !next.moved {
                 return Advanced {
-                    after: kept,
-                    penalty: penalty,
+                    after,
+                    penalty,
                     steps: made,
                     ending: Ending::None,
                 };
             }
-            let after = next.after;
-            kept = after;
+            after = next.after;
             made += 1;
         }
     }

@@ -1,5 +1,6 @@
 // What a record's slots count on: everyone's columns and the penalty.
 use crate::Record;
+use history::Search;
 use penalty::columns::Columns;
 ghost use mathlib.Core.Path.{_≡_};
 ghost use mathlib.Core.Bool.{false, not};
@@ -31,46 +32,48 @@ fn marked_days(b: &[u64], n: usize, mark: u64) -> u32
 }
 
 // Nurse i's pattern, or while she is unplaced her marks 3 by night and her marks 2 by day.
-fn pattern_in(w: &[u64], rec: Record, i: usize, daily: bool) -> u32
+fn pattern_in(w: &[u64], rec: Record, i: usize, search: Search) -> u32
     requires { ⌜ Accepted (now w) × (i < nurses (now w)) ⌝ }
-    ensures { λ r. ⌜ r ≡ patternFor daily (now (w .entry)) i (slotAt rec i) ⌝ }
+    ensures { λ r. ⌜ r ≡ patternFor search (now (w .entry)) i (slotAt rec i) ⌝ }
 {
     if rec.placed[i] {
         return rec.patterns[i];
     }
     let n = fields::days(w);
     let b = fields::block(w, i);
-    if daily {
-        return marked_days(b, n, 2);
+    match search {
+        Search::Nights => marked_days(b, n, 3),
+        Search::Days => marked_days(b, n, 2),
     }
-    marked_days(b, n, 3)
 }
 
 // The columns of the nurses before i, with nurse i.
-fn with_row(cols: Columns, w: &[u64], rec: Record, i: usize, daily: bool) -> Columns
+fn with_row(cols: Columns, w: &[u64], rec: Record, i: usize, search: Search) -> Columns
     requires { ⌜ Accepted (now w) × (i < nurses (now w)) ⌝ }
-    ensures { λ r. ⌜ ((slots : ℕ → Slot) → slots i ≡ slotAt rec i → Shown daily (now (w .entry)) slots i cols → Shown daily (now (w .entry)) slots (i + 1) r) ⌝ }
+    ensures { λ r. ⌜ ((slots : ℕ → Slot) → slots i ≡ slotAt rec i → Shown search (now (w .entry)) slots i cols → Shown search (now (w .entry)) slots (i + 1) r) ⌝ }
 {
     let n = fields::days(w);
-    let p = pattern_in(w, rec, i, daily);
-    if daily {
-        return cols.with_nurse(n, i, 0, p);
+    let p = pattern_in(w, rec, i, search);
+    match search {
+        Search::Nights => {
+            let masks = own::masks::masks_of(w, i);
+            let free = own::masks::available_days(masks, p);
+            cols.with_nurse(n, i, p, free)
+        }
+        Search::Days => cols.with_nurse(n, i, 0, p),
     }
-    let m = own::masks::masks_of(w, i);
-    let free = own::masks::available_days(m, p);
-    cols.with_nurse(n, i, p, free)
 }
 
 // Everyone's columns.
-pub(crate) fn columns(w: &[u64], rec: Record, daily: bool) -> Columns
+pub(crate) fn columns(w: &[u64], rec: Record, search: Search) -> Columns
     requires { ⌜ Accepted (now w) ⌝ }
-    ensures { λ r. ⌜ ((slots : ℕ → Slot) → Agree (now (w .entry)) rec slots → Shown daily (now (w .entry)) slots (nurses (now (w .entry))) r) ⌝ }
+    ensures { λ r. ⌜ ((slots : ℕ → Slot) → Agree (now (w .entry)) rec slots → Shown search (now (w .entry)) slots (nurses (now (w .entry))) r) ⌝ }
 {
     let m = fields::nurses(w);
     let mut cols = Columns::empty();
     let mut i: usize = 0;
     while i < m {
-        cols = with_row(cols, w, rec, i, daily);
+        cols = with_row(cols, w, rec, i, search);
         i += 1;
     }
     cols
@@ -95,13 +98,13 @@ pub(crate) fn unplaced(rec: Record, m: usize) -> u64
 }
 
 // The penalty of a record.
-pub fn penalty_of(w: &[u64], rec: Record, daily: bool) -> u64
+pub fn penalty_of(w: &[u64], rec: Record, search: Search) -> u64
     requires { ⌜ Accepted (now w) ⌝ }
-    ensures { λ r. ⌜ ((slots : ℕ → Slot) → Agree (now (w .entry)) rec slots → r ≡ costOf daily (now (w .entry)) slots) ⌝ }
+    ensures { λ r. ⌜ ((slots : ℕ → Slot) → Agree (now (w .entry)) rec slots → r ≡ costOf search (now (w .entry)) slots) ⌝ }
 {
     let m = fields::nurses(w);
-    let cols = columns(w, rec, daily);
-    let waiting = unplaced(rec, m);
-    let parts = penalty::parts(w, cols, waiting, daily);
+    let cols = columns(w, rec, search);
+    let unplaced = unplaced(rec, m);
+    let parts = penalty::parts(w, cols, unplaced, search);
     parts.total()
 }

@@ -2,6 +2,7 @@
 use crate::Record;
 use crate::slots;
 use best::Best;
+use history::Search;
 use own::masks::Masks;
 use penalty::Penalty;
 use penalty::columns::Columns;
@@ -21,8 +22,8 @@ ghost use Rattle.best.specs.CodeBest.{considered, overList, costIn, bestOver};
 ghost use Rattle.search.specs.CodeSeek.{Lists, NurseNeeds, NightsNeeds, Seeks};
 
 // Which search it is, and by day where each nurse's stretch of the lists ends.
-pub struct Plan {
-    pub daily: bool,
+pub struct Stretches {
+    pub search: Search,
     pub ends: [usize; 49],
 }
 
@@ -99,16 +100,16 @@ fn over_nights(
 }
 
 // The unplaced nurses besides nurse i.
-fn others_than(rec: Record, waiting: u64, i: usize) -> u64
+fn others_than(rec: Record, unplaced: u64, i: usize) -> u64
     requires { ⌜ i < 48 ⌝ }
-    ensures is { λ r. ⌜ ((a : ℕ) → waiting ≡ a + oneIf (not (getD (rec .placed) i false)) → r ≡ a) ⌝ }
-    ensures most { λ r. ⌜ r ≤ waiting ⌝ }
+    ensures is { λ r. ⌜ ((a : ℕ) → unplaced ≡ a + oneIf (not (getD (rec .placed) i false)) → r ≡ a) ⌝ }
+    ensures most { λ r. ⌜ r ≤ unplaced ⌝ }
 {
     if rec.placed[i] {
-        return waiting;
+        return unplaced;
     }
-    if 0 < waiting {
-        return waiting - 1;
+    if 0 < unplaced {
+        return unplaced - 1;
     }
     0
 }
@@ -117,41 +118,46 @@ fn others_than(rec: Record, waiting: u64, i: usize) -> u64
 fn over_nurse(
     w: &[u64],
     lists: &[u32],
-    plan: Plan,
+    stretches: Stretches,
     cols: Columns,
-    waiting: u64,
+    unplaced: u64,
     rec: Record,
     i: usize,
     held: Best,
 ) -> Best
-    requires { ⌜ NurseNeeds (plan .daily) (now w) (now lists) (plan .ends) cols waiting rec i ⌝ }
-    ensures { λ r. ⌜ ((P : Phase) → Seeks (plan .daily) (now (w .entry)) (now (lists .entry)) (plan .ends) P → r ≡ overList (mayTake (viewOf P rec) i) (costIn P (viewOf P rec) i) i held (P .patterns i)) ⌝ }
+    requires { ⌜ NurseNeeds (stretches .search) (now w) (now lists) (stretches .ends) cols unplaced rec i ⌝ }
+    ensures { λ r. ⌜ ((P : Phase) → Seeks (stretches .search) (now (w .entry)) (now (lists .entry)) (stretches .ends) P → r ≡ overList (mayTake (viewOf P rec) i) (costIn P (viewOf P rec) i) i held (P .patterns i)) ⌝ }
 {
-    let daily = plan.daily;
+    let search = stretches.search;
     let tl = fields::tabu(w);
-    let t = trials::table(w, cols, i, daily);
-    let others = others_than(rec, waiting, i);
-    if daily {
-        let a = plan.ends[i];
-        let e = plan.ends[i + 1];
-        return over_days(&lists[a..e], &t, others, rec, tl, i, held);
+    let t = trials::table(w, cols, i, search);
+    let others = others_than(rec, unplaced, i);
+    match search {
+        Search::Nights => {
+            let masks = own::masks::masks_of(w, i);
+            over_nights(w, lists, masks, &t, others, rec, tl, i, held)
+        }
+        Search::Days => {
+            let a = stretches.ends[i];
+            let e = stretches.ends[i + 1];
+            over_days(&lists[a..e], &t, others, rec, tl, i, held)
+        }
     }
-    let masks = own::masks::masks_of(w, i);
-    over_nights(w, lists, masks, &t, others, rec, tl, i, held)
 }
 
 // The exchange that a step takes.
-pub(crate) fn best_of(w: &[u64], lists: &[u32], plan: Plan, rec: Record) -> Best
-    requires { ⌜ Accepted (now w) × Lists (plan .daily) (now w) (now lists) (plan .ends) ⌝ }
-    ensures { λ r. ⌜ ((P : Phase) → Seeks (plan .daily) (now (w .entry)) (now (lists .entry)) (plan .ends) P → r ≡ bestOver P (viewOf P rec) (P .nurses)) ⌝ }
+pub(crate) fn best_of(w: &[u64], lists: &[u32], stretches: Stretches, rec: Record) -> Best
+    requires { ⌜ Accepted (now w) × Lists (stretches .search) (now w) (now lists) (stretches .ends) ⌝ }
+    ensures { λ r. ⌜ ((P : Phase) → Seeks (stretches .search) (now (w .entry)) (now (lists .entry)) (stretches .ends) P → r ≡ bestOver P (viewOf P rec) (P .nurses)) ⌝ }
 {
+    let search = stretches.search;
     let m = fields::nurses(w);
-    let cols = slots::columns(w, rec, plan.daily);
-    let waiting = slots::unplaced(rec, m);
+    let cols = slots::columns(w, rec, search);
+    let unplaced = slots::unplaced(rec, m);
     let mut best = Best::Nothing;
     let mut i: usize = 0;
     while i < m {
-        best = over_nurse(w, lists, plan, cols, waiting, rec, i, best);
+        best = over_nurse(w, lists, stretches, cols, unplaced, rec, i, best);
         i += 1;
     }
     best

@@ -22,6 +22,8 @@ use Rattle.penalty.specs.declared.duty.Weights.{Weights}
 use Rattle.trials.specs.declared.pairs.Pair.{Pair}
 use Rattle.trials.specs.declared.costs.Costs.{Costs}
 use Rattle.trials.specs.declared.costs.Three.{Three}
+use Rattle.history.specs.declared.Search.{Search}
+use Rattle.history.specs.declared.Search.the-variants.{Nights, Days}
 use Rattle.history.specs.Slot.{Slot}
 use Rattle.penalty.specs.Penalty.{shortOn, overOn, exchanged, atNight, free, atDay, nightParts, dayParts}
 use Rattle.penalty.specs.CodeColumns.{Shows}
@@ -49,7 +51,7 @@ wider h = record { is = h .is; most = omega (arith, h .most) }
 pub night-three : (w : List ℕ) (d i night day : ℕ) {a b : Pair}
     → Tells a (λ x. dutyCost (weightsOf w 0) (masks w) (needs w d) 0 (put (has night) i x)) 185600
     → Tells b (λ x. dutyCost (noHigh (weightsOf w 1)) (masks w) (needs w d) 1 (put (has day) i x)) 185600
-    → Entries false w d i night day (record { night = a .on + b .off; free = a .off + b .on; none = a .off + b .off })
+    → Entries Nights w d i night day (record { night = a .on + b .off; free = a .off + b .on; none = a .off + b .off })
 unfolding dayWith
 night-three w d i night day x y = record {
   at-night = both (x .on-is) (y .off-is);
@@ -59,13 +61,13 @@ night-three w d i night day x y = record {
 
 pub day-three : (w : List ℕ) (d i day : ℕ) {b : Pair}
     → Tells b (λ x. dutyCost (weightsOf w 1) (masks w) (needs w d) 1 (put (has day) i x)) 185600
-    → (night : ℕ) → Entries true w d i night day (record { night = b .off; free = b .on; none = b .off })
+    → (night : ℕ) → Entries Days w d i night day (record { night = b .off; free = b .on; none = b .off })
 unfolding dayWith
 day-three w d i day y night = record { at-night = wider (y .off-is); at-free = wider (y .on-is); at-none = wider (y .off-is) }
 
--- in the search that the flag says
-pub entries-as : (daily b : Bool) (w : List ℕ) (d i night day : ℕ) {r : Three} → daily ≡ b → Entries b w d i night day r → Entries daily w d i night day r
-entries-as daily b w d i night day {r} e h = subst (λ (x : Bool). Entries x w d i night day r) (sym e) h
+-- in the search that was told
+pub entries-as : (which b : Search) (w : List ℕ) (d i night day : ℕ) {r : Three} → which ≡ b → Entries b w d i night day r → Entries which w d i night day r
+entries-as which b w d i night day {r} e h = subst (λ (x : Search). Entries x w d i night day r) (sym e) h
 
 -- ---- filling the table
 
@@ -94,22 +96,22 @@ fill-small l f b d p e = go (decLt e d)
     go (no q) = omega (arith, p .left e (omega arith))
 
 -- what a day costs on these columns with nurse i in a state
-unfoldable pub entryAt : Bool → List ℕ → Columns → ℕ → Bool → Bool → ℕ → ℕ
-entryAt daily w c i a b d = dayWith daily w d i a b (getD (c .night) d 0) (getD (c .day) d 0)
+unfoldable pub entryAt : Search → List ℕ → Columns → ℕ → Bool → Bool → ℕ → ℕ
+entryAt which w c i a b d = dayWith which w d i a b (getD (c .night) d 0) (getD (c .day) d 0)
 
 -- the table filled up to d
-pub record Table (daily : Bool) (w : List ℕ) (c : Columns) (i n d : ℕ) (t : Costs) : Type 0 where
+pub record Table (which : Search) (w : List ℕ) (c : Columns) (i n d : ℕ) (t : Costs) : Type 0 where
   pub inside : d ≤ n
-  pub nights : Filled (t .night) (entryAt daily w c i true false) 371200 d
-  pub frees : Filled (t .free) (entryAt daily w c i false true) 371200 d
-  pub nones : Filled (t .none) (entryAt daily w c i false false) 371200 d
+  pub nights : Filled (t .night) (entryAt which w c i true false) 371200 d
+  pub frees : Filled (t .free) (entryAt which w c i false true) 371200 d
+  pub nones : Filled (t .none) (entryAt which w c i false false) 371200 d
 
-module _ (daily : Bool) (w : List ℕ) (c : Columns) (i n : ℕ) where
-  pub table-start : Table daily w c i n 0 (record { night = replicate 33 0; free = replicate 33 0; none = replicate 33 0 })
+module _ (which : Search) (w : List ℕ) (c : Columns) (i n : ℕ) where
+  pub table-start : Table which w c i n 0 (record { night = replicate 33 0; free = replicate 33 0; none = replicate 33 0 })
   table-start = record { inside = omega arith; nights = fill-start _ _; frees = fill-start _ _; nones = fill-start _ _ }
 
-  pub table-turn : (d : ℕ) (t : Costs) {r : Three} → Table daily w c i n d t → d < n → n ≤ 31 → Entries daily w d i (getD (c .night) d 0) (getD (c .day) d 0) r
-      → Table daily w c i n (d + 1) (record { night = set (t .night) d (r .night); free = set (t .free) d (r .free); none = set (t .none) d (r .none) })
+  pub table-turn : (d : ℕ) (t : Costs) {r : Three} → Table which w c i n d t → d < n → n ≤ 31 → Entries which w d i (getD (c .night) d 0) (getD (c .day) d 0) r
+      → Table which w c i n (d + 1) (record { night = set (t .night) d (r .night); free = set (t .free) d (r .free); none = set (t .none) d (r .none) })
   unfolding entryAt
   table-turn d t k l m r =
       let low : d < 31 = omega arith in
@@ -125,9 +127,9 @@ all-zero true b h k l = h
 all-zero false true h k l = k
 all-zero false false h k l = l
 
-pub table-small : (daily : Bool) (w : List ℕ) (c : Columns) (i : ℕ) (t : Costs) {n d m : ℕ} → Table daily w c i n d t → n ≤ d → n ≡ m → m ≤ 31 → Small t m
+pub table-small : (which : Search) (w : List ℕ) (c : Columns) (i : ℕ) (t : Costs) {n d m : ℕ} → Table which w c i n d t → n ≤ d → n ≡ m → m ≤ 31 → Small t m
 unfolding trialAt
-table-small daily w c i t {n} {d} {m} k l e q = record {
+table-small which w c i t {n} {d} {m} k l e q = record {
   at-most = q;
   night-small = fill-small _ _ _ _ (k .nights);
   free-small = fill-small _ _ _ _ (k .frees);
@@ -147,8 +149,8 @@ state-is f false false h ex ey ez = ez
 
 module _ (w : List ℕ) (c : Columns) (i : ℕ) (slots : ℕ → Slot) (a : Accepted w) (l : i < nurses w) where
   -- by night
-  night-cost : Shows false w slots c → (p d : ℕ) → d < days w
-      → entryAt false w c i (has p d) (availableOn (block w i) p (suc d)) d
+  night-cost : Shows Nights w slots c → (p d : ℕ) → d < days w
+      → entryAt Nights w c i (has p d) (availableOn (block w i) p (suc d)) d
       ≡ (shortOn w 0 (atNight w (exchanged slots i p) d) d + shortOn w 1 (free w (exchanged slots i p) d) d) + overOn w 0 (atNight w (exchanged slots i p) d) d
   unfolding entryAt dayWith
   night-cost s p d h =
@@ -165,22 +167,22 @@ module _ (w : List ℕ) (c : Columns) (i : ℕ) (slots : ℕ → Slot) (a : Acce
         short-same w a 1 d g _ y,
       )
 
-  night-trials : (t : Costs) {n e : ℕ} → Table false w c i n e t → n ≤ e → n ≡ days w → Shows false w slots c → TrialsNight w slots i t
+  night-trials : (t : Costs) {n e : ℕ} → Table Nights w c i n e t → n ≤ e → n ≡ days w → Shows Nights w slots c → TrialsNight w slots i t
   unfolding trialOf trialAt nightParts
   night-trials t {n} {e} k q m s = record {
     afresh = λ p set g.
         sum-ext (days w) _ _ (λ d h.
         let b : d < e = omega arith in
         ap (λ (x : Bool). cond (has p d) (getD (t .night) d 0) (cond x (getD (t .free) d 0) (getD (t .none) d 0))) (g d h)
-        ∙ state-is (λ x y. entryAt false w c i x y d) (has p d) (availableOn (block w i) p (suc d)) (started-busy (block w i) p d)
+        ∙ state-is (λ x y. entryAt Nights w c i x y d) (has p d) (availableOn (block w i) p (suc d)) (started-busy (block w i) p d)
         (k .nights .done d b .is) (k .frees .done d b .is) (k .nones .done d b .is)
         ∙ night-cost s p d h)
         ∙ sum-add (days w) _ _;
   }
 
   -- by day
-  day-cost : Shows true w slots c → (q d : ℕ) → d < days w
-      → entryAt true w c i false (has q d) d ≡ shortOn w 1 (atDay w (exchanged slots i q) d) d + overOn w 1 (atDay w (exchanged slots i q) d) d
+  day-cost : Shows Days w slots c → (q d : ℕ) → d < days w
+      → entryAt Days w c i false (has q d) d ≡ shortOn w 1 (atDay w (exchanged slots i q) d) d + overOn w 1 (atDay w (exchanged slots i q) d) d
   unfolding entryAt dayWith
   day-cost s q d h =
       let f = put (has (getD (c .day) d 0)) i (has q d) in
@@ -194,17 +196,17 @@ module _ (w : List ℕ) (c : Columns) (i : ℕ) (slots : ℕ → Slot) (a : Acce
   nothing : (d : ℕ) → has 0 d ≡ false
   nothing d = rw (bit-of-zero d)
 
-  day-trials : (t : Costs) {n e : ℕ} → Table true w c i n e t → n ≤ e → n ≡ days w → Shows true w slots c → TrialsDay w slots i t
+  day-trials : (t : Costs) {n e : ℕ} → Table Days w c i n e t → n ≤ e → n ≡ days w → Shows Days w slots c → TrialsDay w slots i t
   unfolding trialOf trialAt dayParts
   day-trials t {n} {e} k r m s = record {
     afresh = λ q.
         sum-ext (days w) _ _ (λ d h.
         let b : d < e = omega arith in
-        worked-is (λ x. entryAt true w c i false x d) (has 0 d) (has q d) (getD (t .night) d 0) (nothing d) (k .frees .done d b .is) (k .nones .done d b .is)
+        worked-is (λ x. entryAt Days w c i false x d) (has 0 d) (has q d) (getD (t .night) d 0) (nothing d) (k .frees .done d b .is) (k .nones .done d b .is)
         ∙ day-cost s q d h)
         ∙ sum-add (days w) _ _;
   }
 
-  pub table-trials : (daily : Bool) (t : Costs) {n e : ℕ} → Table daily w c i n e t → n ≤ e → n ≡ days w → Shows daily w slots c → Trials daily w slots i t
-  table-trials false t k q m s = night-trials t k q m s
-  table-trials true t k q m s = day-trials t k q m s
+  pub table-trials : (which : Search) (t : Costs) {n e : ℕ} → Table which w c i n e t → n ≤ e → n ≡ days w → Shows which w slots c → Trials which w slots i t
+  table-trials Nights t k q m s = night-trials t k q m s
+  table-trials Days t k q m s = day-trials t k q m s

@@ -1,7 +1,8 @@
 -- A nurse's table with its sums, in either search.
-use mathlib.Core.Bool.{Bool, true, false}
 use mathlib.Core.List.{List}
 use Prim.Native.Nat.{ℕ}
+use Rattle.history.specs.declared.Search.{Search}
+use Rattle.history.specs.declared.Search.the-variants.{Nights, Days}
 use Rattle.history.specs.Slot.{Slot}
 use Rattle.fields.specs.Fields.{days}
 use Rattle.penalty.specs.declared.columns.Columns.{Columns}
@@ -11,6 +12,6 @@ use Rattle.trials.specs.CodeCosts.{Trials, Small, Chunks}
 use Rattle.trials.specs.CodeTables.{Tables}
 
 module _ (w : List ℕ) (cols : Columns) (i : ℕ) {c : Costs} {t : List ℕ} (small : Small c (days w)) (sums : Chunks c t) where
-  pub tables : (daily : Bool) → ((l : ℕ → Slot) → Shows daily w l cols → Trials daily w l i c) → Tables daily w cols i t
-  tables false f slots s = record { started = λ p free y. (c, days w, small, sums, f slots s .afresh p free y) }
-  tables true f slots s = record { worked = λ q. (c, days w, small, sums, f slots s .afresh q) }
+  pub tables : (which : Search) → ((l : ℕ → Slot) → Shows which w l cols → Trials which w l i c) → Tables which w cols i t
+  tables Nights f slots s = record { started = λ p free y. (c, days w, small, sums, f slots s .afresh p free y) }
+  tables Days f slots s = record { worked = λ q. (c, days w, small, sums, f slots s .afresh q) }

@@ -1,6 +1,6 @@
 -- A nurse's table: what each day costs with her at night, available, or neither, all others as they are.
 use mathlib.Core.Path.{_≡_}
-use mathlib.Core.Bool.{Bool, true, false, cond}
+use mathlib.Core.Bool.{cond}
 use mathlib.Core.List.{List}
 use Prim.Native.Nat.{ℕ, _+_, _*_, _/_, _%_, _≤_, _<_}
 use lib.ListN.{getD}
@@ -8,6 +8,8 @@ use Rattle.numbers.specs.Sum.{sumTo, Is}
 use Rattle.numbers.specs.Digits.{has}
 use Rattle.fields.specs.Fields.{days}
 use Rattle.trials.specs.declared.costs.Costs.{Costs}
+use Rattle.history.specs.declared.Search.{Search}
+use Rattle.history.specs.declared.Search.the-variants.{Nights, Days}
 use Rattle.history.specs.Slot.{Slot}
 use Rattle.penalty.specs.Penalty.{rest, exchanged, nightParts, dayParts}
 use Rattle.penalty.specs.CodeColumns.{Frees}
@@ -36,10 +38,10 @@ pub record TrialsNight (w : List ℕ) (slots : ℕ → Slot) (i : ℕ) (c : Cost
 pub record TrialsDay (w : List ℕ) (slots : ℕ → Slot) (i : ℕ) (c : Costs) : Type 0 where
   pub afresh : (q : ℕ) → trialOf c (days w) 0 q ≡ rest (dayParts w (exchanged slots i q))
 
--- by night (false) or by day (true)
-abbrev pub Trials : Bool → List ℕ → (ℕ → Slot) → ℕ → Costs → Type 0
-Trials false w slots i c = TrialsNight w slots i c
-Trials true w slots i c = TrialsDay w slots i c
+-- by night or by day
+abbrev pub Trials : Search → List ℕ → (ℕ → Slot) → ℕ → Costs → Type 0
+Trials Nights w slots i c = TrialsNight w slots i c
+Trials Days w slots i c = TrialsDay w slots i c
 
 -- ---- sums over three days at a time
 

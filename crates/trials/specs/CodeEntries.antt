@@ -4,6 +4,8 @@ use mathlib.Core.Bool.{Bool, true, false}
 use mathlib.Core.List.{List}
 use Prim.Native.Nat.{ℕ, _+_, _≤_, _<_}
 use lib.ListN.{length, getD}
+use Rattle.history.specs.declared.Search.{Search}
+use Rattle.history.specs.declared.Search.the-variants.{Nights, Days}
 use Rattle.numbers.specs.Sum.{Is}
 use Rattle.numbers.specs.Digits.{has, put}
 use Rattle.fields.specs.Fields.{masks, needs}
@@ -18,19 +20,19 @@ pub record Tells (r : Pair) (f : Bool → ℕ) (b : ℕ) : Type 0 where
 
 -- ---- a nurse's table
 
--- A day on its two columns, with nurse i at night or not (a), and available or not (b), in the night search (false);
--- in the day search (true) with her working or not (b).
-unfoldable pub dayWith : Bool → List ℕ → ℕ → ℕ → Bool → Bool → ℕ → ℕ → ℕ
-dayWith false w d i a b night day =
+-- A day on its two columns, with nurse i at night or not (a), and available or not (b), in the night search;
+-- in the day search with her working or not (b).
+unfoldable pub dayWith : Search → List ℕ → ℕ → ℕ → Bool → Bool → ℕ → ℕ → ℕ
+dayWith Nights w d i a b night day =
     dutyCost (weightsOf w 0) (masks w) (needs w d) 0 (put (has night) i a)
     + dutyCost (noHigh (weightsOf w 1)) (masks w) (needs w d) 1 (put (has day) i b)
-dayWith true w d i a b night day = dutyCost (weightsOf w 1) (masks w) (needs w d) 1 (put (has day) i b)
+dayWith Days w d i a b night day = dutyCost (weightsOf w 1) (masks w) (needs w d) 1 (put (has day) i b)
 
 -- the three entries of a day
-pub record Entries (daily : Bool) (w : List ℕ) (d i night day : ℕ) (t : Three) : Type 0 where
-  pub at-night : Is (t .night) (dayWith daily w d i true false night day) 371200
-  pub at-free : Is (t .free) (dayWith daily w d i false true night day) 371200
-  pub at-none : Is (t .none) (dayWith daily w d i false false night day) 371200
+pub record Entries (which : Search) (w : List ℕ) (d i night day : ℕ) (t : Three) : Type 0 where
+  pub at-night : Is (t .night) (dayWith which w d i true false night day) 371200
+  pub at-free : Is (t .free) (dayWith which w d i false true night day) 371200
+  pub at-none : Is (t .none) (dayWith which w d i false false night day) 371200
 
 -- the first d places of l hold f, each at most b, and the others 0
 pub record Filled (l : List ℕ) (f : ℕ → ℕ) (b d : ℕ) : Type 0 where

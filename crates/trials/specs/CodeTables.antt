@@ -1,8 +1,9 @@
 -- What a nurse's trials come to, by the sums of her table.
 use mathlib.Core.Path.{_≡_}
-use mathlib.Core.Bool.{Bool, true, false}
 use mathlib.Core.List.{List}
 use Prim.Native.Nat.{ℕ}
+use Rattle.history.specs.declared.Search.{Search}
+use Rattle.history.specs.declared.Search.the-variants.{Nights, Days}
 use Rattle.history.specs.Slot.{Slot}
 use Rattle.penalty.specs.declared.columns.Columns.{Columns}
 use Rattle.penalty.specs.Penalty.{rest, exchanged, partsIn}
@@ -21,11 +22,11 @@ pub record DayTrials (t : List ℕ) (cost : ℕ → ℕ) : Type 0 where
 pub record NightTrials (w : List ℕ) (i : ℕ) (t : List ℕ) (cost : ℕ → ℕ) : Type 0 where
   pub started : (p free : ℕ) → Frees w i p free → tableTrial t p free (cost p)
 
--- by night (false) or by day (true)
-abbrev pub TableTrials : Bool → List ℕ → ℕ → List ℕ → (ℕ → ℕ) → Type 0
-TableTrials false w i t cost = NightTrials w i t cost
-TableTrials true w i t cost = DayTrials t cost
+-- by night or by day
+abbrev pub TableTrials : Search → List ℕ → ℕ → List ℕ → (ℕ → ℕ) → Type 0
+TableTrials Nights w i t cost = NightTrials w i t cost
+TableTrials Days w i t cost = DayTrials t cost
 
 -- her table, all others as the columns show them: a trial is what is short and over, counted afresh after the exchange
-abbrev pub Tables : Bool → List ℕ → Columns → ℕ → List ℕ → Type 0
-Tables daily w cols i t = (slots : ℕ → Slot) → Shows daily w slots cols → TableTrials daily w i t (λ p. rest (partsIn daily w (exchanged slots i p)))
+abbrev pub Tables : Search → List ℕ → Columns → ℕ → List ℕ → Type 0
+Tables which w cols i t = (slots : ℕ → Slot) → Shows which w slots cols → TableTrials which w i t (λ p. rest (partsIn which w (exchanged slots i p)))

@@ -1,10 +1,11 @@
 // A nurse's table: what each day costs in each of her three states, from which a trial is a sum.
 use crate::pairs;
+use history::Search;
 use penalty::columns::Columns;
 use penalty::weights;
-ghost use mathlib.Core.Bool.{true, false};
 ghost use Prim.Native.Nat.{ℕ, _<_};
 ghost use Rattle.fields.specs.Fields.{Accepted, nurses, days};
+ghost use Rattle.history.specs.declared.Search.the-variants.{Nights, Days};
 ghost use Rattle.history.specs.Slot.{Slot};
 ghost use Rattle.penalty.specs.CodeColumns.{Shows};
 ghost use Rattle.trials.specs.CodeCosts.{Small, Trials};
@@ -28,7 +29,7 @@ pub struct Three {
 // A day by night.
 fn night_day(w: &[u64], d: usize, i: usize, night: u64, day: u64) -> Three
     requires { ⌜ Accepted (now w) × (d < days (now w)) × (i < 64) ⌝ }
-    ensures { λ r. ⌜ Entries false (now (w .entry)) d i night day r ⌝ }
+    ensures { λ r. ⌜ Entries Nights (now (w .entry)) d i night day r ⌝ }
 {
     let masks = fields::masks(w);
     let row = fields::needs(w, d);
@@ -44,7 +45,7 @@ fn night_day(w: &[u64], d: usize, i: usize, night: u64, day: u64) -> Three
 // A day by day.
 fn day_day(w: &[u64], d: usize, i: usize, day: u64) -> Three
     requires { ⌜ Accepted (now w) × (d < days (now w)) × (i < 64) ⌝ }
-    ensures { λ r. ⌜ ((night : ℕ) → Entries true (now (w .entry)) d i night day r) ⌝ }
+    ensures { λ r. ⌜ ((night : ℕ) → Entries Days (now (w .entry)) d i night day r) ⌝ }
 {
     let masks = fields::masks(w);
     let row = fields::needs(w, d);
@@ -57,21 +58,21 @@ fn day_day(w: &[u64], d: usize, i: usize, day: u64) -> Three
 }
 
 // A day in either search.
-fn on_day(w: &[u64], d: usize, i: usize, night: u64, day: u64, daily: bool) -> Three
+fn on_day(w: &[u64], d: usize, i: usize, night: u64, day: u64, search: Search) -> Three
     requires { ⌜ Accepted (now w) × (d < days (now w)) × (i < 64) ⌝ }
-    ensures { λ r. ⌜ Entries daily (now (w .entry)) d i night day r ⌝ }
+    ensures { λ r. ⌜ Entries search (now (w .entry)) d i night day r ⌝ }
 {
-    if daily {
-        return day_day(w, d, i, day);
+    match search {
+        Search::Nights => night_day(w, d, i, night, day),
+        Search::Days => day_day(w, d, i, day),
     }
-    night_day(w, d, i, night, day)
 }
 
 // The table of nurse i, by night or by day.
-pub(crate) fn nurse_costs(w: &[u64], cols: Columns, i: usize, daily: bool) -> Costs
+pub(crate) fn nurse_costs(w: &[u64], cols: Columns, i: usize, search: Search) -> Costs
     requires { ⌜ Accepted (now w) × (i < nurses (now w)) ⌝ }
     ensures small { λ r. ⌜ Small r (days (now (w .entry))) ⌝ }
-    ensures trials { λ r. ⌜ ((slots : ℕ → Slot) → Shows daily (now (w .entry)) slots cols → Trials daily (now (w .entry)) slots i r) ⌝ }
+    ensures trials { λ r. ⌜ ((slots : ℕ → Slot) → Shows search (now (w .entry)) slots cols → Trials search (now (w .entry)) slots i r) ⌝ }
 {
     let mut c = Costs {
         night: [0; 33],
@@ -80,7 +81,7 @@ pub(crate) fn nurse_costs(w: &[u64], cols: Columns, i: usize, daily: bool) -> Co
     };
     let n = fields::days(w);
     for d in 0..n {
-        let t = on_day(w, d, i, cols.night[d], cols.day[d], daily);
+        let t = on_day(w, d, i, cols.night[d], cols.day[d], search);
         c.night[d] = t.night;
         c.free[d] = t.free;
         c.none[d] = t.none;

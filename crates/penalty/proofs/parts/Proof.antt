@@ -9,10 +9,10 @@ use Rattle.penalty.proofs.parts.Statement.{statement}
 use Rattle.penalty.proofs.parts.Tie as tie
 
 abbrev Inv-loop : tie.InvT-loop
-Inv-loop w unplaced daily cols sum₀ n d₀ sum d = MonthSums daily w (cols .night) (cols .day) n d unplaced sum
+Inv-loop w unplaced which cols sum₀ n d₀ sum d = MonthSums which w (cols .night) (cols .day) n d unplaced sum
 
 abbrev μ-loop : tie.MeasureT-loop
-μ-loop w unplaced daily cols sum₀ n d₀ sum d = n - d
+μ-loop w unplaced which cols sum₀ n d₀ sum d = n - d
 
 fresh-requires : tie.Need-fresh-requires Inv-loop μ-loop
 fresh-requires c κs = search needs
@@ -21,7 +21,7 @@ days-requires : tie.Need-days-requires Inv-loop μ-loop
 days-requires c κs = search needs
 
 loop-holds : tie.Need-loop-holds Inv-loop μ-loop
-loop-holds c = month-start (c .before .before .before .args .daily) _ _ _ _ _ (ap (λ (p : Penalty). p .short) (c .before .fresh .ensures)) (ap (λ (p : Penalty). p .over) (c .before .fresh .ensures)) refl
+loop-holds c = month-start (c .before .before .before .args .search) _ _ _ _ _ (ap (λ (p : Penalty). p .short) (c .before .fresh .ensures)) (ap (λ (p : Penalty). p .over) (c .before .fresh .ensures)) refl
 
 mul-on-day : tie.Need-mul-on-day Inv-loop μ-loop
 mul-on-day c = search needs
@@ -51,12 +51,12 @@ loop-less : tie.Need-loop-less Inv-loop μ-loop
 loop-less c = search needs
 
 loop-again : tie.Need-loop-again Inv-loop μ-loop
-loop-again c = month-turn (c .before .before .before .before .before .before .before .before .before .before .before .before .args .daily) _ _ _ _ _ (c .before .before .before .before .before .before .before .before .loop .inv) (c .before .before .before .before .before .before .before .loop-test .taken) (c .before .before .before .before .on-day .ensures)
+loop-again c = month-turn (c .before .before .before .before .before .before .before .before .before .before .before .before .args .search) _ _ _ _ _ (c .before .before .before .before .before .before .before .before .loop .inv) (c .before .before .before .before .before .before .before .loop-test .taken) (c .before .before .before .before .on-day .ensures)
 
 returns : tie.Need-returns Inv-loop μ-loop
 returns c = (
-  month-bounded (c .before .before .before .before .before .args .daily) _ _ _ _ _ (c .before .loop .inv) (omega (arith, c .before .before .days .ensures .0, c .before .before .before .before .before .pre .0 .days-most)) (c .before .before .before .before .before .pre .1),
-  λ slots g q. month-is (c .before .before .before .before .before .args .w .now) (c .before .before .before .before .before .args .t2) (c .before .before .before .before .before .pre .0) slots (c .before .before .before .before .before .args .daily) (c .before .loop .inv) (c .loop-test .left) (c .before .before .days .ensures .0) g q,
+  month-bounded (c .before .before .before .before .before .args .search) _ _ _ _ _ (c .before .loop .inv) (omega (arith, c .before .before .days .ensures .0, c .before .before .before .before .before .pre .0 .days-most)) (c .before .before .before .before .before .pre .1),
+  λ slots g q. month-is (c .before .before .before .before .before .args .w .now) (c .before .before .before .before .before .args .t2) (c .before .before .before .before .before .pre .0) slots (c .before .before .before .before .before .args .search) (c .before .loop .inv) (c .loop-test .left) (c .before .before .days .ensures .0) g q,
 )
 
 pub parts-spec : {M : Type 1} → statement M

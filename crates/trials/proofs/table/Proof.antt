@@ -18,7 +18,7 @@ chunks-requires : tie.Need-chunks-requires
 chunks-requires c κs = subst (λ (k : ℕ). Small (c .nurse-costs .result) k) (sym (c .before .days .ensures .0)) (c .nurse-costs .ensures .0)
 
 returns : tie.Need-returns
-returns c = (chunks-small _ _ (c .chunks .ensures), tables (c .before .before .before .before .args .w .now) (c .before .before .before .before .args .cols) (c .before .before .before .before .args .i) (c .before .nurse-costs .ensures .0) (c .chunks .ensures) (c .before .before .before .before .args .daily) (c .before .nurse-costs .ensures .1))
+returns c = (chunks-small _ _ (c .chunks .ensures), tables (c .before .before .before .before .args .w .now) (c .before .before .before .before .args .cols) (c .before .before .before .before .args .i) (c .before .nurse-costs .ensures .0) (c .chunks .ensures) (c .before .before .before .before .args .search) (c .before .nurse-costs .ensures .1))
 
 pub table-spec : {M : Type 1} → statement M
 table-spec = tie.close (tie.spec days-requires nurse-costs-requires chunks-requires returns)

@@ -4,6 +4,15 @@ use borrow.Author.Needs.{needs}
 use Rattle.phases.proofs.questions.is_own.Statement.{statement}
 use Rattle.phases.proofs.questions.is_own.Tie as tie
 
+enum-told : tie.Need-enum-told
+enum-told c = search needs
+
+is-hers-requires : tie.Need-is-hers-requires
+is-hers-requires c κs = search needs
+
+enum-told-2 : tie.Need-enum-told-2
+enum-told-2 c = search needs
+
 mul-is-day-pattern : tie.Need-mul-is-day-pattern
 mul-is-day-pattern c = search needs
 
@@ -14,21 +23,20 @@ is-day-pattern-requires : tie.Need-is-day-pattern-requires
 is-day-pattern-requires c κs = search needs
 
 returns : tie.Need-returns
-returns c = own-day _ _ _ _ (c .before .before .if1 .taken) (c .is-day-pattern .ensures)
-
-is-hers-requires : tie.Need-is-hers-requires
-is-hers-requires c κs = search needs
+returns c = own-night _ _ _ _ (c .before .enum-told .given .1) (c .is-hers .ensures)
 
 returns-2 : tie.Need-returns-2
-returns-2 c = own-night _ _ _ _ (c .before .if1 .left) (c .is-hers .ensures)
+returns-2 c = own-day _ _ _ _ (c .before .before .enum-told2 .given .1) (c .is-day-pattern .ensures)
 
 pub is-own-spec : {M : Type 1} → statement M
 is-own-spec =
     tie.close
     (tie.spec
+    enum-told
+    is-hers-requires
+    enum-told-2
     mul-is-day-pattern
     element-copy-out-is-day-pattern
     is-day-pattern-requires
     returns
-    is-hers-requires
     returns-2)

@@ -12,10 +12,10 @@ use Rattle.phases.proofs.questions.removals_name.Statement.{statement}
 use Rattle.phases.proofs.questions.removals_name.Tie as tie
 
 abbrev Inv-loop : tie.InvT-loop
-Inv-loop w nights daily n list j₀ j = (j ≤ n) × (all (namesAt (phaseOf daily w nights) list) (upFrom 0 n) ≡ all (namesAt (phaseOf daily w nights) list) (upFrom j (n - j)))
+Inv-loop w nights which n list j₀ j = (j ≤ n) × (all (namesAt (phaseOf which w nights) list) (upFrom 0 n) ≡ all (namesAt (phaseOf which w nights) list) (upFrom j (n - j)))
 
 abbrev μ-loop : tie.MeasureT-loop
-μ-loop w nights daily n list j₀ j = n - j
+μ-loop w nights which n list j₀ j = n - j
 
 cast-lesser : tie.Need-cast-lesser Inv-loop μ-loop
 cast-lesser c = search needs

@@ -13,10 +13,10 @@ use Rattle.phases.proofs.questions.slots_own.Statement.{statement}
 use Rattle.phases.proofs.questions.slots_own.Tie as tie
 
 abbrev Inv-loop : tie.InvT-loop
-Inv-loop w nights daily rec m i₀ i = (i ≤ m) × (all (λ k. hers (phaseOf daily w nights) k (slotAt rec k)) (upFrom 0 (phaseOf daily w nights .nurses)) ≡ all (λ k. hers (phaseOf daily w nights) k (slotAt rec k)) (upFrom i (m - i)))
+Inv-loop w nights which rec m i₀ i = (i ≤ m) × (all (λ k. hers (phaseOf which w nights) k (slotAt rec k)) (upFrom 0 (phaseOf which w nights .nurses)) ≡ all (λ k. hers (phaseOf which w nights) k (slotAt rec k)) (upFrom i (m - i)))
 
 abbrev μ-loop : tie.MeasureT-loop
-μ-loop w nights daily rec m i₀ i = m - i
+μ-loop w nights which rec m i₀ i = m - i
 
 nurses-requires : tie.Need-nurses-requires Inv-loop μ-loop
 nurses-requires c κs = search needs

@@ -19,10 +19,10 @@ use Rattle.search.proofs.Record.step.Reads as step-reads
 use Rattle.search.proofs.slots.penalty_of.Reads as penalty-of-reads
 
 abbrev Inv-loop : tie.InvT-loop
-Inv-loop w lists plan k daily kept₀ made₀ kept made = (P : Phase) → Seeks (plan .daily) w lists (plan .ends) P → soundStored P kept₀ ≡ true → Running P k kept₀ kept made
+Inv-loop w lists stretches k which after₀ made₀ after made = (P : Phase) → Seeks (stretches .search) w lists (stretches .ends) P → soundStored P after₀ ≡ true → Running P k after₀ after made
 
 abbrev μ-loop : tie.MeasureT-loop
-μ-loop w lists plan k daily kept₀ made₀ kept made = k - made
+μ-loop w lists stretches k which after₀ made₀ after made = k - made
 
 -- the places, each from the next
 abbrev at-start : tie.At-loop Inv-loop μ-loop → tie.Start Inv-loop μ-loop
@@ -51,13 +51,13 @@ moved c = c .before
 
 -- the turn, in any phase that is served
 turn-at : (c : tie.After-penalty-of Inv-loop μ-loop) (P : Phase) → let loop = at-loop c in let a = (at-start loop) .args in
-    Seeks (a .plan .daily) (a .w .now) (a .lists .now) (a .plan .ends) P → soundStored P (a .self) ≡ true
-    → Turn P (a .k) (a .self) (loop .loop .kept) (loop .loop .made) (c .penalty-of .result)
+    Seeks (a .stretches .search) (a .w .now) (a .lists .now) (a .stretches .ends) P → soundStored P (a .self) ≡ true
+    → Turn P (a .k) (a .self) (loop .loop .after) (loop .loop .made) (c .penalty-of .result)
 turn-at c P s e = let loop = at-loop c in
-    record { running = loop .loop .inv P s e; fits = seeks-fits s ((at-start loop) .pre .0 .0); cost = seeks-cost s (loop .loop .kept) (c .penalty-of .ensures) }
+    record { running = loop .loop .inv P s e; fits = seeks-fits s ((at-start loop) .pre .0 .0); cost = seeks-cost s (loop .loop .after) (c .penalty-of .ensures) }
 
 -- where the loop is: there is such a phase
-running-at : (c : tie.At-loop Inv-loop μ-loop) → let a = (at-start c) .args in Running ((at-start c) .pre .1 .0) (a .k) (a .self) (c .loop .kept) (c .loop .made)
+running-at : (c : tie.At-loop Inv-loop μ-loop) → let a = (at-start c) .args in Running ((at-start c) .pre .1 .0) (a .k) (a .self) (c .loop .after) (c .loop .made)
 running-at c = let served = (at-start c) .pre .1 in c .loop .inv (served .0) (served .1) (served .2)
 
 loop-holds : tie.Need-loop-holds Inv-loop μ-loop

@@ -13,17 +13,17 @@ cast-push c = search needs
 push-requires : tie.Need-push-requires
 push-requires c κs = search needs
 
-mul-next : tie.Need-mul-next
-mul-next c = search needs
+mul-after : tie.Need-mul-after
+mul-after c = search needs
 
-element-write-next : tie.Need-element-write-next
-element-write-next c = search needs
+element-write-after : tie.Need-element-write-after
+element-write-after c = search needs
 
-element-write-next-2 : tie.Need-element-write-next-2
-element-write-next-2 c = search needs
+element-write-after-2 : tie.Need-element-write-after-2
+element-write-after-2 c = search needs
 
-add-next : tie.Need-add-next
-add-next c = search needs
+add-after : tie.Need-add-after
+add-after c = search needs
 
 returns : tie.Need-returns
 returns c = exchanged-is (c .before .before .before .before .args .tl) (c .before .before .before .before .args .self) (c .before .before .before .before .args .nurse) (c .before .before .before .before .args .pattern) (c .before .before .before .removal-by .ensures) (c .push .ensures)
@@ -35,8 +35,8 @@ exchanged-spec =
     removal-by-requires
     cast-push
     push-requires
-    mul-next
-    element-write-next
-    element-write-next-2
-    add-next
+    mul-after
+    element-write-after
+    element-write-after-2
+    add-after
     returns)

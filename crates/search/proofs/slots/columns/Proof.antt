@@ -15,10 +15,10 @@ use Rattle.search.proofs.slots.with_row.Reads as with-row-reads
 use Rattle.fields.proofs.nurses.Reads as nurses-reads
 
 abbrev Inv-loop : tie.InvT-loop
-Inv-loop w rec daily m cols₀ i₀ cols i = (i ≤ m) × ((slots : ℕ → Slot) → Agree w rec slots → Shown daily w slots i cols)
+Inv-loop w rec which m cols₀ i₀ cols i = (i ≤ m) × ((slots : ℕ → Slot) → Agree w rec slots → Shown which w slots i cols)
 
 abbrev μ-loop : tie.MeasureT-loop
-μ-loop w rec daily m cols₀ i₀ cols i = m - i
+μ-loop w rec which m cols₀ i₀ cols i = m - i
 
 -- the places, each from the next
 abbrev at-start : tie.After-nurses Inv-loop μ-loop → tie.Start Inv-loop μ-loop
@@ -37,7 +37,7 @@ empty-requires : tie.Need-empty-requires Inv-loop μ-loop
 empty-requires c κs = search needs
 
 loop-holds : tie.Need-loop-holds Inv-loop μ-loop
-loop-holds c = let args = (at-start (at-nurses c)) .args in (omega arith, λ slots a. columns-start (args .daily) (args .w .now) slots _ (c .empty .ensures))
+loop-holds c = let args = (at-start (at-nurses c)) .args in (omega arith, λ slots a. columns-start (args .search) (args .w .now) slots _ (c .empty .ensures))
 
 with-row-requires : tie.Need-with-row-requires Inv-loop μ-loop
 with-row-requires c κs = search needs
@@ -58,7 +58,7 @@ returns : tie.Need-returns Inv-loop μ-loop
 returns c = let loop = c .before in
     let nurses = at-nurses (at-empty loop) in
     let args = (at-start nurses) .args in
-    λ slots a. columns-end (args .daily) (args .w .now) slots _ (loop .loop .inv .1 slots a) (loop .loop .inv .0) (c .loop-test .left) (nurses .nurses .ensures .0)
+    λ slots a. columns-end (args .search) (args .w .now) slots _ (loop .loop .inv .1 slots a) (loop .loop .inv .0) (c .loop-test .left) (nurses .nurses .ensures .0)
 
 pub columns-spec : {M : Type 1} → statement M
 columns-spec =

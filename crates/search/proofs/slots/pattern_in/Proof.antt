@@ -24,11 +24,11 @@ is-unplaced c = c .before
 abbrev at-days : tie.After-block → tie.After-days
 at-days c = c .before
 
-abbrev block-day : tie.Then2 → tie.After-block
-block-day c = c .before
+abbrev block-night : tie.After-enum-told → tie.After-block
+block-night c = c .before .before
 
-abbrev block-night : tie.Else2 → tie.After-block
-block-night c = c .before
+abbrev block-day : tie.After-enum-told2 → tie.After-block
+block-day c = c .before .before
 
 abbrev start-of : tie.After-block → tie.Start
 start-of c = start-unplaced (is-unplaced (at-days c))
@@ -47,7 +47,7 @@ element-copy-out-result : tie.Need-element-copy-out-result
 element-copy-out-result c = search needs
 
 returns : tie.Need-returns
-returns c = let a = (start-placed (c .before)) .args in pattern-placed (a .w .now) (a .t2) (a .i) (a .daily) (c .before .if1 .taken)
+returns c = let a = (start-placed (c .before)) .args in pattern-placed (a .w .now) (a .t2) (a .i) (a .search) (c .before .if1 .taken)
 
 days-requires : tie.Need-days-requires
 days-requires c κs = search needs
@@ -55,23 +55,31 @@ days-requires c κs = search needs
 block-requires : tie.Need-block-requires
 block-requires c κs = search needs
 
+enum-told : tie.Need-enum-told
+enum-told c = search needs
+
+enum-told-2 : tie.Need-enum-told-2
+enum-told-2 c = search needs
+
 marked-days-requires : tie.Need-marked-days-requires
-marked-days-requires c κs = block-at (block-day c)
+marked-days-requires c κs = block-at (block-night c)
 
 returns-2 : tie.Need-returns-2
-returns-2 c = let block = block-day (c .before) in
+returns-2 c = let told = c .before in
+    let block = block-night told in
     let days = at-days block in
     let a = (start-of block) .args in
-    pattern-days (a .w .now) (a .t2) (a .i) (a .daily) ((is-unplaced days) .if1 .left) (c .before .if2 .taken) (days .days .ensures .0) (block .block .ensures) (c .marked-days .ensures)
+    pattern-nights (a .w .now) (a .t2) (a .i) (a .search) ((is-unplaced days) .if1 .left) (told .enum-told .given .1) (days .days .ensures .0) (block .block .ensures) (c .marked-days .ensures)
 
 marked-days-requires-2 : tie.Need-marked-days-requires-2
-marked-days-requires-2 c κs = block-at (block-night c)
+marked-days-requires-2 c κs = block-at (block-day c)
 
 returns-3 : tie.Need-returns-3
-returns-3 c = let block = block-night (c .before) in
+returns-3 c = let told = c .before in
+    let block = block-day told in
     let days = at-days block in
     let a = (start-of block) .args in
-    pattern-nights (a .w .now) (a .t2) (a .i) (a .daily) ((is-unplaced days) .if1 .left) (c .before .if2 .left) (days .days .ensures .0) (block .block .ensures) (c .marked-days2 .ensures)
+    pattern-days (a .w .now) (a .t2) (a .i) (a .search) ((is-unplaced days) .if1 .left) (told .enum-told2 .given .1) (days .days .ensures .0) (block .block .ensures) (c .marked-days2 .ensures)
 
 pub pattern-in-spec : {M : Type 1} → statement M
 pattern-in-spec =
@@ -83,7 +91,9 @@ pattern-in-spec =
     returns
     days-requires
     block-requires
+    enum-told
     marked-days-requires
-    returns-2
+    enum-told-2
     marked-days-requires-2
+    returns-2
     returns-3)

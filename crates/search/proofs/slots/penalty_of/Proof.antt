@@ -25,7 +25,7 @@ returns c = let parts = c .before in
     let columns = unplaced .before in
     let nurses = columns .before in
     let start = nurses .before .before in
-    λ slots a. penalty-is (start .args .daily) (start .args .w .now) (start .args .rec) slots _ (nurses .nurses .ensures .0) (unplaced .unplaced .ensures) a (columns .columns .ensures) (c .total .ensures) (parts .parts .ensures .1)
+    λ slots a. penalty-is (start .args .search) (start .args .w .now) (start .args .rec) slots _ (nurses .nurses .ensures .0) (unplaced .unplaced .ensures) a (columns .columns .ensures) (c .total .ensures) (parts .parts .ensures .1)
 
 pub penalty-of-spec : {M : Type 1} → statement M
 penalty-of-spec =

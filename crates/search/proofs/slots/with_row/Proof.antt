@@ -19,11 +19,11 @@ at-start c = c .before .before
 abbrev at-days : tie.After-pattern-in → tie.After-days
 at-days c = c .before
 
-abbrev at-pattern : tie.Else1 → tie.After-pattern-in
-at-pattern c = c .before
+abbrev pattern-night : tie.After-enum-told → tie.After-pattern-in
+pattern-night c = c .before .before
 
-abbrev by-night : tie.After-masks-of → tie.Else1
-by-night c = c .before
+abbrev pattern-day : tie.After-enum-told2 → tie.After-pattern-in
+pattern-day c = c .before .before
 
 abbrev at-masks : tie.After-available-days → tie.After-masks-of
 at-masks c = c .before
@@ -34,14 +34,11 @@ days-requires c κs = search needs
 pattern-in-requires : tie.Need-pattern-in-requires
 pattern-in-requires c κs = search needs
 
-with-nurse-requires : tie.Need-with-nurse-requires
-with-nurse-requires c κs = search needs
+enum-told : tie.Need-enum-told
+enum-told c = search needs
 
-returns : tie.Need-returns
-returns c = let pattern = c .before .before in
-    let days = at-days pattern in
-    let a = (at-start days) .args in
-    λ slots same s. row-day (a .w .now) (a .rec) (a .i) (a .cols) slots (a .daily) (c .before .if1 .taken) (days .days .ensures .0) (pattern .pattern-in .ensures) (c .with-nurse .ensures) same s
+enum-told-2 : tie.Need-enum-told-2
+enum-told-2 c = search needs
 
 masks-of-requires : tie.Need-masks-of-requires
 masks-of-requires c κs = search needs
@@ -49,17 +46,27 @@ masks-of-requires c κs = search needs
 available-days-requires : tie.Need-available-days-requires
 available-days-requires c κs = search needs
 
+with-nurse-requires : tie.Need-with-nurse-requires
+with-nurse-requires c κs = search needs
+
 with-nurse-requires-2 : tie.Need-with-nurse-requires-2
 with-nurse-requires-2 c κs = search needs
 
-returns-2 : tie.Need-returns-2
-returns-2 c = let masks = at-masks (c .before) in
-    let night = by-night masks in
-    let pattern = at-pattern night in
+returns : tie.Need-returns
+returns c = let masks = at-masks (c .before) in
+    let told = masks .before in
+    let pattern = pattern-night told in
     let days = at-days pattern in
     let start = at-start days in
     let a = start .args in
-    λ slots same s. row-night (a .w .now) (a .rec) (a .i) (a .cols) slots (a .daily) (night .if1 .left) (days .days .ensures .0) (start .pre .0 .days-most) (pattern .pattern-in .ensures) (masks .masks-of .ensures .0) (c .before .available-days .ensures (rulesOf (a .w .now))) (c .with-nurse2 .ensures) same s
+    λ slots same s. row-night (a .w .now) (a .rec) (a .i) (a .cols) slots (a .search) (told .enum-told .given .1) (days .days .ensures .0) (start .pre .0 .days-most) (pattern .pattern-in .ensures) (masks .masks-of .ensures .0) (c .before .available-days .ensures (rulesOf (a .w .now))) (c .with-nurse .ensures) same s
+
+returns-2 : tie.Need-returns-2
+returns-2 c = let told = c .before in
+    let pattern = pattern-day told in
+    let days = at-days pattern in
+    let a = (at-start days) .args in
+    λ slots same s. row-day (a .w .now) (a .rec) (a .i) (a .cols) slots (a .search) (told .enum-told2 .given .1) (days .days .ensures .0) (pattern .pattern-in .ensures) (c .with-nurse2 .ensures) same s
 
 pub with-row-spec : {M : Type 1} → statement M
 with-row-spec =
@@ -67,9 +74,11 @@ with-row-spec =
     (tie.spec
     days-requires
     pattern-in-requires
-    with-nurse-requires
-    returns
+    enum-told
     masks-of-requires
     available-days-requires
+    with-nurse-requires
+    enum-told-2
     with-nurse-requires-2
+    returns
     returns-2)

@@ -18,10 +18,10 @@ use Rattle.search.proofs.tries.over_nurse.Reads as over-nurse-reads
 use Rattle.fields.proofs.nurses.Reads as nurses-reads
 
 abbrev Inv-loop : tie.InvT-loop
-Inv-loop w lists plan rec m cols waiting best₀ i₀ best i = (i ≤ m) × ((P : Phase) → Seeks (plan .daily) w lists (plan .ends) P → best ≡ bestOver P (viewOf P rec) i)
+Inv-loop w lists stretches rec m cols unplaced best₀ i₀ best i = (i ≤ m) × ((P : Phase) → Seeks (stretches .search) w lists (stretches .ends) P → best ≡ bestOver P (viewOf P rec) i)
 
 abbrev μ-loop : tie.MeasureT-loop
-μ-loop w lists plan rec m cols waiting best₀ i₀ best i = m - i
+μ-loop w lists stretches rec m cols unplaced best₀ i₀ best i = m - i
 
 -- the places, each from the next
 abbrev at-start : tie.After-nurses Inv-loop μ-loop → tie.Start Inv-loop μ-loop

@@ -42,8 +42,8 @@ passes-at : (c : tie.After-passes Inv-loop μ-loop) → let loop = (in-loop c) .
     c .passes .result ≡ hersOf (a .w .now) (a .i) (getD (a .list .now) (loop .loop .k) 0)
 passes-at c = let loop = (in-loop c) .before in
     let start = at-start loop in
-    let kept = common-at (start .args .w .now) (start .args .list .now) (loop .loop .k) (start .pre .common) ((in-loop c) .loop-test .taken) in
-    c .passes .ensures (start .args .i) (start .pre .masks-are) (kept .0) (kept .1)
+    let listed = common-at (start .args .w .now) (start .args .list .now) (loop .loop .k) (start .pre .common) ((in-loop c) .loop-test .taken) in
+    c .passes .ensures (start .args .i) (start .pre .masks-are) (listed .0) (listed .1)
 
 loop-holds : tie.Need-loop-holds Inv-loop μ-loop
 loop-holds c = (search needs, λ m cost l t. sym (over-nil _ _ _ _))

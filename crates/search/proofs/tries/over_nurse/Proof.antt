@@ -25,22 +25,22 @@ at-tabu c = c .before
 abbrev at-table : tie.After-others-than → tie.After-table
 at-table c = c .before
 
-abbrev others-day : tie.Then1 → tie.After-others-than
-others-day c = c .before
+abbrev others-night : tie.After-enum-told → tie.After-others-than
+others-night c = c .before .before
 
-abbrev others-night : tie.Else1 → tie.After-others-than
-others-night c = c .before
+abbrev others-day : tie.After-enum-told2 → tie.After-others-than
+others-day c = c .before .before
 
-abbrev by-day : tie.After-e → tie.Then1
+abbrev by-day : tie.After-e → tie.After-enum-told2
 by-day c = c .before .before
 
 abbrev at-e : tie.After-over-days → tie.After-e
 at-e c = c .before .before .before
 
-abbrev at-masks : tie.After-t2 → tie.After-masks-of
+abbrev at-masks : tie.After-t → tie.After-masks-of
 at-masks c = c .before
 
-abbrev by-night : tie.After-masks-of → tie.Else1
+abbrev by-night : tie.After-masks-of → tie.After-enum-told
 by-night c = c .before
 
 abbrev start-of : tie.After-others-than → tie.Start
@@ -48,7 +48,7 @@ start-of c = at-start (at-tabu (at-table c))
 
 -- what was known before her list is looked at
 table-at : (c : tie.After-others-than) → let a = (start-of c) .args in
-    NurseTable (a .t3 .daily) (a .w .now) (a .cols) (a .waiting) (a .rec) (a .i) ((at-tabu (at-table c)) .tabu .result) ((at-table c) .table .result) (c .others-than .result)
+    NurseTable (a .t3 .search) (a .w .now) (a .cols) (a .unplaced) (a .rec) (a .i) ((at-tabu (at-table c)) .tabu .result) ((at-table c) .table .result) (c .others-than .result)
 table-at c =
     record {
       tabu-is = (at-tabu (at-table c)) .tabu .ensures .0;
@@ -59,9 +59,9 @@ table-at c =
       others-most = omega (arith, c .others-than .ensures .1, (start-of c) .pre .counted .most);
     }
 
-stretch-at : (c : tie.Then1) → let a = (start-of (others-day c)) .args in
+stretch-at : (c : tie.After-enum-told2) → let a = (start-of (others-day c)) .args in
     (getD (a .t3 .ends) (a .i) 0 ≤ getD (a .t3 .ends) (a .i + 1) 0) × (getD (a .t3 .ends) (a .i + 1) 0 ≤ length (a .lists .now))
-stretch-at c = (stretch-begins ((start-of (others-day c)) .pre) (c .if1 .taken), stretch-ends ((start-of (others-day c)) .pre) (c .if1 .taken))
+stretch-at c = (stretch-begins ((start-of (others-day c)) .pre) (c .enum-told2 .given .1), stretch-ends ((start-of (others-day c)) .pre) (c .enum-told2 .given .1))
 
 tabu-requires : tie.Need-tabu-requires
 tabu-requires c κs = search needs
@@ -71,6 +71,12 @@ table-requires c κs = search needs
 
 others-than-requires : tie.Need-others-than-requires
 others-than-requires c κs = search needs
+
+enum-told : tie.Need-enum-told
+enum-told c = search needs
+
+enum-told-2 : tie.Need-enum-told-2
+enum-told-2 c = search needs
 
 mul-a : tie.Need-mul-a
 mul-a c = search needs
@@ -102,11 +108,11 @@ part-over-days-end c = stretch-at (by-day c) .1
 over-days-requires : tie.Need-over-days-requires
 over-days-requires c κs = search needs
 
-returns : tie.Need-returns
-returns c = let day = by-day (at-e c) in
+returns-2 : tie.Need-returns-2
+returns-2 c = let day = by-day (at-e c) in
     let others = others-day day in
     let start = start-of others in
-    λ P s. nurse-days (start .pre) (table-at others) P s (start .args .held) (day .if1 .taken) (c .over-days .ensures)
+    λ P s. nurse-days (start .pre) (table-at others) P s (start .args .held) (day .enum-told2 .given .1) (c .over-days .ensures)
 
 masks-of-requires : tie.Need-masks-of-requires
 masks-of-requires c κs = search needs
@@ -115,13 +121,13 @@ over-nights-requires : tie.Need-over-nights-requires
 over-nights-requires c κs = let masks = at-masks c in
     let night = by-night masks in
     let others = others-night night in
-    nights-need ((start-of others) .pre) (table-at others) (night .if1 .left) (masks .masks-of .ensures .1) (masks .masks-of .ensures .0)
+    nights-need ((start-of others) .pre) (table-at others) (night .enum-told .given .1) (masks .masks-of .ensures .1) (masks .masks-of .ensures .0)
 
-returns-2 : tie.Need-returns-2
-returns-2 c = let night = by-night (at-masks (c .before)) in
+returns : tie.Need-returns
+returns c = let night = by-night (at-masks (c .before)) in
     let others = others-night night in
     let start = start-of others in
-    λ P s. nurse-nights (start .pre) (table-at others) P s (start .args .held) (night .if1 .left) (c .over-nights .ensures)
+    λ P s. nurse-nights (start .pre) (table-at others) P s (start .args .held) (night .enum-told .given .1) (c .over-nights .ensures)
 
 pub over-nurse-spec : {M : Type 1} → statement M
 over-nurse-spec =
@@ -130,6 +136,10 @@ over-nurse-spec =
     tabu-requires
     table-requires
     others-than-requires
+    enum-told
+    masks-of-requires
+    over-nights-requires
+    enum-told-2
     mul-a
     element-copy-out-a
     add-e
@@ -141,6 +151,4 @@ over-nurse-spec =
     part-over-days-end
     over-days-requires
     returns
-    masks-of-requires
-    over-nights-requires
     returns-2)

@@ -7,16 +7,16 @@ use Rattle.trials.proofs.costs.nurse_costs.Statement.{statement}
 use Rattle.trials.proofs.costs.nurse_costs.Tie as tie
 
 abbrev Inv-loop : tie.InvT-loop
-Inv-loop w i daily cols c₀ n d₀ c d = Table daily w cols i n d c
+Inv-loop w i which cols c₀ n d₀ c d = Table which w cols i n d c
 
 abbrev μ-loop : tie.MeasureT-loop
-μ-loop w i daily cols c₀ n d₀ c d = n - d
+μ-loop w i which cols c₀ n d₀ c d = n - d
 
 days-requires : tie.Need-days-requires Inv-loop μ-loop
 days-requires c κs = search needs
 
 loop-holds : tie.Need-loop-holds Inv-loop μ-loop
-loop-holds c = table-start (c .before .before .args .daily) _ _ _ _
+loop-holds c = table-start (c .before .before .args .search) _ _ _ _
 
 mul-on-day : tie.Need-mul-on-day Inv-loop μ-loop
 mul-on-day c = search needs
@@ -58,12 +58,12 @@ loop-less : tie.Need-loop-less Inv-loop μ-loop
 loop-less c = search needs
 
 loop-again : tie.Need-loop-again Inv-loop μ-loop
-loop-again c = table-turn (c .before .before .before .before .before .before .before .args .daily) _ _ _ _ _ _ (c .before .before .before .before .loop .inv) (c .before .before .before .loop-test .taken) (omega (arith, c .before .before .before .before .before .days .ensures .0, c .before .before .before .before .before .before .before .pre .0 .days-most)) (c .on-day .ensures)
+loop-again c = table-turn (c .before .before .before .before .before .before .before .args .search) _ _ _ _ _ _ (c .before .before .before .before .loop .inv) (c .before .before .before .loop-test .taken) (omega (arith, c .before .before .before .before .before .days .ensures .0, c .before .before .before .before .before .before .before .pre .0 .days-most)) (c .on-day .ensures)
 
 returns : tie.Need-returns Inv-loop μ-loop
 returns c = (
-  table-small (c .before .before .before .before .args .daily) _ _ _ _ (c .before .loop .inv) (c .loop-test .left) (c .before .before .days .ensures .0) (c .before .before .before .before .pre .0 .days-most),
-  λ slots s. table-trials (c .before .before .before .before .args .w .now) _ (c .before .before .before .before .args .i) slots (c .before .before .before .before .pre .0) (c .before .before .before .before .pre .1) (c .before .before .before .before .args .daily) _ (c .before .loop .inv) (c .loop-test .left) (c .before .before .days .ensures .0) s,
+  table-small (c .before .before .before .before .args .search) _ _ _ _ (c .before .loop .inv) (c .loop-test .left) (c .before .before .days .ensures .0) (c .before .before .before .before .pre .0 .days-most),
+  λ slots s. table-trials (c .before .before .before .before .args .w .now) _ (c .before .before .before .before .args .i) slots (c .before .before .before .before .pre .0) (c .before .before .before .before .pre .1) (c .before .before .before .before .args .search) _ (c .before .loop .inv) (c .loop-test .left) (c .before .before .days .ensures .0) s,
 )
 
 pub nurse-costs-spec : {M : Type 1} → statement M
