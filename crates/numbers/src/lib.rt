@@ -2,8 +2,14 @@
 ghost use mathlib.Core.Path.{_≡_};
 ghost use mathlib.Core.Bool.{_&&_};
 ghost use Prim.Native.Nat.{ℕ, _^_, _<_, _≤_};
-ghost use Rattle.numbers.specs.Sum.{countTo, Is};
+ghost use Rattle.numbers.specs.Sum.{countTo, oneIf, Is};
 ghost use Rattle.numbers.specs.Digits.{has, put};
+
+pub fn one_if(b: bool) -> u64
+    ensures { λ r. ⌜ (r ≡ oneIf b) × (r ≤ 1) ⌝ }
+{
+    if b { 1 } else { 0 }
+}
 
 // Whether i is in the set.
 pub fn has_bit(set: u32, i: u64) -> bool

@@ -127,15 +127,6 @@ fn near_days(r: Rules, prev: u64, run: u64) -> u64
     reach - 5
 }
 
-fn one_if(on: bool) -> u64
-    ensures { λ x. ⌜ x ≡ oneIf on ⌝ }
-{
-    if on {
-        return 1;
-    }
-    0
-}
-
 // The masks of the nurse with block b.
 fn masks_by(r: Rules, n: u64, b: &[u64]) -> Masks
     requires { ⌜ Small r ⌝ }
@@ -152,8 +143,8 @@ fn masks_by(r: Rules, n: u64, b: &[u64]) -> Masks
         bars,
         never,
         workable: workable_days(b, n),
-        night: one_if(b[6] == 2),
-        second: one_if(b[6] == 3),
+        night: numbers::one_if(b[6] == 2),
+        second: numbers::one_if(b[6] == 3),
         near,
         last,
         least: b[7],

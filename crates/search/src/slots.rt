@@ -7,7 +7,7 @@ ghost use mathlib.Core.Bool.{false, not};
 ghost use Prim.Native.Nat.{ℕ, suc, _+_, _≤_, _<_};
 ghost use lib.Dec.{eqb};
 ghost use lib.ListN.{getD};
-ghost use Rattle.numbers.specs.Sum.{countTo, oneIf, Is};
+ghost use Rattle.numbers.specs.Sum.{countTo, Is};
 ghost use Rattle.numbers.specs.Digits.{numberOf};
 ghost use Rattle.fields.specs.Fields.{Accepted, Block, nurses, markOn};
 ghost use Rattle.history.specs.Slot.{Slot};
@@ -79,12 +79,6 @@ pub(crate) fn columns(w: &[u64], rec: Record, search: Search) -> Columns
     cols
 }
 
-fn one_if(b: bool) -> u64
-    ensures { λ r. ⌜ (r ≡ oneIf b) × (r ≤ 1) ⌝ }
-{
-    if b { 1 } else { 0 }
-}
-
 // How many of the first m nurses are unplaced.
 pub(crate) fn unplaced(rec: Record, m: usize) -> u64
     requires { ⌜ m ≤ 48 ⌝ }
@@ -92,7 +86,7 @@ pub(crate) fn unplaced(rec: Record, m: usize) -> u64
 {
     let mut count: u64 = 0;
     for i in 0..m {
-        count = count + one_if(!rec.placed[i]);
+        count = count + numbers::one_if(!rec.placed[i]);
     }
     count
 }

@@ -13,7 +13,7 @@ use Rattle.nights.proofs.last_run.Reads as last-run-reads
 use Rattle.numbers.proofs.bit.Reads as bit-reads
 use Rattle.own.proofs.masks.bars_of.Reads as bars-of-reads
 use Rattle.own.proofs.masks.near_days.Reads as near-days-reads
-use Rattle.own.proofs.masks.one_if.Reads as one-if-reads
+use Rattle.numbers.proofs.one_if.Reads as one-if-reads
 use Rattle.own.proofs.masks.workable_days.Reads as workable-days-reads
 
 bars-of-requires : tie.Need-bars-of-requires
@@ -58,8 +58,8 @@ shared-slice-read-t21 c = search needs
 returns : tie.Need-returns
 returns c = let s = c .before .before .before .before .before .before .before .before .before .before .before .before .before .before .args in
     let near = ap (λ (x : ℕ). x - 1) (c .before .before .before .before .before .before .before .before .before .bit .ensures ∙ ap (λ (k : ℕ). 2 ^ k) (c .before .before .before .before .before .before .before .before .before .before .near-days .ensures .0)) in (
-      masks-made (s .r) (s .n) (s .b .now) _ _ _ _ _ (c .before .before .before .before .before .before .before .before .before .before .before .last-run .result) (c .before .before .before .before .before .before .before .before .before .before .before .before .bars-of .ensures) (c .before .before .before .before .before .before .workable-days .ensures) (c .before .before .before .before .one-if .ensures) (c .before .before .one-if2 .ensures) near (c .before .before .before .before .before .before .before .before .before .before .before .last-run .ensures .0),
-      masks-small (s .r) (s .n) (s .b .now) _ _ _ _ _ (c .before .before .before .before .before .before .before .before .before .before .before .last-run .result) (c .before .before .before .before .before .before .before .before .before .before .before .before .bars-of .ensures) (c .before .before .before .before .before .before .workable-days .ensures) (c .before .before .before .before .one-if .ensures) (c .before .before .one-if2 .ensures) (c .before .before .before .before .before .before .before .before .before .before .before .before .before .before .pre .1 .0) (c .before .before .before .before .before .before .before .before .before .before .before .last-run .ensures .1),
+      masks-made (s .r) (s .n) (s .b .now) _ _ _ _ _ (c .before .before .before .before .before .before .before .before .before .before .before .last-run .result) (c .before .before .before .before .before .before .before .before .before .before .before .before .bars-of .ensures) (c .before .before .before .before .before .before .workable-days .ensures) (c .before .before .before .before .one-if .ensures .0) (c .before .before .one-if2 .ensures .0) near (c .before .before .before .before .before .before .before .before .before .before .before .last-run .ensures .0),
+      masks-small (s .r) (s .n) (s .b .now) _ _ _ _ _ (c .before .before .before .before .before .before .before .before .before .before .before .last-run .result) (c .before .before .before .before .before .before .before .before .before .before .before .before .bars-of .ensures) (c .before .before .before .before .before .before .workable-days .ensures) (c .before .before .before .before .one-if .ensures .0) (c .before .before .one-if2 .ensures .0) (c .before .before .before .before .before .before .before .before .before .before .before .before .before .before .pre .1 .0) (c .before .before .before .before .before .before .before .before .before .before .before .last-run .ensures .1),
     )
 
 pub masks-by-spec : {M : Type 1} → statement M

@@ -11,7 +11,7 @@ use Rattle.search.proofs.slots.unplaced.Statement.{statement}
 use Rattle.search.proofs.slots.unplaced.Tie as tie
 use Rattle.search.proofs.slots.unplaced.Reads as reads
 use Rattle.search.proofs.slots.unplaced.Lts as lts
-use Rattle.search.proofs.slots.one_if.Reads as one-if-reads
+use Rattle.numbers.proofs.one_if.Reads as one-if-reads
 
 abbrev Inv-loop : tie.InvT-loop
 Inv-loop m rec count₀ i₀ count i = (i ≤ m) × Is count (0 + sumTo i (λ j. oneIf (not (getD (rec .placed) j false)))) (0 + 1 * i)
