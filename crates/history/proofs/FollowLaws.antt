@@ -10,8 +10,9 @@ use lib.Dec.{eqb, eqb·suc-suc}
 use lib.ListN.{length, take, length-take}
 use lib.Seq.{take-take, take-nil}
 use borrow.Author.Tests.{eqb-true, eq-eqb, ne-eqb, lt-ltb}
+use Rattle.history.specs.Slot.{exchanged}
 use Rattle.numbers.specs.Range.{upFrom, all}
-use Rattle.history.specs.Phase.{Step, Phase, Call, Answer, refused, holds, exchanged, exchanges, least, refusal, inTurn}
+use Rattle.history.specs.Phase.{Step, Phase, Call, Answer, refused, holds, exchanges, least, refusal, inTurn}
 use Rattle.refusals.specs.declared.Refusal.{Refusal}
 use Rattle.refusals.specs.Refusals.{first}
 use Rattle.history.specs.History.{History, inUse, givenUp, penalty, allowed, next, extend, reply, advance}
@@ -53,7 +54,7 @@ module _ (P : Phase) where
   unfolding total recordOf penalty
   total-penalty h = refl
 
-  costs : (h : History) (s : Step) → P .cost (exchanged ((recordOf P h) .slots) s) ≡ penalty P (s ∷ h)
+  costs : (h : History) (s : Step) → P .cost (exchanged ((recordOf P h) .slots) (s .nurse) (s .pattern)) ≡ penalty P (s ∷ h)
   unfolding recordOf penalty
   costs h s = refl
 

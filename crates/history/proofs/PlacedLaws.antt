@@ -12,8 +12,8 @@ use lib.ListN.{length}
 use borrow.Author.Tests.{eq-eqb, ne-eqb}
 use Rattle.numbers.specs.Sum.{sumTo, countTo, oneIf}
 use Rattle.numbers.proofs.SumLaws.{count-le}
-use Rattle.history.specs.Slot.{Slot, isNone}
-use Rattle.history.specs.Phase.{Step, Phase, exchanged}
+use Rattle.history.specs.Slot.{Slot, isNone, exchanged}
+use Rattle.history.specs.Phase.{Step, Phase}
 use Rattle.history.specs.History.{History, inUse, penalty}
 use Rattle.history.specs.Claim.{Allowed, Least}
 use Rattle.history.proofs.Lawful.{Lawful, unplaced}
@@ -56,30 +56,30 @@ module _ (slots : ℕ → Slot) (s : Step) where
   at-most i true = omega arith
   at-most i false = omega arith
 
-  exchange-fewer : (n : ℕ) → unplacedTo (exchanged slots s) n ≤ unplacedTo slots n
+  exchange-fewer : (n : ℕ) → unplacedTo (exchanged slots (s .nurse) (s .pattern)) n ≤ unplacedTo slots n
   unfolding sumTo
   exchange-fewer zero = omega arith
   exchange-fewer (suc n) = omega (arith, exchange-fewer n, at-most n (eqb n (s .nurse)))
 
-  exchange-past : (n : ℕ) → n ≤ s .nurse → unplacedTo (exchanged slots s) n ≡ unplacedTo slots n
+  exchange-past : (n : ℕ) → n ≤ s .nurse → unplacedTo (exchanged slots (s .nurse) (s .pattern)) n ≡ unplacedTo slots n
   unfolding sumTo
   exchange-past zero l = refl
   exchange-past (suc n) l =
       let d : n ≢ s .nurse = λ e. let z : ⊥ = omega arith in z in
       rw (exchange-past n (omega arith), ne-eqb n (s .nurse) d)
 
-  exchange-places : (n : ℕ) → s .nurse < n → slots (s .nurse) ≡ none → suc (unplacedTo (exchanged slots s) n) ≡ unplacedTo slots n
+  exchange-places : (n : ℕ) → s .nurse < n → slots (s .nurse) ≡ none → suc (unplacedTo (exchanged slots (s .nurse) (s .pattern)) n) ≡ unplacedTo slots n
   unfolding sumTo
   exchange-places zero l e = absurd (not-suc-le-zero l)
   exchange-places (suc n) l e =
       ⊎-elim
       (λ q.
       let a : oneIf (isNone (slots n)) ≡ 1 = rw (← q, e) in
-      let b : oneIf (isNone (exchanged slots s n)) ≡ 0 = rw (eq-eqb n (s .nurse) (sym q)) in
+      let b : oneIf (isNone (exchanged slots (s .nurse) (s .pattern) n)) ≡ 0 = rw (eq-eqb n (s .nurse) (sym q)) in
       omega (arith, exchange-past n (omega arith)))
       (λ m.
       let d : n ≢ s .nurse = λ e. let z : ⊥ = omega arith in z in
-      let b : oneIf (isNone (exchanged slots s n)) ≡ oneIf (isNone (slots n)) = rw (ne-eqb n (s .nurse) d) in
+      let b : oneIf (isNone (exchanged slots (s .nurse) (s .pattern) n)) ≡ oneIf (isNone (slots n)) = rw (ne-eqb n (s .nurse) d) in
       omega (arith, exchange-places n m e))
       (eq-or-lt-of-le (le-of-suc-le-suc l))
 

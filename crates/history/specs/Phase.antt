@@ -49,10 +49,6 @@ abbrev pub holds : Slot → ℕ → Bool
 holds none p = false
 holds (some q) p = eqb q p
 
--- everyone's slots after an exchange
-abbrev pub exchanged : (ℕ → Slot) → Step → ℕ → Slot
-exchanged slots s i = cond (eqb i (s .nurse)) (some (s .pattern)) (slots i)
-
 -- the exchanges that give nurse i one of these patterns, if she may take it
 abbrev pub offersTo : (ℕ → ℕ → Bool) → ℕ → List ℕ → List Step
 offersTo may i [] = []

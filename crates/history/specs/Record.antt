@@ -8,8 +8,8 @@ use lib.ListN.{length, take}
 use Rattle.numbers.specs.Range.{upFrom, all}
 use Rattle.refusals.specs.Refusals.{numbered}
 use Rattle.refusals.specs.Questions as question
-use Rattle.history.specs.Slot.{Slot}
-use Rattle.history.specs.Phase.{Step, Phase, Answer, ended, End, holds, exchanged, exchanges, least, run, given}
+use Rattle.history.specs.Slot.{Slot, exchanged}
+use Rattle.history.specs.Phase.{Step, Phase, Answer, ended, End, holds, exchanges, least, run, given}
 use Rattle.refusals.specs.declared.Refusal.{Refusal}
 use Rattle.history.specs.History.{History, inUse}
 
@@ -55,7 +55,7 @@ total P r = P .cost (r .slots)
 
 -- the penalty that an exchange results in
 abbrev pub costAfter : Phase → Record → Step → ℕ
-costAfter P r s = P .cost (exchanged (r .slots) s)
+costAfter P r s = P .cost (exchanged (r .slots) (s .nurse) (s .pattern))
 
 -- the exchange that a step takes
 unfoldable pub best : Phase → Record → Option Step
@@ -65,7 +65,7 @@ best P r = least (costAfter P r) (exchanges P (mayTake r))
 unfoldable pub stepped : ℕ → Step → Record → Record
 stepped tl s r =
     record {
-      slots = exchanged (r .slots) s;
+      slots = exchanged (r .slots) (s .nurse) (s .pattern);
       removals = take tl (record { nurse = suc (s .nurse); pattern = r .slots (s .nurse) } ∷ r .removals);
       steps = suc (r .steps);
     }

@@ -11,8 +11,8 @@ use Rattle.numbers.specs.Sum.{oneIf}
 use Rattle.numbers.specs.Digits.{has}
 use Rattle.numbers.proofs.SumLaws.{sum-add, sum-le, sum-change, count-le}
 use Rattle.fields.specs.Fields.{Accepted, nurses, days, groups, weight, masks, needs, need, low, high}
-use Rattle.history.specs.Slot.{Slot, isNone}
-use Rattle.penalty.specs.Penalty.{rest, exchanged, onDuty, members, shortOn, overOn, unplacedIn, atNight, free, atDay, nightParts, nightPenalty, dayParts, dayPenalty}
+use Rattle.history.specs.Slot.{Slot, isNone, exchanged}
+use Rattle.penalty.specs.Penalty.{rest, onDuty, members, shortOn, overOn, unplacedIn, atNight, free, atDay, nightParts, nightPenalty, dayParts, dayPenalty}
 use Rattle.penalty.proofs.ColumnLaws.{exchanged-here, exchanged-there}
 
 -- ---- one duty of one day

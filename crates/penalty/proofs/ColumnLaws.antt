@@ -19,8 +19,8 @@ use Rattle.numbers.proofs.DigitLaws.{bit-of-zero, put-here, put-there}
 use Rattle.fields.specs.Fields.{nurses, days, block}
 use Rattle.rows.specs.Rows.{availableOn}
 use Rattle.penalty.specs.declared.columns.Columns.{Columns}
-use Rattle.history.specs.Slot.{Slot}
-use Rattle.penalty.specs.Penalty.{startsIn, workedIn, exchanged, atNight, free, atDay}
+use Rattle.history.specs.Slot.{Slot, exchanged}
+use Rattle.penalty.specs.Penalty.{startsIn, workedIn, atNight, free, atDay}
 use Rattle.penalty.specs.CodeColumns.{Same, ShownNight, ShownDay, Empty, PutAt, NursePut, Frees}
 
 -- ---- who is on, below m

@@ -1,10 +1,9 @@
 -- The penalty: what is short of the needs and lows, what is above the highs, and the nurses not yet placed.
 -- Nurses, groups and days count from 0 here; k is 0 for night and 1 for day.
-use mathlib.Core.Bool.{Bool, cond, _&&_}
+use mathlib.Core.Bool.{Bool, _&&_}
 use mathlib.Core.List.{List}
 use mathlib.Core.Option.{none, some}
 use Prim.Native.Nat.{ℕ, suc, _+_, _-_, _*_}
-use lib.Dec.{eqb}
 use lib.ListN.{getD}
 use Rattle.numbers.specs.Sum.{sumTo, countTo}
 use Rattle.numbers.specs.Digits.{has, numberOf}
@@ -54,10 +53,6 @@ rest x = x .short + x .over
 
 unfoldable pub unplacedIn : List ℕ → (ℕ → Slot) → ℕ
 unplacedIn w slots = countTo (nurses w) (λ i. isNone (slots i))
-
--- an exchange: nurse i takes the pattern p
-abbrev pub exchanged : (ℕ → Slot) → ℕ → ℕ → ℕ → Slot
-exchanged slots i p j = cond (eqb j i) (some p) (slots j)
 
 -- ---- the night search: nights count on N days, day counts are of available nurses, and day highs are ignored
 

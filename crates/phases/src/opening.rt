@@ -1,7 +1,7 @@
 // Question 8: whether the day search opens on a choice of nights.
+use history::Search;
 use refusals::Answer;
 use refusals::question;
-use history::Search;
 use search::Record;
 ghost use mathlib.Core.Path.{_≡_};
 ghost use mathlib.Core.Option.{some};

@@ -15,8 +15,8 @@ use Rattle.fields.specs.declared.rules.Rules.{Rules}
 use Rattle.nights.specs.Nights.{starts, follow, inCommon, common, commonOf}
 use Rattle.nights.specs.Hers.{shifted, through, lastRun, hers, nightList}
 use Rattle.days.specs.Days.{dayList, dayRule, choice, rowDuty, same, anyOf, freeOf, windowsHold, rests}
-use Rattle.history.specs.Slot.{Slot}
-use Rattle.penalty.specs.Penalty.{exchanged, onDuty, members, shortOn, overOn, unplacedIn, nightParts, nightPenalty, dayParts, dayPenalty}
+use Rattle.history.specs.Slot.{Slot, exchanged}
+use Rattle.penalty.specs.Penalty.{onDuty, members, shortOn, overOn, unplacedIn, nightParts, nightPenalty, dayParts, dayPenalty}
 use Rattle.letters.specs.Letters.{letters, rowLettersOf, letter}
 
 -- days 7, V 2, L 1, g1 3

@@ -26,8 +26,8 @@ use Rattle.penalty.specs.declared.columns.Columns.{Columns}
 use Rattle.trials.specs.declared.costs.Costs.{Costs}
 use Rattle.history.specs.declared.Search.{Search}
 use Rattle.history.specs.declared.Search.the-variants.{Nights, Days}
-use Rattle.history.specs.Slot.{Slot, isNone}
-use Rattle.penalty.specs.Penalty.{partsOf, total, rest, unplacedIn, exchanged, startsIn, workedIn, partsIn, nightPenalty, dayPenalty}
+use Rattle.history.specs.Slot.{Slot, isNone, exchanged}
+use Rattle.penalty.specs.Penalty.{partsOf, total, rest, unplacedIn, startsIn, workedIn, partsIn, nightPenalty, dayPenalty}
 use Rattle.penalty.specs.CodeColumns.{Shown, Shows, Empty, NursePut}
 use Rattle.trials.specs.CodeCosts.{Small, Chunks, ChunksSmall, trialOf}
 use Rattle.penalty.proofs.ColumnLaws.{night-none, night-more, day-none, day-more}

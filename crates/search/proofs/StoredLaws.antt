@@ -15,8 +15,8 @@ use borrow.Author.Tests.{le-ltb, ltb-true, ltb-false, eqb-true, eqb-false, ne-eq
 use Rattle.numbers.specs.Range.{upFrom, all}
 use Rattle.numbers.proofs.RangeLaws.{length-range, and-parts}
 use Rattle.numbers.proofs.AllLaws.{all-each, all-if}
-use Rattle.history.specs.Slot.{Slot}
-use Rattle.history.specs.Phase.{Step, exchanged}
+use Rattle.history.specs.Slot.{Slot, exchanged}
+use Rattle.history.specs.Phase.{Step}
 use Rattle.history.specs.Record.{Removal, Record, fresh, stepped}
 use Rattle.removals.specs.Removals.{slot, removalOf, patternOf, flagOf, storedRemoval, noRemoval, slotZero, removalZero}
 use Rattle.removals.specs.CodePush.{inFront, pushed}
@@ -353,12 +353,12 @@ module _ (m tl : ℕ) (R : Record) (h : Held m tl R) (room : tl ≤ 64) (i p : �
   abbrev removal : Removal
   removal = record { nurse = suc i; pattern = R .slots i }
 
-  patterns-step : set (map (λ j. patternOf (R .slots j)) (upFrom 0 48)) i p ≡ map (λ j. patternOf (exchanged (R .slots) took j)) (upFrom 0 48)
+  patterns-step : set (map (λ j. patternOf (R .slots j)) (upFrom 0 48)) i p ≡ map (λ j. patternOf (exchanged (R .slots) i p j)) (upFrom 0 48)
   patterns-step =
       set-below (λ j. patternOf (R .slots j)) 0 48 i p l
       ∙ ap (λ (f : ℕ → ℕ). map f (upFrom 0 48)) (fun-ext (λ j. cond-pattern (eqb j i) p (R .slots j)))
 
-  placed-step : set (map (λ j. flagOf (R .slots j)) (upFrom 0 48)) i true ≡ map (λ j. flagOf (exchanged (R .slots) took j)) (upFrom 0 48)
+  placed-step : set (map (λ j. flagOf (R .slots j)) (upFrom 0 48)) i true ≡ map (λ j. flagOf (exchanged (R .slots) i p j)) (upFrom 0 48)
   placed-step =
       set-below (λ j. flagOf (R .slots j)) false 48 i true l
       ∙ ap (λ (f : ℕ → Bool). map f (upFrom 0 48)) (fun-ext (λ j. cond-flag (eqb j i) p (R .slots j)))

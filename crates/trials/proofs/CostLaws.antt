@@ -24,8 +24,8 @@ use Rattle.trials.specs.declared.costs.Costs.{Costs}
 use Rattle.trials.specs.declared.costs.Three.{Three}
 use Rattle.history.specs.declared.Search.{Search}
 use Rattle.history.specs.declared.Search.the-variants.{Nights, Days}
-use Rattle.history.specs.Slot.{Slot}
-use Rattle.penalty.specs.Penalty.{shortOn, overOn, exchanged, atNight, free, atDay, nightParts, dayParts}
+use Rattle.history.specs.Slot.{Slot, exchanged}
+use Rattle.penalty.specs.Penalty.{shortOn, overOn, atNight, free, atDay, nightParts, dayParts}
 use Rattle.penalty.specs.CodeColumns.{Shows}
 use Rattle.trials.specs.CodeCosts.{trialAt, trialOf, Small, TrialsNight, TrialsDay, Trials}
 use Rattle.penalty.specs.CodeCounts.{weightsOf, noHigh, dutyCost}

@@ -10,8 +10,8 @@ use Rattle.fields.specs.Fields.{days}
 use Rattle.trials.specs.declared.costs.Costs.{Costs}
 use Rattle.history.specs.declared.Search.{Search}
 use Rattle.history.specs.declared.Search.the-variants.{Nights, Days}
-use Rattle.history.specs.Slot.{Slot}
-use Rattle.penalty.specs.Penalty.{rest, exchanged, nightParts, dayParts}
+use Rattle.history.specs.Slot.{Slot, exchanged}
+use Rattle.penalty.specs.Penalty.{rest, nightParts, dayParts}
 use Rattle.penalty.specs.CodeColumns.{Frees}
 
 -- a day of a trial: N if in nights, else available if in free, else neither

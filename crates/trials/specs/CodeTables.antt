@@ -4,9 +4,9 @@ use mathlib.Core.List.{List}
 use Prim.Native.Nat.{ℕ}
 use Rattle.history.specs.declared.Search.{Search}
 use Rattle.history.specs.declared.Search.the-variants.{Nights, Days}
-use Rattle.history.specs.Slot.{Slot}
+use Rattle.history.specs.Slot.{Slot, exchanged}
 use Rattle.penalty.specs.declared.columns.Columns.{Columns}
-use Rattle.penalty.specs.Penalty.{rest, exchanged, partsIn}
+use Rattle.penalty.specs.Penalty.{rest, partsIn}
 use Rattle.penalty.specs.CodeColumns.{Shows, Frees}
 use Rattle.trials.specs.declared.costs.Costs.{Costs}
 use Rattle.trials.specs.CodeCosts.{Small, Chunks, trialOf}
