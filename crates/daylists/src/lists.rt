@@ -19,7 +19,7 @@ pub fn lists_count(w: &[u64], nights: &[u32; 48], places: usize) -> Ends
     requires { ⌜ places < 2305843009213693952 ⌝ }
     ensures { λ r. ⌜ Counted (dayLists (now (w .entry)) (now (nights .entry))) (nurses (now (w .entry))) places (r .over) (r .ends) ⌝ }
 {
-    let m = w[0] as usize;
+    let m = fields::nurses(w);
     let mut ends = [0usize; 49];
     let mut at: usize = 0;
     let mut over: usize = 0;
@@ -43,7 +43,7 @@ pub fn lists_fill(w: &[u64], nights: &[u32; 48], buf: &mut [u32]) -> usize
     ensures { λ k. ⌜ k ≡ length (upTo (dayLists (now (w .entry)) (now (nights .entry))) (nurses (now (w .entry)))) ⌝ }
     ensures { λ k. ⌜ now (buf .exit) ≡ upTo (dayLists (now (w .entry)) (now (nights .entry))) (nurses (now (w .entry))) ++ drop (length (upTo (dayLists (now (w .entry)) (now (nights .entry))) (nurses (now (w .entry))))) (now (buf .entry)) ⌝ }
 {
-    let m = w[0] as usize;
+    let m = fields::nurses(w);
     let mut used: usize = 0;
     let mut i: usize = 0;
     while i < m {

@@ -13,7 +13,7 @@ use Rattle.numbers.specs.Digits.{has}
 use Rattle.numbers.proofs.RangeLaws.{and-parts, range-each, kept-exactly}
 use Rattle.numbers.proofs.DigitLaws.{number-has, bit-of-zero}
 use Rattle.numbers.proofs.AgreeLaws.{all-agree, keep-agree}
-use Rattle.fields.specs.Fields.{Accepted, days, nurses, block, blockAt, duty, leastRestsOf, mostRestsOf, markOn}
+use Rattle.fields.specs.Fields.{days, longestDays, block, duty, leastRestsOf, mostRestsOf, markOn}
 use Rattle.rows.specs.Rows.{started, rowState, available, availableOn, fixedDay, dutyOf, dutyOn}
 use Rattle.days.specs.Days.{choice, rowDuty, isRest, windowsHold, rests, dayRule, dayRuleOf, dayList}
 use Rattle.days.specs.CodeMonth.{IsSheet, Small, inBounds, dutyAt, choiceOf, ruleOf}
@@ -126,14 +126,11 @@ pub list-exactly : (w : List ℕ) (i p : ℕ) → Exactly (dayRuleOf w i p) (day
 unfolding dayList
 list-exactly w i p = kept-exactly (dayRuleOf w i p) (dayRuleOf w i p) (2 ^ days w) (λ q e. (rule-below w i p q e, e)) (λ q l e. e)
 
--- ---- her block as a part of the ward
+-- ---- a sheet of the numbers that calls give
 
-pub block-ends : (w : List ℕ) (i : ℕ) → Accepted w → i < nurses w → (16 + i * (11 + days w) + (11 + days w) ≤ length w) × (length w ≤ 4094)
-unfolding blockAt
-block-ends w i a l = (a .block-fits i l, a .bound)
-
-pub block-part : (w : List ℕ) (i : ℕ) → take (16 + i * (11 + days w) + (11 + days w) - (16 + i * (11 + days w))) (drop (16 + i * (11 + days w)) w) ≡ block w i
-unfolding block blockAt
-block-part w i =
-    let e : 16 + i * (11 + days w) + (11 + days w) - (16 + i * (11 + days w)) ≡ 11 + days w = omega arith in
-    ap (λ (k : ℕ). take k (drop (16 + i * (11 + days w)) w)) e
+pub sheet-as : (w : List ℕ) (i p : ℕ) (m : Month) (row : List ℕ) {b : List ℕ} {n longest : ℕ} → b ≡ block w i → n ≡ days w → longest ≡ longestDays w
+    → IsSheet b n longest p m row → IsSheet (block w i) (days w) (longestDays w) p m row
+sheet-as w i p m row {b} {n} {longest} eb en el s =
+    subst (λ (x : List ℕ). IsSheet x (days w) (longestDays w) p m row) eb
+    (subst (λ (x : ℕ). IsSheet b x (longestDays w) p m row) en
+    (subst (λ (x : ℕ). IsSheet b n x p m row) el s))

@@ -15,11 +15,9 @@ pub fn nurse_sheet(w: &[u64], i: usize, p: u32) -> Sheet
     requires { ⌜ i < nurses (now w) ⌝ }
     ensures { λ s. ⌜ IsSheet (block (now (w .entry)) i) (days (now (w .entry))) (longestDays (now (w .entry))) p (s .month) (s .row) ⌝ }
 {
-    let n = w[1] as usize;
-    let longest = w[9] as usize;
-    let at = 16 + i * (11 + n);
-    let end = at + (11 + n);
-    month::sheet_of(&w[at..end], n, longest, p)
+    let n = fields::days(w);
+    let longest = fields::longest_days(w);
+    month::sheet_of(fields::block(w, i), n, longest, p)
 }
 
 // Whether q is a day pattern of nurse i over the night pattern p.

@@ -1,5 +1,6 @@
 // A nurse's month under her nights, made ready for the day patterns: the duties where she works no day, the days that she may
 // work, and the ward's and her own limits.
+use fields::nurse;
 ghost use mathlib.Core.Path.{_≡_};
 ghost use mathlib.Core.Bool.{cond};
 ghost use Prim.Native.Nat.{ℕ, _+_, _^_, _≤_, _<_};
@@ -66,7 +67,7 @@ fn seven_days(b: &[u64]) -> [u64; 38]
     let mut row = [0u64; 38];
     let mut t: usize = 0;
     while t < 7 {
-        row[t] = b[t];
+        row[t] = nurse::duty(b, t);
         t = t + 1;
     }
     row

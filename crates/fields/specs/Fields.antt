@@ -83,9 +83,9 @@ unfoldable pub groupsAt : List ℕ → ℕ
 groupsAt w = 16 + nurses w * (11 + days w)
 
 -- the groups' members, nurse i as bit i - 1 of the document and i here
-unfoldable pub masks : List ℕ → List ℕ
+unfoldable pub memberSets : List ℕ → List ℕ
 unfolding groupsAt
-masks w = take (groups w) (drop (groupsAt w) w)
+memberSets w = take (groups w) (drop (groupsAt w) w)
 
 -- a day's numbers: night need, day need, then for each group night low, night high, day low, day high
 abbrev pub needsSize : List ℕ → ℕ
@@ -101,13 +101,13 @@ needs w d = take (needsSize w) (drop (needsAt w d) w)
 
 -- of a day's numbers, k being 0 for night and 1 for day: its need, and a group's low and high
 abbrev pub need : List ℕ → ℕ → ℕ
-need row k = getD row k 0
+need needs k = getD needs k 0
 
 abbrev pub low : List ℕ → ℕ → ℕ → ℕ
-low row k g = getD row (4 * g + 2 * k + 2) 0
+low needs k g = getD needs (4 * g + 2 * k + 2) 0
 
 abbrev pub high : List ℕ → ℕ → ℕ → ℕ
-high row k g = getD row (4 * g + 2 * k + 3) 0
+high needs k g = getD needs (4 * g + 2 * k + 3) 0
 
 -- ---- an accepted ward: what the reader's yes says of its numbers, as far as later code leans on it
 
@@ -145,6 +145,6 @@ pub record Accepted (w : List ℕ) : Type 0 where
   pub needs-fit : (d : ℕ) → d < days w → needsAt w d + needsSize w ≤ length w
   pub size : length w ≡ needsAt w (days w)
   pub blocks : (i : ℕ) → i < nurses w → Block (block w i) (days w)
-  pub masks-most : (g : ℕ) → getD (masks w) g 0 < 2 ^ nurses w
+  pub member-sets-most : (g : ℕ) → getD (memberSets w) g 0 < 2 ^ nurses w
   pub needs-most : (d j : ℕ) → d < days w → getD (needs w d) j 0 ≤ 48
   pub low-high : (d k g : ℕ) → d < days w → k < 2 → g < groups w → low (needs w d) k g ≤ high (needs w d) k g

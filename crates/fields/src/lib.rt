@@ -1,4 +1,6 @@
 // The fields of an accepted ward, over its numbers in file order. Nurses and days count from 0.
+pub mod day;
+pub mod nurse;
 pub mod rules;
 
 ghost use mathlib.Core.Path.{_≡_};
@@ -38,7 +40,23 @@ pub fn tabu(w: &[u64]) -> usize
     w[8] as usize
 }
 
-// Nurse i's numbers: seven duties, least and most nights, least and most rests, the marks.
+// D
+pub fn longest_days(w: &[u64]) -> usize
+    requires { ⌜ Accepted (now w) ⌝ }
+    ensures { λ r. ⌜ (r ≡ of.longestDays (now (w .entry))) × (r ≤ 6) ⌝ }
+{
+    w[9] as usize
+}
+
+// The weights: w, u, v for night, then w, u, v for day.
+pub fn weight(w: &[u64], k: usize) -> u64
+    requires { ⌜ Accepted (now w) × (k < 6) ⌝ }
+    ensures { λ r. ⌜ r ≡ of.weight (now (w .entry)) k ⌝ }
+{
+    w[10 + k]
+}
+
+// Nurse i's numbers, which `nurse` reads.
 pub fn block(w: &[u64], i: usize) -> &[u64]
     requires { ⌜ Accepted (now w) × (i < of.nurses (now w)) ⌝ }
     ensures { λ r. ⌜ now r ≡ of.block (now (w .entry)) i ⌝ }
@@ -59,17 +77,17 @@ fn groups_at(w: &[u64]) -> usize
     16 + m * size
 }
 
-// The groups' members.
-pub fn masks(w: &[u64]) -> &[u64]
+// The groups' members, each a set.
+pub fn member_sets(w: &[u64]) -> &[u64]
     requires { ⌜ Accepted (now w) ⌝ }
-    ensures { λ r. ⌜ now r ≡ of.masks (now (w .entry)) ⌝ }
+    ensures { λ r. ⌜ now r ≡ of.memberSets (now (w .entry)) ⌝ }
 {
     let a = groups_at(w);
     let e = a + groups(w);
     &w[a..e]
 }
 
-// A day's numbers: night need, day need, then for each group night low, night high, day low, day high.
+// A day's numbers, which `day` reads.
 pub fn needs(w: &[u64], d: usize) -> &[u64]
     requires { ⌜ Accepted (now w) × (d < of.days (now w)) ⌝ }
     ensures { λ r. ⌜ now r ≡ of.needs (now (w .entry)) d ⌝ }

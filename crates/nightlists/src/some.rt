@@ -49,5 +49,6 @@ pub fn has_pattern(w: &[u64], i: usize) -> bool
     ensures { λ h. ⌜ h ≡ ltb 0 (length (nightList (now (w .entry)) i)) ⌝ }
 {
     let m = masks::masks_of(w, i);
-    some(w[1], 0, crate::fresh(), fields::rules::rules_of(w), w, m)
+    let n = fields::days(w) as u64;
+    some(n, 0, crate::fresh(), fields::rules::rules_of(w), w, m)
 }

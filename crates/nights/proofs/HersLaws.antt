@@ -11,10 +11,12 @@ use borrow.Author.Tests.{ne-eqb}
 use Rattle.numbers.specs.Range.{upFrom, keep}
 use Rattle.numbers.specs.Digits.{has}
 use Rattle.numbers.proofs.RangeLaws.{range-turn, range-done}
+use Rattle.fields.specs.Fields.{days, block}
+use Rattle.fields.specs.Rules.{rulesOf}
 use Rattle.rows.specs.Rows.{started, marksAllow}
 use Rattle.fields.specs.declared.rules.Rules.{Rules}
 use Rattle.nights.specs.Nights.{starts, follow, allowed, runWith, inCommon}
-use Rattle.nights.specs.Hers.{shifted, through, lastDuty, lastRun, hers}
+use Rattle.nights.specs.Hers.{shifted, through, lastDuty, lastRun, hers, hersOf}
 
 -- ---- the starts that are left
 
@@ -87,3 +89,7 @@ pub hers-is : (r : Rules) (n p : ℕ) (b : List ℕ) → hers r n b p
     && (leb (getD b 7 0) (length (starts n p)) && leb (length (starts n p)) (getD b 8 0))))))
 unfolding hers inCommon
 hers-is r n p b = refl
+
+-- the same of rules, days and block as calls give them
+pub hers-as : (w : List ℕ) (i p : ℕ) {r : Rules} {n : ℕ} {b : List ℕ} → r ≡ rulesOf w → n ≡ days w → b ≡ block w i → hers r n b p ≡ hersOf w i p
+hers-as w i p er en eb = λ j. hers (er j) (en j) (eb j) p

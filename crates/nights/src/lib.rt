@@ -1,4 +1,5 @@
 // A nurse's own night patterns: those of the common list that her last days, her marks and her bounds allow.
+use fields::nurse;
 use fields::rules::Rules;
 ghost use mathlib.Core.Path.{_≡_};
 ghost use Prim.Native.Nat.{_+_, _≤_, _<_};
@@ -39,7 +40,7 @@ pub fn last_run(b: &[u64]) -> Run
     let mut i: usize = 0;
     while i < 7 {
         day += 1;
-        if b[i] == 2 {
+        if nurse::duty(b, i) == 2 {
             run = run_with(prev, run, day);
             prev = day;
         }
@@ -123,10 +124,10 @@ fn is_hers_by(r: Rules, n: u64, b: &[u64], p: u32) -> bool
     if r.most < k {
         return false;
     }
-    if k < b[7] {
+    if k < nurse::least_nights(b) {
         return false;
     }
-    if b[8] < k {
+    if nurse::most_nights(b) < k {
         return false;
     }
     if keeps(r, Run { prev: 0, run: 0 }, 0, n, p) {
@@ -143,5 +144,10 @@ pub fn is_hers(w: &[u64], i: usize, p: u32) -> bool
     requires { ⌜ i < nurses (now w) ⌝ }
     ensures { λ h. ⌜ h ≡ hersOf (now (w .entry)) i p ⌝ }
 {
-    is_hers_by(fields::rules::rules_of(w), w[1], fields::block(w, i), p)
+    is_hers_by(
+        fields::rules::rules_of(w),
+        fields::days(w) as u64,
+        fields::block(w, i),
+        p,
+    )
 }

@@ -135,7 +135,8 @@ fn show_ward(w: &[u64])
 {
     let mut buf = [7u32; 16384];
     io::write_all(1, b"ward");
-    let k = show_list(fields::rules::rules_of(w), w[1], &mut buf);
+    let n = fields::days(w) as u64;
+    let k = show_list(fields::rules::rules_of(w), n, &mut buf);
     if k <= 16384 {
         show_nurses(w, &buf[..k]);
     }

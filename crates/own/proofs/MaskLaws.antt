@@ -18,8 +18,9 @@ use Rattle.numbers.specs.Digits.{has, numberOf}
 use Rattle.numbers.proofs.RangeLaws.{all-at, all-range, length-range, range-at}
 use Rattle.numbers.proofs.DigitLaws.{number-lt, number-has, number-suc, number-zero}
 use Rattle.numbers.proofs.SetLaws.{has-and, has-or, has-not, has-first, has-moved, has-back, has-above, none-zero}
-use Rattle.fields.specs.Fields.{duty, markOn}
-use Rattle.rows.specs.Rows.{stateAfter, dayZero, rowState, allows, marksAllow, availableOn}
+use Rattle.fields.specs.Fields.{days, block, duty, leastNightsOf, mostNightsOf, markOn}
+use Rattle.fields.specs.Rules.{rulesOf}
+use Rattle.rows.specs.Rows.{stateAfter, dayZero, rowState, allows, marksAllow, available, availableOn}
 use Rattle.fields.specs.declared.rules.Rules.{Rules}
 use Rattle.nights.specs.declared.Run.{Run}
 use Rattle.own.specs.declared.masks.Bars.{Bars}
@@ -37,6 +38,15 @@ set-start t e = sym (number-suc t 0 ∙ rw (e, number-zero t))
 
 pub set-turn : (t : ℕ → Bool) (d s x : ℕ) → s ≡ numberOf t (d + 1) → x ≡ cond (t (suc d)) (2 ^ (d + 1)) 0 → s + x ≡ numberOf t (d + 1 + 1)
 set-turn t d s x e h = rw (e, h) (sym (number-suc t (d + 1) ∙ ap (λ (k : ℕ). numberOf t (d + 1) + cond (t k) (2 ^ (d + 1)) 0) (add-one d)))
+
+-- a day's part of the set of the days that bar a state, and of the workable days
+pub barred-day : (b : List ℕ) (state d : ℕ) {mark x : ℕ} {ok : Bool} → mark ≡ markOn b (suc d) → ok ≡ allows mark state → x ≡ cond (not ok) (2 ^ (d + 1)) 0
+    → x ≡ cond (barred b state (suc d)) (2 ^ (d + 1)) 0
+barred-day b state d em eo ex = ex ∙ ap (λ (v : Bool). cond (not v) (2 ^ (d + 1)) 0) (eo ∙ ap (λ (m : ℕ). allows m state) em)
+
+pub workable-day : (b : List ℕ) (d : ℕ) {mark x : ℕ} {ok : Bool} → mark ≡ markOn b (suc d) → ok ≡ available mark 0 → x ≡ cond ok (2 ^ (d + 1)) 0
+    → x ≡ cond (workable b (suc d)) (2 ^ (d + 1)) 0
+workable-day b d em eo ex = ex ∙ ap (λ (v : Bool). cond v (2 ^ (d + 1)) 0) (eo ∙ ap (λ (m : ℕ). available m 0) em)
 
 pub set-small : (t : ℕ → Bool) (n : ℕ) → n ≤ 31 → numberOf t (suc n) < 2 ^ 32
 set-small t n h = omega (arith, number-lt t (suc n), pow-mono {i = suc n} {j = 32} (omega arith))
@@ -426,18 +436,18 @@ module _ (r : Rules) (n p : ℕ) (b : List ℕ) (m : Masks) (is : m ≡ masksOf 
 
 -- ---- a nurse's masks, made of their parts
 
-module _ (r : Rules) (n : ℕ) (b : List ℕ) (bs : Bars) (wk ni se ne : ℕ) (la : Run)
-    (e1 : bs ≡ barsOf n b) (e2 : wk ≡ numberOf (workable b) (suc n)) (e3 : ni ≡ oneIf (eqb (duty b 6) 2)) (e4 : se ≡ oneIf (eqb (duty b 6) 3)) where
+module _ (r : Rules) (n : ℕ) (b : List ℕ) (bs : Bars) (wk ni se ne lo hi : ℕ) (la : Run)
+    (e1 : bs ≡ barsOf n b) (e2 : wk ≡ numberOf (workable b) (suc n)) (e3 : ni ≡ oneIf (eqb (duty b 6) 2)) (e4 : se ≡ oneIf (eqb (duty b 6) 3)) (e8 : lo ≡ leastNightsOf b) (e9 : hi ≡ mostNightsOf b) where
   pub masks-made : ne ≡ 2 ^ near r (la .prev) (la .run) - 1 → (la .prev ≡ lastRun b .0) × (la .run ≡ lastRun b .1)
-      → record { bars = bs; never = bitOr (bs .night / 2) (bs .second / 4); workable = wk; night = ni; second = se; near = ne; last = la; least = getD b 7 0; most = getD b 8 0 } ≡ masksOf r n b
+      → record { bars = bs; never = bitOr (bs .night / 2) (bs .second / 4); workable = wk; night = ni; second = se; near = ne; last = la; least = lo; most = hi } ≡ masksOf r n b
   unfolding masksOf
   masks-made e5 (e6, e7) =
       let run : la ≡ record { prev = lastRun b .0; run = lastRun b .1 } = ap₂ (λ (x y : ℕ). record { prev = x; run = y }) e6 e7 in
       let days : ne ≡ 2 ^ near r (lastRun b .0) (lastRun b .1) - 1 = e5 ∙ ap₂ (λ (x y : ℕ). 2 ^ near r x y - 1) e6 e7 in
-      rw (e1, e2, e3, e4, days, run)
+      rw (e1, e2, e3, e4, e8, e9, days, run)
 
   pub masks-small : n ≤ 31 → (la .prev ≤ 7) × (la .run ≤ 7)
-      → Masked (record { bars = bs; never = bitOr (bs .night / 2) (bs .second / 4); workable = wk; night = ni; second = se; near = ne; last = la; least = getD b 7 0; most = getD b 8 0 })
+      → Masked (record { bars = bs; never = bitOr (bs .night / 2) (bs .second / 4); workable = wk; night = ni; second = se; near = ne; last = la; least = lo; most = hi })
   masks-small small (h, k) = record {
     night = rw e3 (omega (arith, one-below (eqb (duty b 6) 2)));
     second = rw e4 (omega (arith, one-below (eqb (duty b 6) 3)));
@@ -445,3 +455,7 @@ module _ (r : Rules) (n : ℕ) (b : List ℕ) (bs : Bars) (wk ni se ne : ℕ) (l
     prev = h;
     run = k;
   }
+
+-- the masks of rules, days and block as calls give them
+pub masks-as : (w : List ℕ) (i : ℕ) {r : Rules} {n : ℕ} {b : List ℕ} → r ≡ rulesOf w → n ≡ days w → b ≡ block w i → masksOf r n b ≡ masksOf (rulesOf w) (days w) (block w i)
+masks-as w i er en eb = λ j. masksOf (er j) (en j) (eb j)

@@ -5,10 +5,9 @@ use mathlib.Core.List.{List}
 use Prim.Native.Nat.{ℕ, zero, suc, _+_, _-_, _/_, _^_, _≤_, _<_}
 use lib.Bits.{bitOr}
 use lib.Dec.{eqb}
-use lib.ListN.{getD}
 use Rattle.numbers.specs.Sum.{oneIf}
 use Rattle.numbers.specs.Digits.{has, numberOf}
-use Rattle.fields.specs.Fields.{duty, leastNightsOf, mostNightsOf}
+use Rattle.fields.specs.Fields.{duty, leastNightsOf, mostNightsOf, markOn}
 use Rattle.rows.specs.Rows.{allows, available, availableOn, rowState}
 use Rattle.fields.specs.declared.rules.Rules.{Rules}
 use Rattle.own.specs.declared.masks.Bars.{Bars}
@@ -20,12 +19,12 @@ use Rattle.nights.specs.Hers.{lastRun}
 -- her mark of day d bars the state
 abbrev pub barred : List ℕ → ℕ → ℕ → Bool
 barred b state zero = false
-barred b state (suc d) = not (allows (getD b (11 + d) 0) state)
+barred b state (suc d) = not (allows (markOn b (suc d)) state)
 
 -- her mark of day d lets her work it where it is open
 abbrev pub workable : List ℕ → ℕ → Bool
 workable b zero = false
-workable b (suc d) = available (getD b (11 + d) 0) 0
+workable b (suc d) = available (markOn b (suc d)) 0
 
 -- the days, from 0, on which a pattern of the common list may not start: its own mark bars N, or the next day's bars n
 abbrev pub never : ℕ → List ℕ → ℕ

@@ -1,5 +1,6 @@
 // A fast test of a pattern of the common list for one nurse: her marks, bounds and last days as sets of days.
 // In these sets day d of the month is bit d, and day 0 is bit 0.
+use fields::nurse;
 use fields::rules::Rules;
 use nights::Run;
 ghost use mathlib.Core.Path.{_≡_};
@@ -69,11 +70,9 @@ fn barred_days(b: &[u64], n: u64, state: usize) -> u64
 {
     let mut set: u64 = 0;
     let mut day: u64 = 0;
-    let mut i: usize = 11;
     while day < n {
-        let mark = b[i] as usize;
+        let mark = nurse::mark(b, day as usize) as usize;
         day += 1;
-        i += 1;
         set += day_if(!rows::mark_allows(mark, state), day);
     }
     set
@@ -87,11 +86,9 @@ fn workable_days(b: &[u64], n: u64) -> u64
 {
     let mut set: u64 = 0;
     let mut day: u64 = 0;
-    let mut i: usize = 11;
     while day < n {
-        let mark = b[i];
+        let mark = nurse::mark(b, day as usize);
         day += 1;
-        i += 1;
         set += day_if(rows::is_available(mark, 0), day);
     }
     set
@@ -143,12 +140,12 @@ fn masks_by(r: Rules, n: u64, b: &[u64]) -> Masks
         bars,
         never,
         workable: workable_days(b, n),
-        night: numbers::one_if(b[6] == 2),
-        second: numbers::one_if(b[6] == 3),
+        night: numbers::one_if(nurse::last_duty(b) == 2),
+        second: numbers::one_if(nurse::last_duty(b) == 3),
         near,
         last,
-        least: b[7],
-        most: b[8],
+        least: nurse::least_nights(b),
+        most: nurse::most_nights(b),
     }
 }
 
@@ -159,7 +156,11 @@ pub fn masks_of(w: &[u64], i: usize) -> Masks
     ensures is { λ m. ⌜ m ≡ masksOf (rulesOf (now (w .entry))) (days (now (w .entry))) (block (now (w .entry)) i) ⌝ }
     ensures small { λ m. ⌜ Masked m ⌝ }
 {
-    masks_by(fields::rules::rules_of(w), w[1], fields::block(w, i))
+    masks_by(
+        fields::rules::rules_of(w),
+        fields::days(w) as u64,
+        fields::block(w, i),
+    )
 }
 
 // The days of a row, day 0 with them: N, n and R.

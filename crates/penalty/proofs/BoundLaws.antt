@@ -10,7 +10,7 @@ use lib.ListN.{getD}
 use Rattle.numbers.specs.Sum.{oneIf}
 use Rattle.numbers.specs.Digits.{has}
 use Rattle.numbers.proofs.SumLaws.{sum-add, sum-le, sum-change, count-le}
-use Rattle.fields.specs.Fields.{Accepted, nurses, days, groups, weight, masks, needs, need, low, high}
+use Rattle.fields.specs.Fields.{Accepted, nurses, days, groups, weight, memberSets, needs, need, low, high}
 use Rattle.history.specs.Slot.{Slot, isNone, exchanged}
 use Rattle.penalty.specs.Penalty.{rest, onDuty, members, shortOn, overOn, unplacedIn, atNight, free, atDay, nightParts, nightPenalty, dayParts, dayPenalty}
 use Rattle.penalty.proofs.ColumnLaws.{exchanged-here, exchanged-there}
@@ -39,7 +39,7 @@ module _ (w : List ℕ) (a : Accepted w) (k d : ℕ) (on : ℕ → Bool) (hk : k
 
   pub members-le : (g : ℕ) → members w on g ≤ 48
   unfolding members
-  members-le g = le-trans (count-le (nurses w) (λ i. on i && has (getD (masks w) g 0) i)) (a .nurses-most)
+  members-le g = le-trans (count-le (nurses w) (λ i. on i && has (getD (memberSets w) g 0) i)) (a .nurses-most)
 
   pub short-most : shortOn w k on d ≤ 81600
   unfolding shortOn

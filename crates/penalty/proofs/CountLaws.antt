@@ -9,7 +9,7 @@ use lib.ListN.{length, getD}
 use Rattle.numbers.specs.Sum.{sumTo, Is}
 use Rattle.numbers.specs.Digits.{has}
 use Rattle.numbers.proofs.SumLaws.{sum-ext, sum-add, sum-none, loop-start, loop-turn}
-use Rattle.fields.specs.Fields.{Accepted, nurses, days, groups, weight, masks, needs, need, low, high}
+use Rattle.fields.specs.Fields.{Accepted, nurses, days, groups, weight, memberSets, needs, need, low, high}
 use Rattle.penalty.specs.declared.columns.Columns.{Columns}
 use Rattle.penalty.specs.declared.duty.Weights.{Weights}
 use Rattle.penalty.specs.declared.duty.Duty.{Duty}
@@ -20,7 +20,7 @@ use Rattle.history.specs.Slot.{Slot}
 use Rattle.penalty.specs.Penalty.{partsOf, onDuty, members, shortOn, overOn, unplacedIn, nightParts, dayParts, partsIn}
 use Rattle.penalty.specs.CodeCounts.{Bounded, weightsOf, noHigh, Counts, membersIn, needTerm, lowTerm, highTerm, groupTerm, dutyShort, dutyOver, dutyCost, shortIn, overIn, DayCounts, shortAt, overAt}
 use Rattle.penalty.specs.CodeColumns.{Same, Shows}
-use Rattle.penalty.proofs.FieldLaws.{length-masks}
+use Rattle.fields.proofs.FieldLaws.{length-member-sets}
 use Rattle.penalty.proofs.ColumnLaws.{count-same, all-same}
 
 -- ---- one duty of one day
@@ -34,31 +34,31 @@ module _ (w : List ℕ) (a : Accepted w) (k d : ℕ) (f on : ℕ → Bool) (s : 
   short-same =
       ap₂ (λ (x y : ℕ). x + y)
       (ap (λ (x : ℕ). weight w (3 * k) * (need (needs w d) k - x)) (all-same (nurses w) f on s 64 few))
-      (ap (λ (n : ℕ). sumTo n (λ g. weight w (3 * k + 1) * (low (needs w d) k g - membersIn (masks w) f g))) (length-masks w a)
-      ∙ sum-ext (groups w) _ _ (λ g l. ap (λ (x : ℕ). weight w (3 * k + 1) * (low (needs w d) k g - x)) (count-same (nurses w) f on s 64 few (has (getD (masks w) g 0)))))
+      (ap (λ (n : ℕ). sumTo n (λ g. weight w (3 * k + 1) * (low (needs w d) k g - membersIn (memberSets w) f g))) (length-member-sets w a)
+      ∙ sum-ext (groups w) _ _ (λ g l. ap (λ (x : ℕ). weight w (3 * k + 1) * (low (needs w d) k g - x)) (count-same (nurses w) f on s 64 few (has (getD (memberSets w) g 0)))))
 
   pub over-same : overIn w k d f ≡ overOn w k on d
   unfolding highTerm weightsOf overOn members
   over-same =
-      ap (λ (n : ℕ). sumTo n (λ g. weight w (3 * k + 2) * (membersIn (masks w) f g - high (needs w d) k g))) (length-masks w a)
-      ∙ sum-ext (groups w) _ _ (λ g l. ap (λ (x : ℕ). weight w (3 * k + 2) * (x - high (needs w d) k g)) (count-same (nurses w) f on s 64 few (has (getD (masks w) g 0))))
+      ap (λ (n : ℕ). sumTo n (λ g. weight w (3 * k + 2) * (membersIn (memberSets w) f g - high (needs w d) k g))) (length-member-sets w a)
+      ∙ sum-ext (groups w) _ _ (λ g l. ap (λ (x : ℕ). weight w (3 * k + 2) * (x - high (needs w d) k g)) (count-same (nurses w) f on s 64 few (has (getD (memberSets w) g 0))))
 
 -- short and over together
-pub cost-both : (wt : Weights) (masks row : List ℕ) (k : ℕ) (f : ℕ → Bool) → dutyCost wt masks row k f ≡ dutyShort wt masks row k f + dutyOver wt masks row k f
+pub cost-both : (wt : Weights) (sets needs : List ℕ) (k : ℕ) (f : ℕ → Bool) → dutyCost wt sets needs k f ≡ dutyShort wt sets needs k f + dutyOver wt sets needs k f
 unfolding groupTerm
-cost-both wt masks row k f = omega (arith, sum-add (length masks) (lowTerm wt masks row k f) (highTerm wt masks row k f))
+cost-both wt sets needs k f = omega (arith, sum-add (length sets) (lowTerm wt sets needs k f) (highTerm wt sets needs k f))
 
 -- with highs ignored
-pub cost-low : (wt : Weights) (masks row : List ℕ) (k : ℕ) (f : ℕ → Bool) → dutyCost (noHigh wt) masks row k f ≡ dutyShort wt masks row k f
+pub cost-low : (wt : Weights) (sets needs : List ℕ) (k : ℕ) (f : ℕ → Bool) → dutyCost (noHigh wt) sets needs k f ≡ dutyShort wt sets needs k f
 unfolding needTerm lowTerm highTerm
-cost-low wt masks row k f =
-    let z : dutyOver (noHigh wt) masks row k f ≡ 0 = sum-none (length masks) _ (λ g l. zero-mul (membersIn masks f g - high row k g)) in
-    omega (arith, cost-both (noHigh wt) masks row k f)
+cost-low wt sets needs k f =
+    let z : dutyOver (noHigh wt) sets needs k f ≡ 0 = sum-none (length sets) _ (λ g l. zero-mul (membersIn sets f g - high needs k g)) in
+    omega (arith, cost-both (noHigh wt) sets needs k f)
 
 -- ---- one day, from what the calls gave
 
-pub duty-of : (w : List ℕ) (k d column : ℕ) {wt : Weights} {ms row : List ℕ} {r : Duty} {b c : ℕ} → wt ≡ weightsOf w k → ms ≡ masks w → row ≡ needs w d
-    → Counts r (dutyShort wt ms row k (has column)) b (dutyOver wt ms row k (has column)) c → Counts r (shortIn w k d (has column)) b (overIn w k d (has column)) c
+pub duty-of : (w : List ℕ) (k d column : ℕ) {wt : Weights} {sets numbers : List ℕ} {r : Duty} {b c : ℕ} → wt ≡ weightsOf w k → sets ≡ memberSets w → numbers ≡ needs w d
+    → Counts r (dutyShort wt sets numbers k (has column)) b (dutyOver wt sets numbers k (has column)) c → Counts r (shortIn w k d (has column)) b (overIn w k d (has column)) c
 duty-of w k d column e m q h = record {
   short-is = record { is = h .short-is .is ∙ (λ j. dutyShort (e j) (m j) (q j) k (has column)); most = h .short-is .most };
   over-is = record { is = h .over-is .is ∙ (λ j. dutyOver (e j) (m j) (q j) k (has column)); most = h .over-is .most };

@@ -6,9 +6,10 @@ use native.Mathlib.Nat.{mul-le-mul}
 use native.Mathlib.Omega.{arith}
 use lib.ListN.{length, drop, length-drop}
 use lib.Seq.{length-take-le}
-use Rattle.fields.specs.Fields.{Accepted, nurses, days, groups, groupsAt, masks, needsAt, needsSize, needs}
+use Rattle.fields.specs.Fields.{Accepted, nurses, days, groups, groupsAt, memberSets, needsAt, needsSize, needs}
+use Rattle.fields.proofs.FieldLaws.{length-member-sets, length-needs}
 use Rattle.penalty.specs.declared.duty.Weights.{Weights}
-use Rattle.penalty.specs.CodeCounts.{weightsOf, noHigh, Light, Row}
+use Rattle.penalty.specs.CodeCounts.{weightsOf, noHigh, Light, DayNeeds}
 
 -- products of the header's numbers
 pub groups-product : {w : List ℕ} → Accepted w → nurses w * (11 + days w) ≤ 2016
@@ -23,18 +24,10 @@ needs-product {w} {d} a h =
     mul-le-mul p q
 
 module _ (w : List ℕ) (a : Accepted w) where
-  pub length-masks : length (masks w) ≡ groups w
-  unfolding masks
-  length-masks = length-take-le (groups w) (drop (groupsAt w) w) (rw (length-drop (groupsAt w) w) (omega (arith, a .groups-fit)))
-
-  pub length-needs : (d : ℕ) → d < days w → length (needs w d) ≡ needsSize w
-  unfolding needs
-  length-needs d h = length-take-le (needsSize w) (drop (needsAt w d) w) (rw (length-drop (needsAt w d) w) (omega (arith, a .needs-fit d h)))
-
-  pub row-is : (d : ℕ) → d < days w → Row (masks w) (needs w d)
-  row-is d h = record {
-    groups = rw length-masks (a .groups-most);
-    size = rw (length-masks, length-needs d h);
+  pub needs-are : (d : ℕ) → d < days w → DayNeeds (memberSets w) (needs w d)
+  needs-are d h = record {
+    groups = rw (length-member-sets w a) (a .groups-most);
+    size = rw (length-member-sets w a, length-needs w d a h);
     small = λ j. a .needs-most d j h;
   }
 
@@ -50,8 +43,8 @@ pub light-no-high : {wt : Weights} → Light wt → Light (noHigh wt)
 light-no-high l = record { light-w = l .light-w; light-u = l .light-u; light-v = omega arith }
 
 -- the same of parts under other names, as a call's results are
-pub row-of : (w : List ℕ) (d : ℕ) {ms row : List ℕ} → Accepted w → d < days w → ms ≡ masks w → row ≡ needs w d → Row ms row
-row-of w d a h e q = rw (e, q) (row-is w a d h)
+pub needs-of : (w : List ℕ) (d : ℕ) {sets numbers : List ℕ} → Accepted w → d < days w → sets ≡ memberSets w → numbers ≡ needs w d → DayNeeds sets numbers
+needs-of w d a h e q = rw (e, q) (needs-are w a d h)
 
 pub light-of : (w : List ℕ) (k : ℕ) {wt : Weights} → Accepted w → k < 2 → wt ≡ weightsOf w k → Light wt
 light-of w k a h e = rw e (light w a k h)

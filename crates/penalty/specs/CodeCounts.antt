@@ -8,7 +8,7 @@ use Rattle.history.specs.declared.Search.{Search}
 use Rattle.history.specs.declared.Search.the-variants.{Nights, Days}
 use Rattle.numbers.specs.Sum.{sumTo, countTo, Is}
 use Rattle.numbers.specs.Digits.{has}
-use Rattle.fields.specs.Fields.{weight, masks, needs, need, low, high}
+use Rattle.fields.specs.Fields.{weight, memberSets, needs, need, low, high}
 use Rattle.penalty.specs.declared.duty.Weights.{Weights}
 use Rattle.penalty.specs.declared.duty.Duty.{Duty}
 use Rattle.penalty.specs.declared.Penalty.{Penalty}
@@ -26,38 +26,38 @@ pub record Light (wt : Weights) : Type 0 where
   pub light-v : wt .v ≤ 100
 
 -- what an accepted ward says of its groups and a day's numbers
-pub record Row (masks row : List ℕ) : Type 0 where
-  pub groups : length masks ≤ 16
-  pub size : length row ≡ 4 * length masks + 2
-  pub small : (j : ℕ) → getD row j 0 ≤ 48
+pub record DayNeeds (sets needs : List ℕ) : Type 0 where
+  pub groups : length sets ≤ 16
+  pub size : length needs ≡ 4 * length sets + 2
+  pub small : (j : ℕ) → getD needs j 0 ≤ 48
 
 -- ---- one duty of one day
 
 abbrev pub membersIn : List ℕ → (ℕ → Bool) → ℕ → ℕ
-membersIn masks f g = countTo 64 (λ i. f i && has (getD masks g 0) i)
+membersIn sets f g = countTo 64 (λ i. f i && has (getD sets g 0) i)
 
 unfoldable pub needTerm : Weights → List ℕ → ℕ → (ℕ → Bool) → ℕ
-needTerm wt row k f = wt .w * (need row k - countTo 64 f)
+needTerm wt needs k f = wt .w * (need needs k - countTo 64 f)
 
 unfoldable pub lowTerm : Weights → List ℕ → List ℕ → ℕ → (ℕ → Bool) → ℕ → ℕ
-lowTerm wt masks row k f g = wt .u * (low row k g - membersIn masks f g)
+lowTerm wt sets needs k f g = wt .u * (low needs k g - membersIn sets f g)
 
 unfoldable pub highTerm : Weights → List ℕ → List ℕ → ℕ → (ℕ → Bool) → ℕ → ℕ
-highTerm wt masks row k f g = wt .v * (membersIn masks f g - high row k g)
+highTerm wt sets needs k f g = wt .v * (membersIn sets f g - high needs k g)
 
 -- both terms of a group
 unfoldable pub groupTerm : Weights → List ℕ → List ℕ → ℕ → (ℕ → Bool) → ℕ → ℕ
 unfolding lowTerm highTerm
-groupTerm wt masks row k f g = lowTerm wt masks row k f g + highTerm wt masks row k f g
+groupTerm wt sets needs k f g = lowTerm wt sets needs k f g + highTerm wt sets needs k f g
 
 abbrev pub dutyShort : Weights → List ℕ → List ℕ → ℕ → (ℕ → Bool) → ℕ
-dutyShort wt masks row k f = needTerm wt row k f + sumTo (length masks) (lowTerm wt masks row k f)
+dutyShort wt sets needs k f = needTerm wt needs k f + sumTo (length sets) (lowTerm wt sets needs k f)
 
 abbrev pub dutyOver : Weights → List ℕ → List ℕ → ℕ → (ℕ → Bool) → ℕ
-dutyOver wt masks row k f = sumTo (length masks) (highTerm wt masks row k f)
+dutyOver wt sets needs k f = sumTo (length sets) (highTerm wt sets needs k f)
 
 abbrev pub dutyCost : Weights → List ℕ → List ℕ → ℕ → (ℕ → Bool) → ℕ
-dutyCost wt masks row k f = needTerm wt row k f + sumTo (length masks) (groupTerm wt masks row k f)
+dutyCost wt sets needs k f = needTerm wt needs k f + sumTo (length sets) (groupTerm wt sets needs k f)
 
 -- what a duty's two results are, and their bounds
 pub record Counts (r : Duty) (s b o c : ℕ) : Type 0 where
@@ -67,10 +67,10 @@ pub record Counts (r : Duty) (s b o c : ℕ) : Type 0 where
 -- ---- the days
 
 abbrev pub shortIn : List ℕ → ℕ → ℕ → (ℕ → Bool) → ℕ
-shortIn w k d f = dutyShort (weightsOf w k) (masks w) (needs w d) k f
+shortIn w k d f = dutyShort (weightsOf w k) (memberSets w) (needs w d) k f
 
 abbrev pub overIn : List ℕ → ℕ → ℕ → (ℕ → Bool) → ℕ
-overIn w k d f = dutyOver (weightsOf w k) (masks w) (needs w d) k f
+overIn w k d f = dutyOver (weightsOf w k) (memberSets w) (needs w d) k f
 
 -- one day on its two columns, by night or by day
 abbrev pub shortWith : Search → List ℕ → ℕ → ℕ → ℕ → ℕ

@@ -10,7 +10,7 @@ use Rattle.numbers.specs.Digits.{has, numberOf}
 use Rattle.history.specs.declared.Search.{Search}
 use Rattle.history.specs.declared.Search.the-variants.{Nights, Days}
 use Rattle.history.specs.Slot.{Slot, isNone, unplacedCost}
-use Rattle.fields.specs.Fields.{nurses, days, groups, weight, block, masks, needs, need, low, high}
+use Rattle.fields.specs.Fields.{nurses, days, groups, weight, block, memberSets, needs, need, low, high}
 use Rattle.rows.specs.Rows.{availableOn, fixedNight, fixedDay}
 use Rattle.penalty.specs.declared.Penalty.{Penalty}
 
@@ -21,7 +21,7 @@ unfoldable pub onDuty : List ℕ → (ℕ → Bool) → ℕ
 onDuty w on = countTo (nurses w) on
 
 unfoldable pub members : List ℕ → (ℕ → Bool) → ℕ → ℕ
-members w on g = countTo (nurses w) (λ i. on i && has (getD (masks w) g 0) i)
+members w on g = countTo (nurses w) (λ i. on i && has (getD (memberSets w) g 0) i)
 
 -- w for each nurse short of the need; for each group u for each member short of low
 unfoldable pub shortOn : List ℕ → ℕ → (ℕ → Bool) → ℕ → ℕ

@@ -1,10 +1,11 @@
 // The penalty of one duty on one day, on its column.
+use fields::day;
 ghost use mathlib.Core.Path.{_≡_};
 ghost use Prim.Native.Nat.{_-_, _*_, _<_, _≤_};
 ghost use lib.ListN.{length};
 ghost use Rattle.numbers.specs.Sum.{Is};
 ghost use Rattle.numbers.specs.Digits.{has};
-ghost use Rattle.penalty.specs.CodeCounts.{Light, Row, Counts, lowTerm, highTerm, dutyShort, dutyOver};
+ghost use Rattle.penalty.specs.CodeCounts.{Light, DayNeeds, Counts, lowTerm, highTerm, dutyShort, dutyOver};
 
 pub struct Weights {
     pub w: u64,
@@ -48,26 +49,30 @@ pub fn group_term(wt: Weights, low: u64, high: u64, count: u64) -> Duty
 }
 
 // The terms of group g.
-fn group_at(wt: Weights, masks: &[u64], row: &[u64], k: usize, column: u64, g: usize) -> Duty
-    requires { ⌜ Light wt × Row (now masks) (now row) × (k < 2) × (g < length (now masks)) ⌝ }
-    ensures { λ r. ⌜ Counts r (lowTerm wt (now (masks .entry)) (now (row .entry)) k (has column) g) 4800
-        (highTerm wt (now (masks .entry)) (now (row .entry)) k (has column) g) 6500 ⌝ }
+fn group_at(wt: Weights, sets: &[u64], needs: &[u64], k: usize, column: u64, g: usize) -> Duty
+    requires { ⌜ Light wt × DayNeeds (now sets) (now needs) × (k < 2) × (g < length (now sets)) ⌝ }
+    ensures { λ r. ⌜ Counts r (lowTerm wt (now (sets .entry)) (now (needs .entry)) k (has column) g) 4800
+        (highTerm wt (now (sets .entry)) (now (needs .entry)) k (has column) g) 6500 ⌝ }
 {
-    let low = row[4 * g + 2 * k + 2];
-    let high = row[4 * g + 2 * k + 3];
-    group_term(wt, low, high, numbers::members(column, masks[g]))
+    let bounds = day::bounds_of(needs, k, g);
+    group_term(
+        wt,
+        bounds.low,
+        bounds.high,
+        numbers::members(column, sets[g]),
+    )
 }
 
 // The penalty of a column: k is 0 for night and 1 for day.
-pub(crate) fn on_column(wt: Weights, masks: &[u64], row: &[u64], k: usize, column: u64) -> Duty
-    requires { ⌜ Light wt × Row (now masks) (now row) × (k < 2) ⌝ }
-    ensures { λ r. ⌜ Counts r (dutyShort wt (now (masks .entry)) (now (row .entry)) k (has column)) 81600
-        (dutyOver wt (now (masks .entry)) (now (row .entry)) k (has column)) 104000 ⌝ }
+pub(crate) fn on_column(wt: Weights, sets: &[u64], needs: &[u64], k: usize, column: u64) -> Duty
+    requires { ⌜ Light wt × DayNeeds (now sets) (now needs) × (k < 2) ⌝ }
+    ensures { λ r. ⌜ Counts r (dutyShort wt (now (sets .entry)) (now (needs .entry)) k (has column)) 81600
+        (dutyOver wt (now (sets .entry)) (now (needs .entry)) k (has column)) 104000 ⌝ }
 {
-    let mut short = need_term(wt, row[k], numbers::on_duty(column));
+    let mut short = need_term(wt, day::need(needs, k), numbers::on_duty(column));
     let mut over = 0;
-    for g in 0..masks.len() {
-        let t = group_at(wt, masks, row, k, column, g);
+    for g in 0..sets.len() {
+        let t = group_at(wt, sets, needs, k, column, g);
         short = short + t.short;
         over = over + t.over;
     }

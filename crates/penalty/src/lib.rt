@@ -50,10 +50,10 @@ fn night_day(w: &[u64], d: usize, night: u64, day: u64) -> Duty
     requires { ⌜ Accepted (now w) × (d < days (now w)) ⌝ }
     ensures { λ r. ⌜ DayCounts Nights (now (w .entry)) d night day r ⌝ }
 {
-    let masks = fields::masks(w);
-    let row = fields::needs(w, d);
-    let a = duty::on_column(weights::weights(w, 0), masks, row, 0, night);
-    let b = duty::on_column(weights::weights(w, 1), masks, row, 1, day);
+    let sets = fields::member_sets(w);
+    let needs = fields::needs(w, d);
+    let a = duty::on_column(weights::weights(w, 0), sets, needs, 0, night);
+    let b = duty::on_column(weights::weights(w, 1), sets, needs, 1, day);
     Duty {
         short: a.short + b.short,
         over: a.over,
@@ -67,7 +67,7 @@ fn day_day(w: &[u64], d: usize, day: u64) -> Duty
 {
     duty::on_column(
         weights::weights(w, 1),
-        fields::masks(w),
+        fields::member_sets(w),
         fields::needs(w, d),
         1,
         day,

@@ -11,9 +11,9 @@ pub fn weights(w: &[u64], k: usize) -> Weights
     ensures { λ r. ⌜ r ≡ weightsOf (now (w .entry)) k ⌝ }
 {
     Weights {
-        w: w[10 + 3 * k],
-        u: w[10 + (3 * k + 1)],
-        v: w[10 + (3 * k + 2)],
+        w: fields::weight(w, 3 * k),
+        u: fields::weight(w, 3 * k + 1),
+        v: fields::weight(w, 3 * k + 2),
     }
 }
 

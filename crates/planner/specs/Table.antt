@@ -9,7 +9,7 @@ use Rattle.numbers.specs.Sum.{sumTo, oneIf}
 use Rattle.numbers.specs.Digits.{numberOf}
 use Rattle.codec.specs.Groups.{encode}
 use Rattle.fields.specs.Worked.{worked}
-use Rattle.fields.specs.Fields.{blockAt, block, groupsAt, masks, needsAt, needs}
+use Rattle.fields.specs.Fields.{blockAt, block, groupsAt, memberSets, needsAt, needs}
 use Rattle.rows.specs.Rows.{rowState, marksAllow, availableOn, dutyOn}
 use Rattle.fields.specs.declared.rules.Rules.{Rules}
 use Rattle.nights.specs.Nights.{starts, follow, inCommon, common, commonOf}
@@ -81,5 +81,5 @@ Holds [] = Unit
 Holds (row comes-to says ∷ rows) = (comes-to 0 ≡ says) × Holds rows
 
 pub examples-hold : Holds table
-unfolding encode worked common inCommon starts follow shifted through lastRun marksAllow hers nightList keep all upFrom sumTo numberOf blockAt block groupsAt masks needsAt needs rowState availableOn dutyOn onDuty members shortOn overOn unplacedIn nightParts nightPenalty dayParts dayPenalty dayList dayRule choice rowDuty same anyOf freeOf windowsHold rests letters rowLettersOf letter
+unfolding encode worked common inCommon starts follow shifted through lastRun marksAllow hers nightList keep all upFrom sumTo numberOf blockAt block groupsAt memberSets needsAt needs rowState availableOn dutyOn onDuty members shortOn overOn unplacedIn nightParts nightPenalty dayParts dayPenalty dayList dayRule choice rowDuty same anyOf freeOf windowsHold rests letters rowLettersOf letter
 examples-hold = (refl, (refl, (refl, (refl, (refl, (refl, (refl, (refl, (refl, (refl, (refl, (refl, (refl, (refl, (refl, (refl, (refl, (refl, (refl, tt)))))))))))))))))))

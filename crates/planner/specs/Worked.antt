@@ -11,7 +11,7 @@ use Rattle.numbers.specs.Digits.{numberOf}
 use Rattle.codec.specs.Groups.{encode, decode}
 use Rattle.layout.specs.Grammar.{good, bad, read, check, asked, bytesOf}
 use Rattle.ward.specs.Answers.{readWard, checkWard}
-use Rattle.fields.specs.Fields.{blockAt, block, groupsAt, masks, needsAt, needs}
+use Rattle.fields.specs.Fields.{blockAt, block, groupsAt, memberSets, needsAt, needs}
 use Rattle.fields.specs.Worked.{worked, second}
 use Rattle.rows.specs.Rows.{rowState, marksAllow, availableOn, dutyOn}
 use Rattle.nights.specs.Nights.{common, commonOf, inCommon, starts, follow}
@@ -100,7 +100,7 @@ pub record WorkedThrough : Type 0 where
   pub row-unfollowed : checkSays worked (78 ∷ 110 ∷ 43 ∷ 45 ∷ 45 ∷ 47 ∷ []) ≡ Broken
 
 pub worked-through : WorkedThrough
-unfolding worked encode decode read check asked bytesOf readWard checkWard nightPhase dayPhase nightsOpen commonFits listsFit firstOver upTo answers history advance reply extend run refusal given next penalty allowed advanceOver advanceStored refusalStored replyStored soundStored unusedZero view store recordOf proceed replyOf best total mayTake stepped sound common nightList hers inCommon starts follow shifted through lastRun marksAllow sumTo numberOf keep all upFrom blockAt block groupsAt masks needsAt needs rowState availableOn dutyOn onDuty members shortOn overOn unplacedIn nightParts nightPenalty dayParts dayPenalty dayList dayRule choice rowDuty same anyOf freeOf windowsHold rests letters rowLettersOf letter isLetter firstBad misplaced checkLetters checkOver holds rowsHold rowHolds lettersIn sameRow daysHold dayHolds dutyHolds groupHolds lettered
+unfolding worked encode decode read check asked bytesOf readWard checkWard nightPhase dayPhase nightsOpen commonFits listsFit firstOver upTo answers history advance reply extend run refusal given next penalty allowed advanceOver advanceStored refusalStored replyStored soundStored unusedZero view store recordOf proceed replyOf best total mayTake stepped sound common nightList hers inCommon starts follow shifted through lastRun marksAllow sumTo numberOf keep all upFrom blockAt block groupsAt memberSets needsAt needs rowState availableOn dutyOn onDuty members shortOn overOn unplacedIn nightParts nightPenalty dayParts dayPenalty dayList dayRule choice rowDuty same anyOf freeOf windowsHold rests letters rowLettersOf letter isLetter firstBad misplaced checkLetters checkOver holds rowsHold rowHolds lettersIn sameRow daysHold dayHolds dutyHolds groupHolds lettered
 worked-through = record {
   file-read = refl;
   numbers-checked = refl;
@@ -207,7 +207,7 @@ pub record SecondWorked : Type 0 where
   pub above-high : checkSays second (set (set secondRoster 14 47) 16 45) ≡ Broken
 
 pub second-worked : SecondWorked
-unfolding second encode decode read check asked bytesOf readWard checkWard nightPhase dayPhase nightsOpen commonFits listsFit firstOver upTo answers history advance reply extend run refusal given next penalty allowed advanceOver advanceStored refusalStored replyStored soundStored unusedZero view store recordOf proceed replyOf best total mayTake stepped sound common nightList hers inCommon starts follow shifted through lastRun marksAllow sumTo numberOf keep all upFrom blockAt block groupsAt masks needsAt needs rowState availableOn dutyOn onDuty members shortOn overOn unplacedIn nightParts nightPenalty dayParts dayPenalty dayList dayRule choice rowDuty same anyOf freeOf windowsHold rests letters rowLettersOf letter isLetter firstBad misplaced checkLetters checkOver holds rowsHold rowHolds lettersIn sameRow daysHold dayHolds dutyHolds groupHolds lettered
+unfolding second encode decode read check asked bytesOf readWard checkWard nightPhase dayPhase nightsOpen commonFits listsFit firstOver upTo answers history advance reply extend run refusal given next penalty allowed advanceOver advanceStored refusalStored replyStored soundStored unusedZero view store recordOf proceed replyOf best total mayTake stepped sound common nightList hers inCommon starts follow shifted through lastRun marksAllow sumTo numberOf keep all upFrom blockAt block groupsAt memberSets needsAt needs rowState availableOn dutyOn onDuty members shortOn overOn unplacedIn nightParts nightPenalty dayParts dayPenalty dayList dayRule choice rowDuty same anyOf freeOf windowsHold rests letters rowLettersOf letter isLetter firstBad misplaced checkLetters checkOver holds rowsHold rowHolds lettersIn sameRow daysHold dayHolds dutyHolds groupHolds lettered
 second-worked = record {
   file-read = refl;
   written-back = refl;

@@ -1,6 +1,7 @@
 // Plans the ward on standard input: 1,000 steps in each phase with 16,384 places. Prints nurse and row, then the night and the
 // day steps; or what is left, with the phase, its penalty and its steps; or the question that refused and its place.
 use planner::Outcome;
+use refusals::Answer;
 use refusals::Refusal;
 use search::Record;
 
@@ -48,12 +49,24 @@ fn show_rows(letters: &[u8], n: usize) {
     }
 }
 
-fn show_roster(file: &[u8], letters: &[u8], count: usize, nights: u32, days: u32) {
+// The days of the ward's month, or 0 for a file that is refused.
+fn days_of(file: &[u8]) -> usize {
     let reading = planner::read(file);
-    let ward = reading.ward;
-    let n = ward.numbers[1];
+    let answer = reading.answer;
+    match answer {
+        Answer::Yes => {
+            let numbers = reading.ward.numbers;
+            let count = reading.ward.count;
+            fields::days(&numbers[..count])
+        }
+        Answer::No(_) => 0,
+    }
+}
+
+fn show_roster(file: &[u8], letters: &[u8], count: usize, nights: u32, days: u32) {
+    let n = days_of(file);
     if count <= letters.len() {
-        show_rows(&letters[..count], n as usize);
+        show_rows(&letters[..count], n);
     }
     io::write_all(1, b"zero");
     number(nights as u64);

@@ -15,7 +15,7 @@ use Rattle.numbers.specs.Range.{upFrom, all}
 use Rattle.numbers.specs.Sum.{oneIf}
 use Rattle.numbers.specs.Digits.{has}
 use Rattle.numbers.proofs.SumLaws.{sum-ext}
-use Rattle.fields.specs.Fields.{Accepted, nurses, days, groups, block, masks, needs, need, low, high}
+use Rattle.fields.specs.Fields.{Accepted, nurses, days, groups, block, memberSets, needs, need, low, high}
 use Rattle.rows.specs.Rows.{dutyOn}
 use Rattle.nights.specs.Hers.{hersOf}
 use Rattle.days.specs.Days.{dayRuleOf}
@@ -100,8 +100,8 @@ module _ (w : List ℕ) (on on′ : ℕ → Bool) (e : (i : ℕ) → i < nurses 
   pub members-alike : (g : ℕ) → members w on g ≡ members w on′ g
   unfolding members
   members-alike g =
-      sum-ext (nurses w) (λ i. oneIf (on i && has (getD (masks w) g 0) i)) (λ i. oneIf (on′ i && has (getD (masks w) g 0) i))
-      (λ i h. ap (λ (b : Bool). oneIf (b && has (getD (masks w) g 0) i)) (e i h))
+      sum-ext (nurses w) (λ i. oneIf (on i && has (getD (memberSets w) g 0) i)) (λ i. oneIf (on′ i && has (getD (memberSets w) g 0) i))
+      (λ i h. ap (λ (b : Bool). oneIf (b && has (getD (memberSets w) g 0) i)) (e i h))
 
 -- ---- the check's yes
 

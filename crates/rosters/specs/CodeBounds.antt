@@ -11,9 +11,9 @@ use Rattle.fields.specs.Fields.{low, high}
 
 -- the low and high of the group of index g, its members being those in the column
 unfoldable pub boundsHold : List ℕ → List ℕ → ℕ → ℕ → ℕ → Bool
-boundsHold masks row k col g =
-    let count = countTo 64 (λ i. has col i && has (getD masks g 0) i) in
-    leb (low row k g) count && leb count (high row k g)
+boundsHold sets needs k col g =
+    let count = countTo 64 (λ i. has col i && has (getD sets g 0) i) in
+    leb (low needs k g) count && leb count (high needs k g)
 
 unfoldable pub allBoundsHold : List ℕ → List ℕ → ℕ → ℕ → Bool
-allBoundsHold masks row k col = all (boundsHold masks row k col) (upFrom 0 (length masks))
+allBoundsHold sets needs k col = all (boundsHold sets needs k col) (upFrom 0 (length sets))

@@ -1,4 +1,5 @@
 // Whether a roster meets the needs, lows and highs of every day.
+use fields::day;
 ghost use mathlib.Core.Path.{_≡_};
 ghost use mathlib.Core.Bool.{_&&_};
 ghost use Prim.Native.Nat.{_+_, _*_, _<_, _≤_};
@@ -25,24 +26,23 @@ fn column(roster: &[u8], m: usize, n: usize, d: usize, c: u8) -> u64
 }
 
 // The low and high of the group of index g.
-fn bounds_hold(masks: &[u64], row: &[u64], k: usize, col: u64, g: usize) -> bool
-    requires { ⌜ (k < 2) × (g < length (now masks)) × (length (now row) ≡ 4 * length (now masks) + 2) × (length (now masks) ≤ 16) ⌝ }
-    ensures { λ r. ⌜ r ≡ boundsHold (now (masks .entry)) (now (row .entry)) k col g ⌝ }
+fn bounds_hold(sets: &[u64], needs: &[u64], k: usize, col: u64, g: usize) -> bool
+    requires { ⌜ (k < 2) × (g < length (now sets)) × (length (now needs) ≡ 4 * length (now sets) + 2) × (length (now sets) ≤ 16) ⌝ }
+    ensures { λ r. ⌜ r ≡ boundsHold (now (sets .entry)) (now (needs .entry)) k col g ⌝ }
 {
-    let low = row[4 * g + 2 * k + 2];
-    let high = row[4 * g + 2 * k + 3];
-    let count = numbers::members(col, masks[g]);
-    low <= count && count <= high
+    let bounds = day::bounds_of(needs, k, g);
+    let count = numbers::members(col, sets[g]);
+    bounds.low <= count && count <= bounds.high
 }
 
 // Every group's.
-fn all_bounds_hold(masks: &[u64], row: &[u64], k: usize, col: u64) -> bool
-    requires { ⌜ (k < 2) × (length (now row) ≡ 4 * length (now masks) + 2) × (length (now masks) ≤ 16) ⌝ }
-    ensures { λ r. ⌜ r ≡ allBoundsHold (now (masks .entry)) (now (row .entry)) k col ⌝ }
+fn all_bounds_hold(sets: &[u64], needs: &[u64], k: usize, col: u64) -> bool
+    requires { ⌜ (k < 2) × (length (now needs) ≡ 4 * length (now sets) + 2) × (length (now sets) ≤ 16) ⌝ }
+    ensures { λ r. ⌜ r ≡ allBoundsHold (now (sets .entry)) (now (needs .entry)) k col ⌝ }
 {
     let mut g: usize = 0;
-    while g < masks.len() {
-        if bounds_hold(masks, row, k, col, g) {
+    while g < sets.len() {
+        if bounds_hold(sets, needs, k, col, g) {
             g += 1;
         } else {
             return false;
@@ -67,11 +67,11 @@ fn duty_holds(w: &[u64], roster: &[u8], k: usize, d: usize) -> bool
     let m = fields::nurses(w);
     let n = fields::days(w);
     let col = column(roster, m, n, d, duty_letter(k));
-    let row = fields::needs(w, d);
-    if numbers::on_duty(col) < row[k] {
+    let needs = fields::needs(w, d);
+    if numbers::on_duty(col) < day::need(needs, k) {
         return false;
     }
-    all_bounds_hold(fields::masks(w), row, k, col)
+    all_bounds_hold(fields::member_sets(w), needs, k, col)
 }
 
 // Both duties of the day of index d.

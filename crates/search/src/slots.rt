@@ -1,5 +1,6 @@
 // What a record's slots count on: everyone's columns and the penalty.
 use crate::Record;
+use fields::nurse;
 use history::Search;
 use penalty::columns::Columns;
 ghost use mathlib.Core.Path.{_≡_};
@@ -23,7 +24,7 @@ fn marked_days(b: &[u64], n: usize, mark: u64) -> u32
     let mut set: u32 = 0;
     let mut d: usize = 0;
     while d < n {
-        if b[11 + d] == mark {
+        if nurse::mark(b, d) == mark {
             set = set + numbers::bit(d as u64);
         }
         d += 1;

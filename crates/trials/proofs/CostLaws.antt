@@ -14,7 +14,7 @@ use Rattle.numbers.specs.Sum.{Is}
 use Rattle.numbers.specs.Digits.{has, put}
 use Rattle.numbers.proofs.SumLaws.{sum-ext, sum-add}
 use Rattle.numbers.proofs.DigitLaws.{bit-of-zero}
-use Rattle.fields.specs.Fields.{Accepted, nurses, days, masks, needs, block}
+use Rattle.fields.specs.Fields.{Accepted, nurses, days, memberSets, needs, block}
 use Rattle.rows.specs.Rows.{availableOn}
 use Rattle.rows.proofs.RowLaws.{started-busy}
 use Rattle.penalty.specs.declared.columns.Columns.{Columns}
@@ -35,8 +35,8 @@ use Rattle.penalty.proofs.CountLaws.{short-same, over-same, cost-both, cost-low
 
 -- ---- one day, from what the calls gave
 
-pub pair-of : (w : List ℕ) (k d column i : ℕ) (wt′ : Weights) {wt : Weights} {ms row : List ℕ} {r : Pair} {b : ℕ} → wt ≡ wt′ → ms ≡ masks w → row ≡ needs w d
-    → Tells r (λ x. dutyCost wt ms row k (put (has column) i x)) b → Tells r (λ x. dutyCost wt′ (masks w) (needs w d) k (put (has column) i x)) b
+pub pair-of : (w : List ℕ) (k d column i : ℕ) (wt′ : Weights) {wt : Weights} {sets numbers : List ℕ} {r : Pair} {b : ℕ} → wt ≡ wt′ → sets ≡ memberSets w → numbers ≡ needs w d
+    → Tells r (λ x. dutyCost wt sets numbers k (put (has column) i x)) b → Tells r (λ x. dutyCost wt′ (memberSets w) (needs w d) k (put (has column) i x)) b
 pair-of w k d column i wt′ e m q h = record {
   off-is = record { is = h .off-is .is ∙ (λ j. dutyCost (e j) (m j) (q j) k (put (has column) i false)); most = h .off-is .most };
   on-is = record { is = h .on-is .is ∙ (λ j. dutyCost (e j) (m j) (q j) k (put (has column) i true)); most = h .on-is .most };
@@ -49,8 +49,8 @@ wider : {a x : ℕ} → Is a x 185600 → Is a x 371200
 wider h = record { is = h .is; most = omega (arith, h .most) }
 
 pub night-three : (w : List ℕ) (d i night day : ℕ) {a b : Pair}
-    → Tells a (λ x. dutyCost (weightsOf w 0) (masks w) (needs w d) 0 (put (has night) i x)) 185600
-    → Tells b (λ x. dutyCost (noHigh (weightsOf w 1)) (masks w) (needs w d) 1 (put (has day) i x)) 185600
+    → Tells a (λ x. dutyCost (weightsOf w 0) (memberSets w) (needs w d) 0 (put (has night) i x)) 185600
+    → Tells b (λ x. dutyCost (noHigh (weightsOf w 1)) (memberSets w) (needs w d) 1 (put (has day) i x)) 185600
     → Entries Nights w d i night day (record { night = a .on + b .off; free = a .off + b .on; none = a .off + b .off })
 unfolding dayWith
 night-three w d i night day x y = record {
@@ -60,7 +60,7 @@ night-three w d i night day x y = record {
 }
 
 pub day-three : (w : List ℕ) (d i day : ℕ) {b : Pair}
-    → Tells b (λ x. dutyCost (weightsOf w 1) (masks w) (needs w d) 1 (put (has day) i x)) 185600
+    → Tells b (λ x. dutyCost (weightsOf w 1) (memberSets w) (needs w d) 1 (put (has day) i x)) 185600
     → (night : ℕ) → Entries Days w d i night day (record { night = b .off; free = b .on; none = b .off })
 unfolding dayWith
 day-three w d i day y night = record { at-night = wider (y .off-is); at-free = wider (y .on-is); at-none = wider (y .off-is) }
@@ -160,8 +160,8 @@ module _ (w : List ℕ) (c : Columns) (i : ℕ) (slots : ℕ → Slot) (a : Acce
       let y = free-after w slots i p l d _ (s .free-shown d h) in
       omega (
         arith,
-        cost-both (weightsOf w 0) (masks w) (needs w d) 0 f,
-        cost-low (weightsOf w 1) (masks w) (needs w d) 1 g,
+        cost-both (weightsOf w 0) (memberSets w) (needs w d) 0 f,
+        cost-low (weightsOf w 1) (memberSets w) (needs w d) 1 g,
         short-same w a 0 d f _ x,
         over-same w a 0 d f _ x,
         short-same w a 1 d g _ y,
@@ -187,7 +187,7 @@ module _ (w : List ℕ) (c : Columns) (i : ℕ) (slots : ℕ → Slot) (a : Acce
   day-cost s q d h =
       let f = put (has (getD (c .day) d 0)) i (has q d) in
       let x = day-after w slots i q l d _ (s .day-shown d h) in
-      omega (arith, cost-both (weightsOf w 1) (masks w) (needs w d) 1 f, short-same w a 1 d f _ x, over-same w a 1 d f _ x)
+      omega (arith, cost-both (weightsOf w 1) (memberSets w) (needs w d) 1 f, short-same w a 1 d f _ x, over-same w a 1 d f _ x)
 
   worked-is : (f : Bool → ℕ) (x y : Bool) (u : ℕ) {v z : ℕ} → x ≡ false → v ≡ f true → z ≡ f false → cond x u (cond y v z) ≡ f y
   worked-is f x true u e ev ez = rw e ev

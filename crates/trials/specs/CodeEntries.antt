@@ -8,7 +8,7 @@ use Rattle.history.specs.declared.Search.{Search}
 use Rattle.history.specs.declared.Search.the-variants.{Nights, Days}
 use Rattle.numbers.specs.Sum.{Is}
 use Rattle.numbers.specs.Digits.{has, put}
-use Rattle.fields.specs.Fields.{masks, needs}
+use Rattle.fields.specs.Fields.{memberSets, needs}
 use Rattle.penalty.specs.CodeCounts.{weightsOf, noHigh, dutyCost}
 use Rattle.trials.specs.declared.pairs.Pair.{Pair}
 use Rattle.trials.specs.declared.costs.Three.{Three}
@@ -24,9 +24,9 @@ pub record Tells (r : Pair) (f : Bool → ℕ) (b : ℕ) : Type 0 where
 -- in the day search with her working or not (b).
 unfoldable pub dayWith : Search → List ℕ → ℕ → ℕ → Bool → Bool → ℕ → ℕ → ℕ
 dayWith Nights w d i a b night day =
-    dutyCost (weightsOf w 0) (masks w) (needs w d) 0 (put (has night) i a)
-    + dutyCost (noHigh (weightsOf w 1)) (masks w) (needs w d) 1 (put (has day) i b)
-dayWith Days w d i a b night day = dutyCost (weightsOf w 1) (masks w) (needs w d) 1 (put (has day) i b)
+    dutyCost (weightsOf w 0) (memberSets w) (needs w d) 0 (put (has night) i a)
+    + dutyCost (noHigh (weightsOf w 1)) (memberSets w) (needs w d) 1 (put (has day) i b)
+dayWith Days w d i a b night day = dutyCost (weightsOf w 1) (memberSets w) (needs w d) 1 (put (has day) i b)
 
 -- the three entries of a day
 pub record Entries (which : Search) (w : List ℕ) (d i night day : ℕ) (t : Three) : Type 0 where

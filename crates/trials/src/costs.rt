@@ -31,10 +31,10 @@ fn night_day(w: &[u64], d: usize, i: usize, night: u64, day: u64) -> Three
     requires { ⌜ Accepted (now w) × (d < days (now w)) × (i < 64) ⌝ }
     ensures { λ r. ⌜ Entries Nights (now (w .entry)) d i night day r ⌝ }
 {
-    let masks = fields::masks(w);
-    let row = fields::needs(w, d);
-    let a = pairs::pair_on(weights::weights(w, 0), masks, row, 0, night, i);
-    let b = pairs::pair_on(weights::low_weights(w, 1), masks, row, 1, day, i);
+    let sets = fields::member_sets(w);
+    let needs = fields::needs(w, d);
+    let a = pairs::pair_on(weights::weights(w, 0), sets, needs, 0, night, i);
+    let b = pairs::pair_on(weights::low_weights(w, 1), sets, needs, 1, day, i);
     Three {
         night: a.on + b.off,
         free: a.off + b.on,
@@ -47,9 +47,9 @@ fn day_day(w: &[u64], d: usize, i: usize, day: u64) -> Three
     requires { ⌜ Accepted (now w) × (d < days (now w)) × (i < 64) ⌝ }
     ensures { λ r. ⌜ ((night : ℕ) → Entries Days (now (w .entry)) d i night day r) ⌝ }
 {
-    let masks = fields::masks(w);
-    let row = fields::needs(w, d);
-    let b = pairs::pair_on(weights::weights(w, 1), masks, row, 1, day, i);
+    let sets = fields::member_sets(w);
+    let needs = fields::needs(w, d);
+    let b = pairs::pair_on(weights::weights(w, 1), sets, needs, 1, day, i);
     Three {
         night: b.off,
         free: b.on,

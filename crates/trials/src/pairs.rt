@@ -1,4 +1,5 @@
 // The penalty of one duty on one day, on its column, without a nurse and with her.
+use fields::day;
 use penalty::duty;
 use penalty::duty::Weights;
 ghost use mathlib.Core.Path.{_≡_};
@@ -8,7 +9,7 @@ ghost use Prim.Native.Nat.{ℕ, _<_, _≤_};
 ghost use lib.ListN.{length, getD};
 ghost use Rattle.numbers.specs.Sum.{oneIf, Is};
 ghost use Rattle.numbers.specs.Digits.{has, put};
-ghost use Rattle.penalty.specs.CodeCounts.{Light, Row, needTerm, groupTerm, dutyCost};
+ghost use Rattle.penalty.specs.CodeCounts.{Light, DayNeeds, needTerm, groupTerm, dutyCost};
 ghost use Rattle.trials.specs.CodeEntries.{Tells};
 
 // What is short and over together, without a nurse and with her.
@@ -28,23 +29,22 @@ fn bit_of(group: u64, i: usize) -> u64
 // The terms of group g on a column without nurse i, and with her.
 fn group_pair(
     wt: Weights,
-    masks: &[u64],
-    row: &[u64],
+    sets: &[u64],
+    needs: &[u64],
     k: usize,
     others: u64,
     i: usize,
     g: usize,
 ) -> Pair
-    requires { ⌜ Light wt × Row (now masks) (now row) × (k < 2) × (g < length (now masks)) × (i < 64) ⌝ }
+    requires { ⌜ Light wt × DayNeeds (now sets) (now needs) × (k < 2) × (g < length (now sets)) × (i < 64) ⌝ }
     ensures { λ r. ⌜ ((f : ℕ → Bool) → has others ≡ put f i false →
-        Tells r (λ b. groupTerm wt (now (masks .entry)) (now (row .entry)) k (put f i b) g) 11300) ⌝ }
+        Tells r (λ b. groupTerm wt (now (sets .entry)) (now (needs .entry)) k (put f i b) g) 11300) ⌝ }
 {
-    let low = row[4 * g + 2 * k + 2];
-    let high = row[4 * g + 2 * k + 3];
-    let group = masks[g];
+    let bounds = day::bounds_of(needs, k, g);
+    let group = sets[g];
     let count = numbers::members(others, group);
-    let a = duty::group_term(wt, low, high, count);
-    let b = duty::group_term(wt, low, high, count + bit_of(group, i));
+    let a = duty::group_term(wt, bounds.low, bounds.high, count);
+    let b = duty::group_term(wt, bounds.low, bounds.high, count + bit_of(group, i));
     Pair {
         off: a.short + a.over,
         on: b.short + b.over,
@@ -54,8 +54,8 @@ fn group_pair(
 // The need's term on a column without nurse i, and with her.
 fn need_pair(wt: Weights, need: u64, others: u64) -> Pair
     requires { ⌜ Light wt × (need ≤ 48) ⌝ }
-    ensures { λ r. ⌜ ((row : List ℕ) (k i : ℕ) (f : ℕ → Bool) → i < 64 → need ≡ getD row k 0 → has others ≡ put f i false →
-        Tells r (λ b. needTerm wt row k (put f i b)) 4800) ⌝ }
+    ensures { λ r. ⌜ ((needs : List ℕ) (k i : ℕ) (f : ℕ → Bool) → i < 64 → need ≡ getD needs k 0 → has others ≡ put f i false →
+        Tells r (λ b. needTerm wt needs k (put f i b)) 4800) ⌝ }
 {
     let count = numbers::on_duty(others);
     let a = duty::need_term(wt, need, count);
@@ -66,21 +66,21 @@ fn need_pair(wt: Weights, need: u64, others: u64) -> Pair
 // The penalty of a column without nurse i, and with her.
 pub(crate) fn pair_on(
     wt: Weights,
-    masks: &[u64],
-    row: &[u64],
+    sets: &[u64],
+    needs: &[u64],
     k: usize,
     column: u64,
     i: usize,
 ) -> Pair
-    requires { ⌜ Light wt × Row (now masks) (now row) × (k < 2) × (i < 64) ⌝ }
-    ensures { λ r. ⌜ Tells r (λ b. dutyCost wt (now (masks .entry)) (now (row .entry)) k (put (has column) i b)) 185600 ⌝ }
+    requires { ⌜ Light wt × DayNeeds (now sets) (now needs) × (k < 2) × (i < 64) ⌝ }
+    ensures { λ r. ⌜ Tells r (λ b. dutyCost wt (now (sets .entry)) (now (needs .entry)) k (put (has column) i b)) 185600 ⌝ }
 {
     let others = numbers::put_bit(column, i, false);
-    let first = need_pair(wt, row[k], others);
+    let first = need_pair(wt, day::need(needs, k), others);
     let mut off = first.off;
     let mut on = first.on;
-    for g in 0..masks.len() {
-        let t = group_pair(wt, masks, row, k, others, i, g);
+    for g in 0..sets.len() {
+        let t = group_pair(wt, sets, needs, k, others, i, g);
         off = off + t.off;
         on = on + t.on;
     }

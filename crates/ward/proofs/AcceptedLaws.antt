@@ -15,7 +15,7 @@ use Rattle.layout.specs.Grammar.{Grammar, done, number, asked, good, check}
 use Rattle.layout.specs.Layout.{range, one, repeat, day, days, group, groups, nurse, nurses, weights, limits, gaps, rules, sizes, ward}
 use Rattle.ward.specs.Answers.{checkWard}
 use Rattle.fields.specs.Fields as fields
-use Rattle.fields.specs.Fields.{Accepted, Block, blockAt, block, groupsAt, masks, needsAt, needs}
+use Rattle.fields.specs.Fields.{Accepted, Block, blockAt, block, groupsAt, memberSets, needsAt, needs}
 use Rattle.layout.proofs.GrammarLaws.{in-range}
 use Rattle.layout.proofs.AcceptLaws.{let-through}
 use Rattle.layout.proofs.AccessLaws.{After, First, Both, Most, Takes, number-has, numbers-have, numbers-all, after-at, past, takes-one, takes-both, takes-repeat, in-repeat, takes-day, takes-group, takes-nurse, nurse-duty, nurse-least-nights, nurse-most-nights, nurse-least-rests, nurse-most-rests, nurse-mark, day-in, day-pair}
@@ -193,9 +193,9 @@ module _ (m n r : ℕ) (ws us : List ℕ) (hm : Between 1 48 m) (hn : Between 1 
     marks = λ d q. (let p : getD (block w i) (11 + d) 0 ≤ 6 = block-number i (11 + d) 6 l (omega arith) (λ g. nurse-mark n g d q) in omega arith);
   }
 
-  mask-in : (g : ℕ) → g < r → getD (masks w) g 0 < 2 ^ m
-  unfolding w masks groupsAt h
-  mask-in g l =
+  set-in : (g : ℕ) → g < r → getD (memberSets w) g 0 < 2 ^ m
+  unfolding w memberSets groupsAt h
+  set-in g l =
       let q : getD w (16 + (m * (11 + n) + (g * 1 + 0))) 0 ≤ 2 ^ m - 1 =
       at-index (Most (2 ^ m - 1)) (13 + (m * (11 + n) + (g * 1 + 0))) (16 + (m * (11 + n) + (g * 1 + 0))) (omega arith) (in-groups h g l) in
       let o : 16 + m * (11 + n) + g ≡ 16 + (m * (11 + n) + (g * 1 + 0)) = omega arith in
@@ -203,9 +203,9 @@ module _ (m n r : ℕ) (ws us : List ℕ) (hm : Between 1 48 m) (hn : Between 1 
       getD-take r (drop (16 + m * (11 + n)) w) g 0 l ∙ getD-drop (16 + m * (11 + n)) w g 0 ∙ ap (λ (x : ℕ). getD w x 0) o in
       omega (arith, pow-pos m)
 
-  mask-out : (g : ℕ) → r ≤ g → getD (masks w) g 0 < 2 ^ m
-  unfolding w masks groupsAt
-  mask-out g l =
+  set-out : (g : ℕ) → r ≤ g → getD (memberSets w) g 0 < 2 ^ m
+  unfolding w memberSets groupsAt
+  set-out g l =
       let q : length (take r (drop (16 + m * (11 + n)) w)) ≤ g = simp length-take (omega arith) in
       let z : getD (take r (drop (16 + m * (11 + n)) w)) g 0 ≡ 0 = List·getD-eq-default (take r (drop (16 + m * (11 + n)) w)) 0 q in
       omega (arith, pow-pos m)
@@ -276,7 +276,7 @@ module _ (m n r : ℕ) (ws us : List ℕ) (hm : Between 1 48 m) (hn : Between 1 
     needs-fit = needs-end;
     size = long-is;
     blocks = block-is;
-    masks-most = λ g. ⊎-elim (mask-in g) (mask-out g) (split g r);
+    member-sets-most = λ g. ⊎-elim (set-in g) (set-out g) (split g r);
     needs-most = λ d j l. ⊎-elim (need-in d j l) (need-out d j) (split j (4 * r + 2));
     low-high = low-under-high;
   }

@@ -1,40 +1,41 @@
 -- `nights::is_hers` meets its contract.
-use Prim.Native.Nat.{ℕ}
-use mathlib.Core.Path.{refl, ap₂, _∙_}
-use mathlib.Core.List.{List}
-use Rattle.fields.specs.Fields.{days}
-use Rattle.fields.specs.declared.rules.Rules.{Rules}
-use Rattle.nights.specs.Hers.{hers}
+use mathlib.Core.Path.{_∙_}
 use Rattle.fields.proofs.RuleLaws.{rules-small, block-as}
+use Rattle.nights.proofs.HersLaws.{hers-as}
 use borrow.Author.Needs.{needs}
 use Rattle.nights.proofs.is_hers.Statement.{statement}
 use Rattle.nights.proofs.is_hers.Tie as tie
 
+-- the places of the function, each from the next
+abbrev at-start : tie.After-rules-of → tie.Start
+at-start c = c .before .before
+
 rules-of-requires : tie.Need-rules-of-requires
 rules-of-requires c κs = search needs
 
-shared-slice-read-is-hers-by : tie.Need-shared-slice-read-is-hers-by
-shared-slice-read-is-hers-by c = search needs
+days-requires : tie.Need-days-requires
+days-requires c κs = search needs
 
 block-requires : tie.Need-block-requires
 block-requires c κs = search needs
 
 is-hers-by-requires : tie.Need-is-hers-by-requires
-is-hers-by-requires c κs = let w = c .before .before .before .before .args .w .now in
-    let ok = c .before .before .before .before .pre .0 in
-    (rules-small w _ ok (c .before .before .rules-of .ensures), (ok .days-most, block-as w (c .before .before .before .before .args .i) ok (c .before .before .before .before .pre .1) (c .block .ensures) refl))
+is-hers-by-requires c κs =
+    let days = c .before in
+    let rules-of = days .before in
+    let start = at-start rules-of in
+    let s = start .args in
+    let ok = start .pre .0 in
+    let n = days .days .ensures in
+    (rules-small (s .w .now) _ ok (rules-of .rules-of .ensures), (n .1, block-as (s .w .now) (s .i) ok (start .pre .1) (c .block .ensures) (n .0)))
 
 returns : tie.Need-returns
-returns c = let w = c .before .before .before .before .before .args .w .now in
-    c .is-hers-by .ensures
-    ∙ ap₂ (λ (r : Rules) (b : List ℕ). hers r (days w) b (c .before .before .before .before .before .args .p)) (c .before .before .before .rules-of .ensures) (c .before .block .ensures)
+returns c =
+    let block = c .before in
+    let days = block .before in
+    let rules-of = days .before in
+    let start = at-start rules-of in
+    c .is-hers-by .ensures ∙ hers-as (start .args .w .now) (start .args .i) (start .args .p) (rules-of .rules-of .ensures) (days .days .ensures .0) (block .block .ensures)
 
 pub is-hers-spec : {M : Type 1} → statement M
-is-hers-spec =
-    tie.close
-    (tie.spec
-    rules-of-requires
-    shared-slice-read-is-hers-by
-    block-requires
-    is-hers-by-requires
-    returns)
+is-hers-spec = tie.close (tie.spec rules-of-requires days-requires block-requires is-hers-by-requires returns)

@@ -15,17 +15,18 @@ Inv-loop b prev₀ run₀ day₀ i₀ prev run day i = (i ≤ 7) × (day ≡ i) 
 abbrev μ-loop : tie.MeasureT-loop
 μ-loop b prev₀ run₀ day₀ i₀ prev run day i = 7 - i
 
+-- the places of the function, each from the next
+abbrev at-start : tie.At-loop Inv-loop μ-loop → tie.Start Inv-loop μ-loop
+at-start c = c .before .before
+
 loop-holds : tie.Need-loop-holds Inv-loop μ-loop
 loop-holds c = (omega arith, refl, omega arith, omega arith, lately-all _)
 
 add-day : tie.Need-add-day Inv-loop μ-loop
 add-day c = search needs
 
-mul-if1 : tie.Need-mul-if1 Inv-loop μ-loop
-mul-if1 c = search needs
-
-shared-slice-read-if1 : tie.Need-shared-slice-read-if1 Inv-loop μ-loop
-shared-slice-read-if1 c = search needs
+duty-requires : tie.Need-duty-requires Inv-loop μ-loop
+duty-requires c κs = search needs
 
 run-with-requires : tie.Need-run-with-requires Inv-loop μ-loop
 run-with-requires c κs = search needs
@@ -37,43 +38,38 @@ loop-less : tie.Need-loop-less Inv-loop μ-loop
 loop-less c = search needs
 
 loop-again : tie.Need-loop-again Inv-loop μ-loop
-loop-again c = let mine = c .before .before .before .before .before .args .b .now in
-    let l = c .before .before .before .loop in
+loop-again c =
+    let duty = c .before in
+    let in-loop = duty .before in
+    let loop = in-loop .before in
+    let start = at-start loop in
+    let mine = start .args .b .now in
+    let l = loop .loop in
     ⊎-elim
     (λ w. (
       omega arith,
       omega arith,
       omega (arith, w .2),
       omega (arith, w .3, w .1 .ensures .1),
-      rw (w .2, w .3, w .1 .ensures .0, l .inv .1) (l .inv .4 ∙ through-yes mine (l .prev) (l .run) (l .i) (c .before .before .loop-test .taken) (w .0 .taken)),
+      rw (w .2, w .3, w .1 .ensures .0, l .inv .1) (l .inv .4 ∙ through-yes mine (l .prev) (l .run) (l .i) (in-loop .loop-test .taken) (sym (duty .duty .ensures) ∙ w .0 .taken)),
     ))
     (λ w. (
       omega arith,
       omega arith,
       omega (arith, w .1),
       omega (arith, w .2),
-      rw (w .1, w .2) (l .inv .4 ∙ through-no mine (l .prev) (l .run) (l .i) (c .before .before .loop-test .taken) (w .0 .left)),
+      rw (w .1, w .2) (l .inv .4 ∙ through-no mine (l .prev) (l .run) (l .i) (in-loop .loop-test .taken) (λ e. w .0 .left (duty .duty .ensures ∙ e))),
     ))
     (c .if1 .came)
 
 returns : tie.Need-returns Inv-loop μ-loop
-returns c = let mine = c .before .before .before .args .b .now in
-    let l = c .before .loop in
+returns c =
+    let loop = c .before in
+    let start = at-start loop in
+    let mine = start .args .b .now in
+    let l = loop .loop in
     let e = l .inv .4 ∙ through-done mine (l .prev) (l .run) (l .i) (c .loop-test .left) in
     ((sym (ap (λ (x : ℕ × ℕ). x .0) e), sym (ap (λ (x : ℕ × ℕ). x .1) e)), (omega arith, omega arith))
 
 pub last-run-spec : {M : Type 1} → statement M
-last-run-spec =
-    tie.close
-    (tie.spec
-    Inv-loop
-    μ-loop
-    loop-holds
-    add-day
-    mul-if1
-    shared-slice-read-if1
-    run-with-requires
-    add-i
-    loop-less
-    loop-again
-    returns)
+last-run-spec = tie.close (tie.spec Inv-loop μ-loop loop-holds add-day duty-requires run-with-requires add-i loop-less loop-again returns)

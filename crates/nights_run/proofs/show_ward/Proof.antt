@@ -7,23 +7,31 @@ use borrow.Author.Needs.{needs}
 use Rattle.nights_run.proofs.show_ward.Statement.{statement}
 use Rattle.nights_run.proofs.show_ward.Tie as tie
 
+-- the places of the function, each from the next
+abbrev at-start : tie.After-days → tie.Start
+at-start c = c .before .before .before .before
+
 slice-aggregate-write-all : tie.Need-slice-aggregate-write-all
 slice-aggregate-write-all c = search needs
 
 write-all-requires : tie.Need-write-all-requires
 write-all-requires c κs = search needs
 
+days-requires : tie.Need-days-requires
+days-requires c κs = search needs
+
 rules-of-requires : tie.Need-rules-of-requires
 rules-of-requires c κs = search needs
-
-shared-slice-read-show-list : tie.Need-shared-slice-read-show-list
-shared-slice-read-show-list c = search needs
 
 slice-aggregate-show-list : tie.Need-slice-aggregate-show-list
 slice-aggregate-show-list c = search needs
 
 show-list-requires : tie.Need-show-list-requires
-show-list-requires c κs = (rules-small (c .before .before .before .before .before .before .args .w .now) _ (c .before .before .before .before .before .before .pre) (c .before .before .rules-of .ensures), c .before .before .before .before .before .before .pre .days-most)
+show-list-requires c κs =
+    let rules-of = c .before in
+    let days = rules-of .before in
+    let start = at-start days in
+    (rules-small (start .args .w .now) _ (start .pre) (rules-of .rules-of .ensures), days .days .ensures .1)
 
 array-share-prefix-buf : tie.Need-array-share-prefix-buf
 array-share-prefix-buf c = search needs
@@ -41,17 +49,4 @@ returns-2 : tie.Need-returns-2
 returns-2 c = search needs
 
 pub show-ward-spec : {M : Type 1} → statement M
-show-ward-spec =
-    tie.close
-    (tie.spec
-    slice-aggregate-write-all
-    write-all-requires
-    rules-of-requires
-    shared-slice-read-show-list
-    slice-aggregate-show-list
-    show-list-requires
-    array-share-prefix-buf
-    slice-aggregate-show-nurses
-    show-nurses-requires
-    returns
-    returns-2)
+show-ward-spec = tie.close (tie.spec slice-aggregate-write-all write-all-requires days-requires rules-of-requires slice-aggregate-show-list show-list-requires array-share-prefix-buf slice-aggregate-show-nurses show-nurses-requires returns returns-2)

@@ -1,6 +1,6 @@
 -- `penalty::day_day` meets its contract.
 use native.Mathlib.Omega.{arith}
-use Rattle.penalty.proofs.FieldLaws.{row-of, light-of}
+use Rattle.penalty.proofs.FieldLaws.{needs-of, light-of}
 use Rattle.penalty.proofs.CountLaws.{duty-of, worked-of}
 use borrow.Author.Needs.{needs}
 use Rattle.penalty.proofs.day_day.Statement.{statement}
@@ -9,18 +9,18 @@ use Rattle.penalty.proofs.day_day.Tie as tie
 weights-requires : tie.Need-weights-requires
 weights-requires c κs = search needs
 
-masks-requires : tie.Need-masks-requires
-masks-requires c κs = search needs
+member-sets-requires : tie.Need-member-sets-requires
+member-sets-requires c κs = search needs
 
 needs-requires : tie.Need-needs-requires
 needs-requires c κs = search needs
 
 on-column-requires : tie.Need-on-column-requires
-on-column-requires c κs = (light-of _ _ (c .before .before .before .before .pre .0) (omega arith) (c .before .before .weights .ensures), row-of _ _ (c .before .before .before .before .pre .0) (c .before .before .before .before .pre .1) (c .before .masks .ensures) (c .needs .ensures), search needs)
+on-column-requires c κs = (light-of _ _ (c .before .before .before .before .pre .0) (omega arith) (c .before .before .weights .ensures), needs-of _ _ (c .before .before .before .before .pre .0) (c .before .before .before .before .pre .1) (c .before .member-sets .ensures) (c .needs .ensures), search needs)
 
 returns : tie.Need-returns
-returns c = worked-of _ _ _ (duty-of _ _ _ _ (c .before .before .before .weights .ensures) (c .before .before .masks .ensures) (c .before .needs .ensures) (c .on-column .ensures))
+returns c = worked-of _ _ _ (duty-of _ _ _ _ (c .before .before .before .weights .ensures) (c .before .before .member-sets .ensures) (c .before .needs .ensures) (c .on-column .ensures))
 
 pub day-day-spec : {M : Type 1} → statement M
 day-day-spec =
-    tie.close (tie.spec weights-requires masks-requires needs-requires on-column-requires returns)
+    tie.close (tie.spec weights-requires member-sets-requires needs-requires on-column-requires returns)

@@ -1,14 +1,14 @@
 -- `penalty::night_day` meets its contract: nights on the night column, day need and lows on the day column.
 use mathlib.Core.Path.{refl}
 use native.Mathlib.Omega.{arith}
-use Rattle.penalty.proofs.FieldLaws.{row-of, light-of}
+use Rattle.penalty.proofs.FieldLaws.{needs-of, light-of}
 use Rattle.penalty.proofs.CountLaws.{duty-of, night-of}
 use borrow.Author.Needs.{needs}
 use Rattle.penalty.proofs.night_day.Statement.{statement}
 use Rattle.penalty.proofs.night_day.Tie as tie
 
-masks-requires : tie.Need-masks-requires
-masks-requires c κs = search needs
+member-sets-requires : tie.Need-member-sets-requires
+member-sets-requires c κs = search needs
 
 needs-requires : tie.Need-needs-requires
 needs-requires c κs = search needs
@@ -17,26 +17,26 @@ weights-requires : tie.Need-weights-requires
 weights-requires c κs = search needs
 
 on-column-requires : tie.Need-on-column-requires
-on-column-requires c κs = (light-of _ _ (c .before .before .before .before .pre .0) (omega arith) (c .weights .ensures), row-of _ _ (c .before .before .before .before .pre .0) (c .before .before .before .before .pre .1) (c .before .before .masks .ensures) (c .before .needs .ensures), search needs)
+on-column-requires c κs = (light-of _ _ (c .before .before .before .before .pre .0) (omega arith) (c .weights .ensures), needs-of _ _ (c .before .before .before .before .pre .0) (c .before .before .before .before .pre .1) (c .before .before .member-sets .ensures) (c .before .needs .ensures), search needs)
 
 weights-requires-2 : tie.Need-weights-requires-2
 weights-requires-2 c κs = search needs
 
 on-column-requires-2 : tie.Need-on-column-requires-2
-on-column-requires-2 c κs = (light-of _ _ (c .before .before .before .before .before .before .pre .0) (omega arith) (c .weights2 .ensures), row-of _ _ (c .before .before .before .before .before .before .pre .0) (c .before .before .before .before .before .before .pre .1) (c .before .before .before .before .masks .ensures) (c .before .before .before .needs .ensures), search needs)
+on-column-requires-2 c κs = (light-of _ _ (c .before .before .before .before .before .before .pre .0) (omega arith) (c .weights2 .ensures), needs-of _ _ (c .before .before .before .before .before .before .pre .0) (c .before .before .before .before .before .before .pre .1) (c .before .before .before .before .member-sets .ensures) (c .before .before .before .needs .ensures), search needs)
 
 add-t10 : tie.Need-add-t10
 add-t10 c = search needs
 
 returns : tie.Need-returns
-returns c = night-of _ _ _ _ (duty-of _ _ _ _ (c .before .before .before .before .before .weights .ensures) (c .before .before .before .before .before .before .before .masks .ensures) (c .before .before .before .before .before .before .needs .ensures) (c .before .before .before .before .on-column .ensures))
-    (duty-of _ _ _ _ (c .before .before .before .weights2 .ensures) (c .before .before .before .before .before .before .before .masks .ensures) (c .before .before .before .before .before .before .needs .ensures) (c .before .before .on-column2 .ensures)) refl refl
+returns c = night-of _ _ _ _ (duty-of _ _ _ _ (c .before .before .before .before .before .weights .ensures) (c .before .before .before .before .before .before .before .member-sets .ensures) (c .before .before .before .before .before .before .needs .ensures) (c .before .before .before .before .on-column .ensures))
+    (duty-of _ _ _ _ (c .before .before .before .weights2 .ensures) (c .before .before .before .before .before .before .before .member-sets .ensures) (c .before .before .before .before .before .before .needs .ensures) (c .before .before .on-column2 .ensures)) refl refl
 
 pub night-day-spec : {M : Type 1} → statement M
 night-day-spec =
     tie.close
     (tie.spec
-    masks-requires
+    member-sets-requires
     needs-requires
     weights-requires
     on-column-requires

@@ -5,11 +5,8 @@ use borrow.Author.Needs.{needs}
 use Rattle.roster.proofs.show_roster.Statement.{statement}
 use Rattle.roster.proofs.show_roster.Tie as tie
 
-read-requires : tie.Need-read-requires
-read-requires c κs = search needs
-
-element-copy-out-n : tie.Need-element-copy-out-n
-element-copy-out-n c = search needs
+days-of-requires : tie.Need-days-of-requires
+days-of-requires c κs = search needs
 
 slice-aggregate-show-rows : tie.Need-slice-aggregate-show-rows
 slice-aggregate-show-rows c = sym (length-take-le _ _ (c .before .if1 .taken))
@@ -39,17 +36,4 @@ returns : tie.Need-returns
 returns c = search needs
 
 pub show-roster-spec : {M : Type 1} → statement M
-show-roster-spec =
-    tie.close
-    (tie.spec
-    read-requires
-    element-copy-out-n
-    slice-aggregate-show-rows
-    show-rows-requires
-    slice-aggregate-write-all
-    write-all-requires
-    number-requires
-    number-requires-2
-    slice-aggregate-write-all-2
-    write-all-requires-2
-    returns)
+show-roster-spec = tie.close (tie.spec days-of-requires slice-aggregate-show-rows show-rows-requires slice-aggregate-write-all write-all-requires number-requires number-requires-2 slice-aggregate-write-all-2 write-all-requires-2 returns)

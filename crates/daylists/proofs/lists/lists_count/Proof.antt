@@ -1,6 +1,6 @@
 -- `daylists::lists::lists_count` meets its contract. The loop's invariant: the lists so far end within the places.
-use mathlib.Core.Path.{refl}
-use Prim.Native.Nat.{_-_}
+use mathlib.Core.Path.{refl, subst}
+use Prim.Native.Nat.{ℕ, _-_, _≤_, _<_}
 use native.Mathlib.Omega.{arith}
 use Rattle.fields.specs.Fields.{nurses}
 use Rattle.daylists.specs.Lists.{dayLists}
@@ -13,7 +13,7 @@ abbrev Inv-loop : tie.InvT-loop
 Inv-loop w nights places m ends₀ at₀ over₀ ends at over = CountAt (dayLists w nights) (nurses w) places over at ends
 
 abbrev μ-loop : tie.MeasureT-loop
-μ-loop w nights places m ends₀ at₀ over₀ ends at over = nurses w - over
+μ-loop w nights places m ends₀ at₀ over₀ ends at over = m - over
 
 -- the places that the answers name; `search` finds each by its type among those before
 abbrev Start : Type 0
@@ -28,8 +28,21 @@ In-loop = tie.In-loop Inv-loop μ-loop
 abbrev After-day-count : Type 0
 After-day-count = tie.After-day-count Inv-loop μ-loop
 
-shared-slice-read-m : tie.Need-shared-slice-read-m Inv-loop μ-loop
-shared-slice-read-m c = search needs
+nurses-requires : tie.Need-nurses-requires Inv-loop μ-loop
+nurses-requires c κs = search needs
+
+-- what the loop's test says of the ward
+below : (c : tie.In-loop Inv-loop μ-loop) → (c .before) .loop .over < nurses ((c .before .before .before .before) .args .w .now)
+below c =
+    let loop = c .before in
+    let after-nurses = loop .before in
+    subst (λ (m : ℕ). loop .loop .over < m) (after-nurses .nurses .ensures .0) (c .loop-test .taken)
+
+past : (c : tie.After-loop Inv-loop μ-loop) → nurses ((c .before .before .before .before) .args .w .now) ≤ (c .before) .loop .over
+past c =
+    let loop = c .before in
+    let after-nurses = loop .before in
+    subst (λ (m : ℕ). m ≤ loop .loop .over) (after-nurses .nurses .ensures .0) (c .loop-test .left)
 
 loop-holds : tie.Need-loop-holds Inv-loop μ-loop
 loop-holds c = count-start _ _ _ _ refl refl
@@ -50,13 +63,13 @@ day-count-requires : tie.Need-day-count-requires Inv-loop μ-loop
 day-count-requires c κs =
     let start : Start = search in
     let turn : In-loop = search in
-    (start .pre .0, turn .loop-test .taken)
+    (start .pre .0, below turn)
 
 returns : tie.Need-returns Inv-loop μ-loop
 returns c =
     let turn : In-loop = search in
     let counted : After-day-count = search in
-    counted-over _ _ _ _ _ _ (turn .before .loop .inv) (turn .loop-test .taken) (counted .day-count .ensures) (c .if1 .taken)
+    counted-over _ _ _ _ _ _ (turn .before .loop .inv) (below turn) (counted .day-count .ensures) (c .if1 .taken)
 
 add-at : tie.Need-add-at Inv-loop μ-loop
 add-at c = search needs
@@ -71,7 +84,7 @@ array-write-ends : tie.Need-array-write-ends Inv-loop μ-loop
 array-write-ends c =
     let start : Start = search in
     let turn : In-loop = search in
-    omega (arith, turn .before .loop .inv .ends-long, turn .loop-test .taken, start .pre .0 .nurses-most)
+    omega (arith, turn .before .loop .inv .ends-long, below turn, start .pre .0 .nurses-most)
 
 loop-less : tie.Need-loop-less Inv-loop μ-loop
 loop-less c = search needs
@@ -81,12 +94,12 @@ loop-again c =
     let start : Start = search in
     let turn : In-loop = search in
     let counted : After-day-count = search in
-    count-turn _ _ _ _ _ _ (turn .before .loop .inv) (start .pre .0 .nurses-most) (turn .loop-test .taken) (counted .day-count .ensures) (c .if1 .left)
+    count-turn _ _ _ _ _ _ (turn .before .loop .inv) (start .pre .0 .nurses-most) (below turn) (counted .day-count .ensures) (c .if1 .left)
 
 returns-2 : tie.Need-returns-2 Inv-loop μ-loop
 returns-2 c =
     let loop : At-loop = search in
-    counted-all _ _ _ _ _ _ (loop .loop .inv) (c .loop-test .left)
+    counted-all _ _ _ _ _ _ (loop .loop .inv) (past c)
 
 pub lists-count-spec : {M : Type 1} → statement M
 lists-count-spec =
@@ -94,7 +107,7 @@ lists-count-spec =
     (tie.spec
     Inv-loop
     μ-loop
-    shared-slice-read-m
+    nurses-requires
     loop-holds
     sub-room
     mul-day-count

@@ -1,5 +1,6 @@
 -- `daylists::lists::lists_fill` meets its contract. The loop's invariant: the lists so far stand at the buffer's start.
-use Prim.Native.Nat.{_-_}
+use mathlib.Core.Path.{subst}
+use Prim.Native.Nat.{ℕ, _-_, _≤_, _<_}
 use native.Mathlib.Omega.{arith}
 use Rattle.numbers.proofs.BufferLaws.{low-most, rest-room, halves-count}
 use Rattle.fields.specs.Fields.{nurses}
@@ -13,7 +14,7 @@ abbrev Inv-loop : tie.InvT-loop
 Inv-loop w nights buf₀ m used₀ i₀ buf used i = FillAt (dayLists w nights) (nurses w) buf₀ i used buf
 
 abbrev μ-loop : tie.MeasureT-loop
-μ-loop w nights buf₀ m used₀ i₀ buf used i = nurses w - i
+μ-loop w nights buf₀ m used₀ i₀ buf used i = m - i
 
 -- the places that the answers name; `search` finds each by its type among those before
 abbrev Start : Type 0
@@ -28,8 +29,21 @@ In-loop = tie.In-loop Inv-loop μ-loop
 abbrev After-day-fill : Type 0
 After-day-fill = tie.After-day-fill Inv-loop μ-loop
 
-shared-slice-read-m : tie.Need-shared-slice-read-m Inv-loop μ-loop
-shared-slice-read-m c = search needs
+nurses-requires : tie.Need-nurses-requires Inv-loop μ-loop
+nurses-requires c κs = search needs
+
+-- what the loop's test says of the ward
+below : (c : tie.In-loop Inv-loop μ-loop) → (c .before) .loop .i < nurses ((c .before .before .before .before .before) .args .w .now)
+below c =
+    let loop = c .before in
+    let after-nurses = loop .before in
+    subst (λ (m : ℕ). loop .loop .i < m) (after-nurses .nurses .ensures .0) (c .loop-test .taken)
+
+past : (c : tie.After-loop Inv-loop μ-loop) → nurses ((c .before .before .before .before .before) .args .w .now) ≤ (c .before) .loop .i
+past c =
+    let loop = c .before in
+    let after-nurses = loop .before in
+    subst (λ (m : ℕ). m ≤ loop .loop .i) (after-nurses .nurses .ensures .0) (c .loop-test .left)
 
 loop-holds : tie.Need-loop-holds Inv-loop μ-loop
 loop-holds c = fill-start _ _ _
@@ -45,21 +59,21 @@ mul-day-fill-2 c =
     let start : Start = search in
     let turn : In-loop = search in
     let inv = turn .before .loop .inv in
-    omega (arith, low-most (next-halves inv (turn .loop-test .taken) (start .pre .1)) (inv .used-is) (inv .buf-is), fill-length inv (start .pre .1), start .good)
+    omega (arith, low-most (next-halves inv (below turn) (start .pre .1)) (inv .used-is) (inv .buf-is), fill-length inv (start .pre .1), start .good)
 
 sub-day-fill : tie.Need-sub-day-fill Inv-loop μ-loop
 sub-day-fill c =
     let start : Start = search in
     let turn : In-loop = search in
     let inv = turn .before .loop .inv in
-    low-most (next-halves inv (turn .loop-test .taken) (start .pre .1)) (inv .used-is) (inv .buf-is)
+    low-most (next-halves inv (below turn) (start .pre .1)) (inv .used-is) (inv .buf-is)
 
 part-day-fill-start : tie.Need-part-day-fill-start Inv-loop μ-loop
 part-day-fill-start c =
     let start : Start = search in
     let turn : In-loop = search in
     let inv = turn .before .loop .inv in
-    low-most (next-halves inv (turn .loop-test .taken) (start .pre .1)) (inv .used-is) (inv .buf-is)
+    low-most (next-halves inv (below turn) (start .pre .1)) (inv .used-is) (inv .buf-is)
 
 part-day-fill-end : tie.Need-part-day-fill-end Inv-loop μ-loop
 part-day-fill-end c = search needs
@@ -69,14 +83,14 @@ day-fill-requires c κs =
     let start : Start = search in
     let turn : In-loop = search in
     let inv = turn .before .loop .inv in
-    (start .pre .0, (turn .loop-test .taken, rest-room (next-halves inv (turn .loop-test .taken) (start .pre .1)) (inv .used-is) (inv .buf-is)))
+    (start .pre .0, (below turn, rest-room (next-halves inv (below turn) (start .pre .1)) (inv .used-is) (inv .buf-is)))
 
 add-used : tie.Need-add-used Inv-loop μ-loop
 add-used c =
     let start : Start = search in
     let turn : In-loop = search in
     let inv = turn .before .loop .inv in
-    let halves = next-halves inv (turn .loop-test .taken) (start .pre .1) in
+    let halves = next-halves inv (below turn) (start .pre .1) in
     let filled : After-day-fill = search in
     omega (arith, halves .room, halves-count halves (inv .used-is) (inv .buf-is) (filled .day-fill .ensures .0) (filled .day-fill .ensures .1), start .good)
 
@@ -91,7 +105,7 @@ loop-again c =
     let start : Start = search in
     let turn : In-loop = search in
     let filled : After-day-fill = search in
-    fill-turn (turn .before .loop .inv) (turn .loop-test .taken) (start .pre .1) (filled .day-fill .ensures .0) (filled .day-fill .ensures .1)
+    fill-turn (turn .before .loop .inv) (below turn) (start .pre .1) (filled .day-fill .ensures .0) (filled .day-fill .ensures .1)
 
 same-length : tie.Need-same-length Inv-loop μ-loop
 same-length c =
@@ -102,7 +116,7 @@ same-length c =
 returns : tie.Need-returns Inv-loop μ-loop
 returns c =
     let loop : At-loop = search in
-    fill-end (loop .loop .inv) (c .loop-test .left)
+    fill-end (loop .loop .inv) (past c)
 
 pub lists-fill-spec : {M : Type 1} → statement M
 lists-fill-spec =
@@ -110,7 +124,7 @@ lists-fill-spec =
     (tie.spec
     Inv-loop
     μ-loop
-    shared-slice-read-m
+    nurses-requires
     loop-holds
     mul-day-fill
     element-copy-out-day-fill

@@ -15,20 +15,23 @@ Inv-loop b row₀ t₀ row t = (t ≤ 7) × (length row ≡ 38) × ((k : ℕ) �
 abbrev μ-loop : tie.MeasureT-loop
 μ-loop b row₀ t₀ row t = 7 - t
 
+-- the places of the function, each from the next
+abbrev at-start : tie.At-loop Inv-loop μ-loop → tie.Start Inv-loop μ-loop
+at-start c = c .before .before
+
 loop-holds : tie.Need-loop-holds Inv-loop μ-loop
 loop-holds c = (omega arith, refl, λ k h. absurd (omega arith))
+
+duty-requires : tie.Need-duty-requires Inv-loop μ-loop
+duty-requires c κs = search needs
 
 mul-row : tie.Need-mul-row Inv-loop μ-loop
 mul-row c = search needs
 
-shared-slice-read-row : tie.Need-shared-slice-read-row Inv-loop μ-loop
-shared-slice-read-row c = search needs
-
-mul-row-2 : tie.Need-mul-row-2 Inv-loop μ-loop
-mul-row-2 c = search needs
-
 array-write-row : tie.Need-array-write-row Inv-loop μ-loop
-array-write-row c = omega (arith, c .before .before .loop .inv .1)
+array-write-row c =
+    let loop = c .before .before in
+    omega (arith, loop .loop .inv .1)
 
 add-t : tie.Need-add-t Inv-loop μ-loop
 add-t c = search needs
@@ -37,24 +40,14 @@ loop-less : tie.Need-loop-less Inv-loop μ-loop
 loop-less c = search needs
 
 loop-again : tie.Need-loop-again Inv-loop μ-loop
-loop-again c = let l = c .before .before .loop in
-    (omega arith, length-set (l .row) (l .t) _ ∙ l .inv .1, place-turn (duty (c .before .before .before .args .b .now)) (l .row) (l .t) _ (omega (arith, l .inv .1)) (l .inv .2) refl)
+loop-again c =
+    let loop = c .before .before in
+    let start = at-start loop in
+    let l = loop .loop in
+    (omega arith, length-set (l .row) (l .t) _ ∙ l .inv .1, place-turn (duty (start .args .b .now)) (l .row) (l .t) _ (omega (arith, l .inv .1)) (l .inv .2) (c .duty .ensures))
 
 returns : tie.Need-returns Inv-loop μ-loop
 returns c = λ k h. c .before .loop .inv .2 k (omega arith)
 
 pub seven-days-spec : {M : Type 1} → statement M
-seven-days-spec =
-    tie.close
-    (tie.spec
-    Inv-loop
-    μ-loop
-    loop-holds
-    mul-row
-    shared-slice-read-row
-    mul-row-2
-    array-write-row
-    add-t
-    loop-less
-    loop-again
-    returns)
+seven-days-spec = tie.close (tie.spec Inv-loop μ-loop loop-holds duty-requires mul-row array-write-row add-t loop-less loop-again returns)

@@ -1,5 +1,6 @@
 -- `nightlists::some::has_pattern` meets its contract: the walk goes over the common list, of which her list is a part.
-use mathlib.Core.Path.{ap, _∙_}
+use Prim.Native.Nat.{ℕ}
+use mathlib.Core.Path.{ap₂, _∙_}
 use native.Mathlib.Omega.{arith}
 use lib.Pow.{pow-mono}
 use Rattle.fields.specs.Fields.{days}
@@ -16,8 +17,8 @@ use Rattle.nightlists.proofs.some.has_pattern.Tie as tie
 masks-of-requires : tie.Need-masks-of-requires
 masks-of-requires c κs = search needs
 
-shared-slice-read-some : tie.Need-shared-slice-read-some
-shared-slice-read-some c = search needs
+days-requires : tie.Need-days-requires
+days-requires c κs = search needs
 
 fresh-requires : tie.Need-fresh-requires
 fresh-requires c κs = search needs
@@ -27,11 +28,13 @@ rules-of-requires c κs = search needs
 
 some-requires : tie.Need-some-requires
 some-requires c κs =
+    let long : tie.After-days = search in
     let masks : tie.After-masks-of = search in
     let start : tie.Start = search in
     let w = start .args .w .now in
-    let ok = start .pre .0 in (
-      record { small = rules-small w _ ok (c .rules-of .ensures); few-days = ok .days-most; fits = omega (arith, pow-mono {i = days w} {j = 31} (ok .days-most)) },
+    let ok = start .pre .0 in
+    let few = long .days .ensures .1 in (
+      record { small = rules-small w _ ok (c .rules-of .ensures); few-days = few; fits = omega (arith, pow-mono {i = long .days .result} {j = 31} few) },
       (ok, masks .masks-of .ensures .1),
     )
 
@@ -39,21 +42,15 @@ returns : tie.Need-returns
 returns c =
     let rules : tie.After-rules-of = search in
     let begins : tie.After-fresh = search in
+    let long : tie.After-days = search in
     let masks : tie.After-masks-of = search in
     let start : tie.Start = search in
     let i = start .args .i in
     let w = start .args .w .now in
     some-of-list w i _ _
-    (ap (λ (r : Rules). listed r (days w) 0 (begins .fresh .result)) (rules .rules-of .ensures) ∙ walk-from (rulesOf w) (days w) (start .pre .0 .run-some) _ (begins .fresh .ensures))
+    (ap₂ (λ (r : Rules) (n : ℕ). listed r n 0 (begins .fresh .result)) (rules .rules-of .ensures) (long .days .ensures .0)
+    ∙ walk-from (rulesOf w) (days w) (start .pre .0 .run-some) _ (begins .fresh .ensures))
     (c .some .ensures i (masks .masks-of .ensures .0))
 
 pub has-pattern-spec : {M : Type 1} → statement M
-has-pattern-spec =
-    tie.close
-    (tie.spec
-    masks-of-requires
-    shared-slice-read-some
-    fresh-requires
-    rules-of-requires
-    some-requires
-    returns)
+has-pattern-spec = tie.close (tie.spec masks-of-requires days-requires fresh-requires rules-of-requires some-requires returns)

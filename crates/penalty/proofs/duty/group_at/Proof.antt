@@ -1,45 +1,20 @@
 -- `penalty::duty::group_at` meets its contract.
 use Rattle.penalty.proofs.DutyLaws.{group-is}
+use Prim.Native.Nat.{_+_, _*_}
 use native.Mathlib.Omega.{arith}
 use borrow.Author.Needs.{needs}
 use Rattle.penalty.proofs.duty.group_at.Statement.{statement}
 use Rattle.penalty.proofs.duty.group_at.Tie as tie
 
-mul-low : tie.Need-mul-low
-mul-low c = search needs
+-- the places of the function, each from the next
+abbrev at-start : tie.After-bounds-of → tie.Start
+at-start c = c .before .before .before
 
-mul-low-2 : tie.Need-mul-low-2
-mul-low-2 c = search needs
+abbrev at-bounds-of : tie.After-members → tie.After-bounds-of
+at-bounds-of c = c .before .before
 
-add-low : tie.Need-add-low
-add-low c = search needs
-
-add-low-2 : tie.Need-add-low-2
-add-low-2 c = search needs
-
-mul-low-3 : tie.Need-mul-low-3
-mul-low-3 c = search needs
-
-shared-slice-read-low : tie.Need-shared-slice-read-low
-shared-slice-read-low c = search needs
-
-mul-high : tie.Need-mul-high
-mul-high c = search needs
-
-mul-high-2 : tie.Need-mul-high-2
-mul-high-2 c = search needs
-
-add-high : tie.Need-add-high
-add-high c = search needs
-
-add-high-2 : tie.Need-add-high-2
-add-high-2 c = search needs
-
-mul-high-3 : tie.Need-mul-high-3
-mul-high-3 c = search needs
-
-shared-slice-read-high : tie.Need-shared-slice-read-high
-shared-slice-read-high c = search needs
+bounds-of-requires : tie.Need-bounds-of-requires
+bounds-of-requires c κs = search needs
 
 mul-members : tie.Need-mul-members
 mul-members c = search needs
@@ -51,29 +26,16 @@ members-requires : tie.Need-members-requires
 members-requires c κs = search needs
 
 group-term-requires : tie.Need-group-term-requires
-group-term-requires c κs = (c .before .before .before .before .before .before .pre .0, c .before .before .before .before .before .before .pre .1 .small _, omega (arith, c .members .ensures .most))
+group-term-requires c κs =
+    let bounds-of = at-bounds-of c in
+    let start = at-start bounds-of in
+    (start .pre .0, omega (arith, bounds-of .bounds-of .ensures .0, start .pre .1 .small (4 * start .args .g + 2 * start .args .k + 2)), omega (arith, c .members .ensures .most))
 
 returns : tie.Need-returns
-returns c = group-is _ _ _ _ _ _ (c .before .members .ensures .is) (c .group-term .ensures)
+returns c =
+    let members = c .before in
+    let bounds-of = at-bounds-of members in
+    group-is _ _ _ _ _ _ (bounds-of .bounds-of .ensures .0) (bounds-of .bounds-of .ensures .1) (members .members .ensures .is) (c .group-term .ensures)
 
 pub group-at-spec : {M : Type 1} → statement M
-group-at-spec =
-    tie.close
-    (tie.spec
-    mul-low
-    mul-low-2
-    add-low
-    add-low-2
-    mul-low-3
-    shared-slice-read-low
-    mul-high
-    mul-high-2
-    add-high
-    add-high-2
-    mul-high-3
-    shared-slice-read-high
-    mul-members
-    shared-slice-read-members
-    members-requires
-    group-term-requires
-    returns)
+group-at-spec = tie.close (tie.spec bounds-of-requires mul-members shared-slice-read-members members-requires group-term-requires returns)

@@ -2,6 +2,7 @@
 use borrow.Author.Needs.{needs}
 use Prim.Native.Nat.{_-_}
 use mathlib.Core.Path.{refl}
+use native.Mathlib.Omega.{arith}
 use lib.ListN.{length}
 use Rattle.numbers.specs.Digits.{has}
 use Rattle.penalty.proofs.DutyLaws.{Sums, need-is, sums-start, sums-turn, sums-end}
@@ -9,25 +10,35 @@ use Rattle.penalty.proofs.duty.on_column.Statement.{statement}
 use Rattle.penalty.proofs.duty.on_column.Tie as tie
 
 abbrev Inv-loop : tie.InvT-loop
-Inv-loop wt masks row k column short₀ over₀ g₀ g-end short over g = Sums wt masks row k (has column) g short over
+Inv-loop wt sets needs k column short₀ over₀ g₀ g-end short over g = Sums wt sets needs k (has column) g short over
 
 abbrev μ-loop : tie.MeasureT-loop
-μ-loop wt masks row k column short₀ over₀ g₀ g-end short over g = length masks - g
+μ-loop wt sets needs k column short₀ over₀ g₀ g-end short over g = length sets - g
 
-mul-need-term : tie.Need-mul-need-term Inv-loop μ-loop
-mul-need-term c = search needs
+-- the places of the function, each from the next
+abbrev at-start : tie.After-need Inv-loop μ-loop → tie.Start Inv-loop μ-loop
+at-start c = c .before .before .before
 
-shared-slice-read-need-term : tie.Need-shared-slice-read-need-term Inv-loop μ-loop
-shared-slice-read-need-term c = search needs
+abbrev at-on-duty : tie.At-loop Inv-loop μ-loop → tie.After-on-duty Inv-loop μ-loop
+at-on-duty c = c .before .before
+
+need-requires : tie.Need-need-requires Inv-loop μ-loop
+need-requires c κs = search needs
 
 on-duty-requires : tie.Need-on-duty-requires Inv-loop μ-loop
 on-duty-requires c κs = search needs
 
 need-term-requires : tie.Need-need-term-requires Inv-loop μ-loop
-need-term-requires c κs = (c .before .before .before .before .pre .0, c .before .before .before .before .pre .1 .small _)
+need-term-requires c κs =
+    let need = c .before in
+    let start = at-start need in
+    (start .pre .0, omega (arith, need .need .ensures, start .pre .1 .small (start .args .k)))
 
 loop-holds : tie.Need-loop-holds Inv-loop μ-loop
-loop-holds c = sums-start _ _ _ _ _ (need-is _ _ _ _ (c .before .on-duty .ensures .is) (c .need-term .ensures))
+loop-holds c =
+    let on-duty = c .before in
+    let need = on-duty .before in
+    sums-start _ _ _ _ _ (need-is _ _ _ _ (need .need .ensures) (on-duty .on-duty .ensures .is) (c .need-term .ensures))
 
 group-at-requires : tie.Need-group-at-requires Inv-loop μ-loop
 group-at-requires c κs = search needs
@@ -45,26 +56,19 @@ loop-less : tie.Need-loop-less Inv-loop μ-loop
 loop-less c = search needs
 
 loop-again : tie.Need-loop-again Inv-loop μ-loop
-loop-again c = sums-turn _ _ _ _ _ (c .before .before .before .before .loop .inv) (c .before .before .before .loop-test .taken) (c .before .before .group-at .ensures)
+loop-again c =
+    let group-at = c .before .before in
+    let in-loop = group-at .before in
+    let loop = in-loop .before in
+    sums-turn _ _ _ _ _ (loop .loop .inv) (in-loop .loop-test .taken) (group-at .group-at .ensures)
 
 returns : tie.Need-returns Inv-loop μ-loop
-returns c = sums-end _ _ _ _ _ (c .before .loop .inv) (c .loop-test .left) (c .before .before .before .before .before .before .before .pre .1 .groups) refl refl
+returns c =
+    let loop = c .before in
+    let on-duty = at-on-duty loop in
+    let need = on-duty .before in
+    let start = at-start need in
+    sums-end _ _ _ _ _ (loop .loop .inv) (c .loop-test .left) (start .pre .1 .groups) refl refl
 
 pub on-column-spec : {M : Type 1} → statement M
-on-column-spec =
-    tie.close
-    (tie.spec
-    Inv-loop
-    μ-loop
-    mul-need-term
-    shared-slice-read-need-term
-    on-duty-requires
-    need-term-requires
-    loop-holds
-    group-at-requires
-    add-short
-    add-over
-    add-g
-    loop-less
-    loop-again
-    returns)
+on-column-spec = tie.close (tie.spec Inv-loop μ-loop need-requires on-duty-requires need-term-requires loop-holds group-at-requires add-short add-over add-g loop-less loop-again returns)

@@ -11,10 +11,10 @@ use Rattle.rosters.proofs.needs.all_bounds_hold.Statement.{statement}
 use Rattle.rosters.proofs.needs.all_bounds_hold.Tie as tie
 
 abbrev Inv-loop : tie.InvT-loop
-Inv-loop masks row k col g₀ g = (g ≤ length masks) × (allBoundsHold masks row k col ≡ all (boundsHold masks row k col) (upFrom g (length masks - g)))
+Inv-loop sets needs k col g₀ g = (g ≤ length sets) × (allBoundsHold sets needs k col ≡ all (boundsHold sets needs k col) (upFrom g (length sets - g)))
 
 abbrev μ-loop : tie.MeasureT-loop
-μ-loop masks row k col g₀ g = length masks - g
+μ-loop sets needs k col g₀ g = length sets - g
 
 loop-holds : tie.Need-loop-holds Inv-loop μ-loop
 unfolding allBoundsHold

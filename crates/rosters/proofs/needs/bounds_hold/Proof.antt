@@ -1,45 +1,19 @@
 -- `rosters::needs::bounds_hold` meets its contract.
-use borrow.Author.Tests.{le-leb, lt-leb}
-use Rattle.rosters.specs.CodeBounds.{boundsHold}
+use native.Mathlib.Omega.{arith}
+use Rattle.rosters.proofs.NeedLaws.{low-met, low-missed}
 use borrow.Author.Needs.{needs}
 use Rattle.rosters.proofs.needs.bounds_hold.Statement.{statement}
 use Rattle.rosters.proofs.needs.bounds_hold.Tie as tie
 
-mul-low : tie.Need-mul-low
-mul-low c = search needs
+-- the places of the function, each from the next
+abbrev at-bounds-of : tie.After-members → tie.After-bounds-of
+at-bounds-of c = c .before .before
 
-mul-low-2 : tie.Need-mul-low-2
-mul-low-2 c = search needs
+abbrev at-members : tie.Then1 → tie.After-members
+at-members c = c .before .before
 
-add-low : tie.Need-add-low
-add-low c = search needs
-
-add-low-2 : tie.Need-add-low-2
-add-low-2 c = search needs
-
-mul-low-3 : tie.Need-mul-low-3
-mul-low-3 c = search needs
-
-shared-slice-read-low : tie.Need-shared-slice-read-low
-shared-slice-read-low c = search needs
-
-mul-high : tie.Need-mul-high
-mul-high c = search needs
-
-mul-high-2 : tie.Need-mul-high-2
-mul-high-2 c = search needs
-
-add-high : tie.Need-add-high
-add-high c = search needs
-
-add-high-2 : tie.Need-add-high-2
-add-high-2 c = search needs
-
-mul-high-3 : tie.Need-mul-high-3
-mul-high-3 c = search needs
-
-shared-slice-read-high : tie.Need-shared-slice-read-high
-shared-slice-read-high c = search needs
+bounds-of-requires : tie.Need-bounds-of-requires
+bounds-of-requires c κs = search needs
 
 mul-members : tie.Need-mul-members
 mul-members c = search needs
@@ -51,31 +25,17 @@ members-requires : tie.Need-members-requires
 members-requires c κs = search needs
 
 returns : tie.Need-returns
-unfolding boundsHold
-returns c = rw (← c .before .members .ensures .is) (simp (le-leb _ _ (c .if1 .taken)))
+returns c =
+    let then1 = c .before in
+    let members = at-members then1 in
+    let bounds-of = at-bounds-of members in
+    low-met _ _ _ _ _ (bounds-of .bounds-of .ensures .0) (bounds-of .bounds-of .ensures .1) (members .members .ensures .is) (then1 .if1 .taken)
 
 returns-2 : tie.Need-returns-2
-unfolding boundsHold
-returns-2 c = rw (← c .before .members .ensures .is) (simp (lt-leb _ _ (c .if1 .left)))
+returns-2 c =
+    let members = c .before .before in
+    let bounds-of = at-bounds-of members in
+    low-missed _ _ _ _ _ (bounds-of .bounds-of .ensures .0) (bounds-of .bounds-of .ensures .1) (members .members .ensures .is) (omega (arith, c .if1 .left))
 
 pub bounds-hold-spec : {M : Type 1} → statement M
-bounds-hold-spec =
-    tie.close
-    (tie.spec
-    mul-low
-    mul-low-2
-    add-low
-    add-low-2
-    mul-low-3
-    shared-slice-read-low
-    mul-high
-    mul-high-2
-    add-high
-    add-high-2
-    mul-high-3
-    shared-slice-read-high
-    mul-members
-    shared-slice-read-members
-    members-requires
-    returns
-    returns-2)
+bounds-hold-spec = tie.close (tie.spec bounds-of-requires mul-members shared-slice-read-members members-requires returns returns-2)

@@ -1,13 +1,13 @@
 -- `trials::costs::day_day` meets its contract.
 use native.Mathlib.Omega.{arith}
-use Rattle.penalty.proofs.FieldLaws.{row-of, light-of}
+use Rattle.penalty.proofs.FieldLaws.{needs-of, light-of}
 use Rattle.trials.proofs.CostLaws.{pair-of, day-three}
 use borrow.Author.Needs.{needs}
 use Rattle.trials.proofs.costs.day_day.Statement.{statement}
 use Rattle.trials.proofs.costs.day_day.Tie as tie
 
-masks-requires : tie.Need-masks-requires
-masks-requires c κs = search needs
+member-sets-requires : tie.Need-member-sets-requires
+member-sets-requires c κs = search needs
 
 needs-requires : tie.Need-needs-requires
 needs-requires c κs = search needs
@@ -16,11 +16,11 @@ weights-requires : tie.Need-weights-requires
 weights-requires c κs = search needs
 
 pair-on-requires : tie.Need-pair-on-requires
-pair-on-requires c κs = (light-of _ _ (c .before .before .before .before .pre .0) (omega arith) (c .weights .ensures), row-of _ _ (c .before .before .before .before .pre .0) (c .before .before .before .before .pre .1) (c .before .before .masks .ensures) (c .before .needs .ensures), search needs, c .before .before .before .before .pre .2)
+pair-on-requires c κs = (light-of _ _ (c .before .before .before .before .pre .0) (omega arith) (c .weights .ensures), needs-of _ _ (c .before .before .before .before .pre .0) (c .before .before .before .before .pre .1) (c .before .before .member-sets .ensures) (c .before .needs .ensures), search needs, c .before .before .before .before .pre .2)
 
 returns : tie.Need-returns
-returns c = day-three _ _ _ _ (pair-of _ _ _ _ _ _ (c .before .weights .ensures) (c .before .before .before .masks .ensures) (c .before .before .needs .ensures) (c .pair-on .ensures))
+returns c = day-three _ _ _ _ (pair-of _ _ _ _ _ _ (c .before .weights .ensures) (c .before .before .before .member-sets .ensures) (c .before .before .needs .ensures) (c .pair-on .ensures))
 
 pub day-day-spec : {M : Type 1} → statement M
 day-day-spec =
-    tie.close (tie.spec masks-requires needs-requires weights-requires pair-on-requires returns)
+    tie.close (tie.spec member-sets-requires needs-requires weights-requires pair-on-requires returns)

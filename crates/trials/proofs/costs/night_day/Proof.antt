@@ -1,13 +1,13 @@
 -- `trials::costs::night_day` meets its contract.
 use native.Mathlib.Omega.{arith}
-use Rattle.penalty.proofs.FieldLaws.{row-of, light-of, low-light-of}
+use Rattle.penalty.proofs.FieldLaws.{needs-of, light-of, low-light-of}
 use Rattle.trials.proofs.CostLaws.{pair-of, night-three}
 use borrow.Author.Needs.{needs}
 use Rattle.trials.proofs.costs.night_day.Statement.{statement}
 use Rattle.trials.proofs.costs.night_day.Tie as tie
 
-masks-requires : tie.Need-masks-requires
-masks-requires c κs = search needs
+member-sets-requires : tie.Need-member-sets-requires
+member-sets-requires c κs = search needs
 
 needs-requires : tie.Need-needs-requires
 needs-requires c κs = search needs
@@ -16,13 +16,13 @@ weights-requires : tie.Need-weights-requires
 weights-requires c κs = search needs
 
 pair-on-requires : tie.Need-pair-on-requires
-pair-on-requires c κs = (light-of _ _ (c .before .before .before .before .pre .0) (omega arith) (c .weights .ensures), row-of _ _ (c .before .before .before .before .pre .0) (c .before .before .before .before .pre .1) (c .before .before .masks .ensures) (c .before .needs .ensures), search needs, c .before .before .before .before .pre .2)
+pair-on-requires c κs = (light-of _ _ (c .before .before .before .before .pre .0) (omega arith) (c .weights .ensures), needs-of _ _ (c .before .before .before .before .pre .0) (c .before .before .before .before .pre .1) (c .before .before .member-sets .ensures) (c .before .needs .ensures), search needs, c .before .before .before .before .pre .2)
 
 low-weights-requires : tie.Need-low-weights-requires
 low-weights-requires c κs = search needs
 
 pair-on-requires-2 : tie.Need-pair-on-requires-2
-pair-on-requires-2 c κs = (low-light-of _ _ (c .before .before .before .before .before .before .pre .0) (omega arith) (c .low-weights .ensures), row-of _ _ (c .before .before .before .before .before .before .pre .0) (c .before .before .before .before .before .before .pre .1) (c .before .before .before .before .masks .ensures) (c .before .before .before .needs .ensures), search needs, c .before .before .before .before .before .before .pre .2)
+pair-on-requires-2 c κs = (low-light-of _ _ (c .before .before .before .before .before .before .pre .0) (omega arith) (c .low-weights .ensures), needs-of _ _ (c .before .before .before .before .before .before .pre .0) (c .before .before .before .before .before .before .pre .1) (c .before .before .before .before .member-sets .ensures) (c .before .before .before .needs .ensures), search needs, c .before .before .before .before .before .before .pre .2)
 
 add-t11 : tie.Need-add-t11
 add-t11 c = search needs
@@ -34,14 +34,14 @@ add-t13 : tie.Need-add-t13
 add-t13 c = search needs
 
 returns : tie.Need-returns
-returns c = night-three _ _ _ _ _ (pair-of _ _ _ _ _ _ (c .before .before .before .before .before .before .before .before .before .weights .ensures) (c .before .before .before .before .before .before .before .before .before .before .before .masks .ensures) (c .before .before .before .before .before .before .before .before .before .before .needs .ensures) (c .before .before .before .before .before .before .before .before .pair-on .ensures))
-    (pair-of _ _ _ _ _ _ (c .before .before .before .before .before .before .before .low-weights .ensures) (c .before .before .before .before .before .before .before .before .before .before .before .masks .ensures) (c .before .before .before .before .before .before .before .before .before .before .needs .ensures) (c .before .before .before .before .before .before .pair-on2 .ensures))
+returns c = night-three _ _ _ _ _ (pair-of _ _ _ _ _ _ (c .before .before .before .before .before .before .before .before .before .weights .ensures) (c .before .before .before .before .before .before .before .before .before .before .before .member-sets .ensures) (c .before .before .before .before .before .before .before .before .before .before .needs .ensures) (c .before .before .before .before .before .before .before .before .pair-on .ensures))
+    (pair-of _ _ _ _ _ _ (c .before .before .before .before .before .before .before .low-weights .ensures) (c .before .before .before .before .before .before .before .before .before .before .before .member-sets .ensures) (c .before .before .before .before .before .before .before .before .before .before .needs .ensures) (c .before .before .before .before .before .before .pair-on2 .ensures))
 
 pub night-day-spec : {M : Type 1} → statement M
 night-day-spec =
     tie.close
     (tie.spec
-    masks-requires
+    member-sets-requires
     needs-requires
     weights-requires
     pair-on-requires

@@ -1,4 +1,5 @@
 -- `trials::pairs::group_pair` meets its contract.
+use Prim.Native.Nat.{_+_, _*_}
 use native.Mathlib.Omega.{arith}
 use mathlib.Core.Path.{refl}
 use Rattle.trials.proofs.PairLaws.{group-tells}
@@ -6,41 +7,15 @@ use borrow.Author.Needs.{needs}
 use Rattle.trials.proofs.pairs.group_pair.Statement.{statement}
 use Rattle.trials.proofs.pairs.group_pair.Tie as tie
 
-mul-low : tie.Need-mul-low
-mul-low c = search needs
+-- the places of the function, each from the next
+abbrev at-start : tie.After-bounds-of → tie.Start
+at-start c = c .before .before .before
 
-mul-low-2 : tie.Need-mul-low-2
-mul-low-2 c = search needs
+abbrev at-bounds-of : tie.After-members → tie.After-bounds-of
+at-bounds-of c = c .before .before
 
-add-low : tie.Need-add-low
-add-low c = search needs
-
-add-low-2 : tie.Need-add-low-2
-add-low-2 c = search needs
-
-mul-low-3 : tie.Need-mul-low-3
-mul-low-3 c = search needs
-
-shared-slice-read-low : tie.Need-shared-slice-read-low
-shared-slice-read-low c = search needs
-
-mul-high : tie.Need-mul-high
-mul-high c = search needs
-
-mul-high-2 : tie.Need-mul-high-2
-mul-high-2 c = search needs
-
-add-high : tie.Need-add-high
-add-high c = search needs
-
-add-high-2 : tie.Need-add-high-2
-add-high-2 c = search needs
-
-mul-high-3 : tie.Need-mul-high-3
-mul-high-3 c = search needs
-
-shared-slice-read-high : tie.Need-shared-slice-read-high
-shared-slice-read-high c = search needs
+bounds-of-requires : tie.Need-bounds-of-requires
+bounds-of-requires c κs = search needs
 
 mul-group : tie.Need-mul-group
 mul-group c = search needs
@@ -52,7 +27,10 @@ members-requires : tie.Need-members-requires
 members-requires c κs = search needs
 
 group-term-requires : tie.Need-group-term-requires
-group-term-requires c κs = (c .before .before .before .before .before .before .pre .0, c .before .before .before .before .before .before .pre .1 .small _, omega (arith, c .members .ensures .most))
+group-term-requires c κs =
+    let bounds-of = at-bounds-of c in
+    let start = at-start bounds-of in
+    (start .pre .0, omega (arith, bounds-of .bounds-of .ensures .0, start .pre .1 .small (4 * start .args .g + 2 * start .args .k + 2)), omega (arith, c .members .ensures .most))
 
 bit-of-requires : tie.Need-bit-of-requires
 bit-of-requires c κs = search needs
@@ -61,40 +39,28 @@ add-group-term : tie.Need-add-group-term
 add-group-term c = search needs
 
 group-term-requires-2 : tie.Need-group-term-requires-2
-group-term-requires-2 c κs = (c .before .before .before .before .before .before .before .before .pre .0, c .before .before .before .before .before .before .before .before .pre .1 .small _, omega (arith, c .before .before .members .ensures .most, c .bit-of .ensures .most))
+group-term-requires-2 c κs =
+    let group-term = c .before in
+    let members = group-term .before in
+    let bounds-of = at-bounds-of members in
+    let start = at-start bounds-of in
+    (start .pre .0, omega (arith, bounds-of .bounds-of .ensures .0, start .pre .1 .small (4 * start .args .g + 2 * start .args .k + 2)), omega (arith, members .members .ensures .most, c .bit-of .ensures .most))
 
-add-t20 : tie.Need-add-t20
-add-t20 c = search needs
+add-t15 : tie.Need-add-t15
+add-t15 c = search needs
 
-add-t23 : tie.Need-add-t23
-add-t23 c = search needs
+add-t16 : tie.Need-add-t16
+add-t16 c = search needs
 
 returns : tie.Need-returns
-returns c = λ f e. group-tells _ _ _ _ _ _ _ f (c .before .before .before .before .before .before .before .before .before .before .before .pre .4) e (c .before .before .before .before .before .members .ensures .is) (c .before .before .before .bit-of .ensures .is) (c .before .before .before .before .group-term .ensures) (c .before .before .group-term2 .ensures) refl refl
+returns c =
+    let group-term2 = c .before .before in
+    let bit-of = group-term2 .before in
+    let group-term = bit-of .before in
+    let members = group-term .before in
+    let bounds-of = at-bounds-of members in
+    let start = at-start bounds-of in
+    λ f e. group-tells _ _ _ _ _ _ _ f (start .pre .4) e (bounds-of .bounds-of .ensures .0) (bounds-of .bounds-of .ensures .1) (members .members .ensures .is) (bit-of .bit-of .ensures .is) (group-term .group-term .ensures) (group-term2 .group-term2 .ensures) refl refl
 
 pub group-pair-spec : {M : Type 1} → statement M
-group-pair-spec =
-    tie.close
-    (tie.spec
-    mul-low
-    mul-low-2
-    add-low
-    add-low-2
-    mul-low-3
-    shared-slice-read-low
-    mul-high
-    mul-high-2
-    add-high
-    add-high-2
-    mul-high-3
-    shared-slice-read-high
-    mul-group
-    shared-slice-read-group
-    members-requires
-    group-term-requires
-    bit-of-requires
-    add-group-term
-    group-term-requires-2
-    add-t20
-    add-t23
-    returns)
+group-pair-spec = tie.close (tie.spec bounds-of-requires mul-group shared-slice-read-group members-requires group-term-requires bit-of-requires add-group-term group-term-requires-2 add-t15 add-t16 returns)

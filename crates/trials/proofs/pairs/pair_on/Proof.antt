@@ -5,39 +5,64 @@ use mathlib.Core.Path.{refl}
 use native.Mathlib.Omega.{arith}
 use lib.ListN.{length}
 use Rattle.numbers.specs.Digits.{has}
-use Rattle.trials.proofs.PairLaws.{Pairs, pairs-start, pairs-turn, pairs-end}
+use Rattle.trials.proofs.PairLaws.{Pairs, pairs-start, pairs-small, pairs-turn, pairs-end}
 use Rattle.trials.proofs.pairs.pair_on.Statement.{statement}
 use Rattle.trials.proofs.pairs.pair_on.Tie as tie
 
 abbrev Inv-loop : tie.InvT-loop
-Inv-loop wt masks row k column i others off₀ on₀ g₀ g-end off on g = Pairs wt masks row k i (has column) g off on
+Inv-loop wt sets needs k column i others off₀ on₀ g₀ g-end off on g = Pairs wt sets needs k i (has column) g off on
 
 abbrev μ-loop : tie.MeasureT-loop
-μ-loop wt masks row k column i others off₀ on₀ g₀ g-end off on g = length masks - g
+μ-loop wt sets needs k column i others off₀ on₀ g₀ g-end off on g = length sets - g
+
+-- the places of the function, each from the next
+abbrev at-start : tie.After-put-bit Inv-loop μ-loop → tie.Start Inv-loop μ-loop
+at-start c = c .before .before .before
+
+abbrev at-need : tie.At-loop Inv-loop μ-loop → tie.After-need Inv-loop μ-loop
+at-need c = c .before .before
 
 put-bit-requires : tie.Need-put-bit-requires Inv-loop μ-loop
 put-bit-requires c κs = search needs
 
-mul-need-pair : tie.Need-mul-need-pair Inv-loop μ-loop
-mul-need-pair c = search needs
-
-shared-slice-read-need-pair : tie.Need-shared-slice-read-need-pair Inv-loop μ-loop
-shared-slice-read-need-pair c = search needs
+need-requires : tie.Need-need-requires Inv-loop μ-loop
+need-requires c κs = search needs
 
 need-pair-requires : tie.Need-need-pair-requires Inv-loop μ-loop
-need-pair-requires c κs = (c .before .before .before .before .pre .0, c .before .before .before .before .pre .1 .small _)
+need-pair-requires c κs =
+    let put-bit = c .before in
+    let start = at-start put-bit in
+    (start .pre .0, omega (arith, c .need .ensures, start .pre .1 .small (start .args .k)))
 
 loop-holds : tie.Need-loop-holds Inv-loop μ-loop
-loop-holds c = pairs-start _ _ _ _ _ _ (c .need-pair .ensures _ _ _ _ (c .before .before .before .before .before .pre .3) refl (c .before .before .put-bit .ensures))
+loop-holds c =
+    let need = c .before in
+    let put-bit = need .before in
+    let start = at-start put-bit in
+    pairs-start _ _ _ _ _ _ (c .need-pair .ensures _ _ _ _ (start .pre .3) (need .need .ensures) (put-bit .put-bit .ensures))
 
 group-pair-requires : tie.Need-group-pair-requires Inv-loop μ-loop
 group-pair-requires c κs = search needs
 
 add-off : tie.Need-add-off Inv-loop μ-loop
-add-off c = omega (arith, c .before .group-pair .ensures _ (c .before .before .before .before .before .before .put-bit .ensures) .off-is .most, c .before .before .before .loop .inv .off-sum .most)
+add-off c =
+    let group-pair = c .before in
+    let in-loop = group-pair .before in
+    let loop = in-loop .before in
+    let need = at-need loop in
+    let put-bit = need .before in
+    let start = at-start put-bit in
+    omega (arith, group-pair .group-pair .ensures _ (put-bit .put-bit .ensures) .off-is .most, pairs-small _ _ _ _ _ _ (loop .loop .inv) (start .pre .1 .groups) .0)
 
 add-on : tie.Need-add-on Inv-loop μ-loop
-add-on c = omega (arith, c .before .before .group-pair .ensures _ (c .before .before .before .before .before .before .before .put-bit .ensures) .on-is .most, c .before .before .before .before .loop .inv .on-sum .most)
+add-on c =
+    let group-pair = c .before .before in
+    let in-loop = group-pair .before in
+    let loop = in-loop .before in
+    let need = at-need loop in
+    let put-bit = need .before in
+    let start = at-start put-bit in
+    omega (arith, group-pair .group-pair .ensures _ (put-bit .put-bit .ensures) .on-is .most, pairs-small _ _ _ _ _ _ (loop .loop .inv) (start .pre .1 .groups) .1)
 
 add-g : tie.Need-add-g Inv-loop μ-loop
 add-g c = search needs
@@ -46,26 +71,21 @@ loop-less : tie.Need-loop-less Inv-loop μ-loop
 loop-less c = search needs
 
 loop-again : tie.Need-loop-again Inv-loop μ-loop
-loop-again c = pairs-turn _ _ _ _ _ _ (c .before .before .before .before .loop .inv) (c .before .before .before .loop-test .taken) (c .before .before .group-pair .ensures _ (c .before .before .before .before .before .before .before .put-bit .ensures))
+loop-again c =
+    let group-pair = c .before .before in
+    let in-loop = group-pair .before in
+    let loop = in-loop .before in
+    let need = at-need loop in
+    let put-bit = need .before in
+    pairs-turn _ _ _ _ _ _ (loop .loop .inv) (in-loop .loop-test .taken) (group-pair .group-pair .ensures _ (put-bit .put-bit .ensures))
 
 returns : tie.Need-returns Inv-loop μ-loop
-returns c = pairs-end _ _ _ _ _ _ (c .before .loop .inv) (c .loop-test .left) (c .before .before .before .before .before .before .before .pre .1 .groups) refl refl
+returns c =
+    let loop = c .before in
+    let need = at-need loop in
+    let put-bit = need .before in
+    let start = at-start put-bit in
+    pairs-end _ _ _ _ _ _ (loop .loop .inv) (c .loop-test .left) (start .pre .1 .groups) refl refl
 
 pub pair-on-spec : {M : Type 1} → statement M
-pair-on-spec =
-    tie.close
-    (tie.spec
-    Inv-loop
-    μ-loop
-    put-bit-requires
-    mul-need-pair
-    shared-slice-read-need-pair
-    need-pair-requires
-    loop-holds
-    group-pair-requires
-    add-off
-    add-on
-    add-g
-    loop-less
-    loop-again
-    returns)
+pair-on-spec = tie.close (tie.spec Inv-loop μ-loop put-bit-requires need-requires need-pair-requires loop-holds group-pair-requires add-off add-on add-g loop-less loop-again returns)

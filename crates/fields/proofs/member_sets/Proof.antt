@@ -1,11 +1,11 @@
--- `fields::masks` meets its contract.
+-- `fields::member_sets` meets its contract.
 use native.Mathlib.Nat.{add-sub-cancel-left}
-use Rattle.fields.specs.Fields.{masks}
+use Rattle.fields.specs.Fields.{memberSets}
 use borrow.Author.Needs.{needs}
-use Rattle.fields.proofs.masks.Statement.{statement}
-use Rattle.fields.proofs.masks.Tie as tie
-use Rattle.fields.proofs.masks.Reads as reads
-use Rattle.fields.proofs.masks.Lts as lts
+use Rattle.fields.proofs.member_sets.Statement.{statement}
+use Rattle.fields.proofs.member_sets.Tie as tie
+use Rattle.fields.proofs.member_sets.Reads as reads
+use Rattle.fields.proofs.member_sets.Lts as lts
 use Rattle.fields.proofs.groups.Reads as groups-reads
 use Rattle.fields.proofs.groups_at.Reads as groups-at-reads
 
@@ -31,11 +31,11 @@ part-result-end : tie.Need-part-result-end
 part-result-end c = search needs
 
 returns : tie.Need-returns
-unfolding masks
+unfolding memberSets
 returns c = rw (add-sub-cancel-left, c .before .before .groups-at .ensures, c .before .groups .ensures .0)
 
-pub masks-spec : {M : Type 1} → statement M
-masks-spec =
+pub member-sets-spec : {M : Type 1} → statement M
+member-sets-spec =
     tie.close
     (tie.spec
     groups-at-requires

@@ -1,0 +1,49 @@
+-- `roster::days_of` reads the days of a ward that the reader accepted.
+use lib.Seq.{length-take-le}
+use mathlib.Core.Path.{sym}
+use Rattle.ward.proofs.ReadingLaws.{reading-accepted, reading-fits}
+use borrow.Author.Needs.{needs}
+use Rattle.roster.proofs.days_of.Statement.{statement}
+use Rattle.roster.proofs.days_of.Tie as tie
+
+-- the places of the function, each from the next
+abbrev at-read : tie.After-enum-told → tie.After-read
+at-read c = c .before .before
+
+read-requires : tie.Need-read-requires
+read-requires c κs = search needs
+
+enum-told : tie.Need-enum-told
+enum-told c = search needs
+
+array-share-prefix-numbers : tie.Need-array-share-prefix-numbers
+array-share-prefix-numbers c =
+    let enum-told = c .before in
+    let read = at-read enum-told in
+    reading-fits _ _ (read .read .ensures)
+
+slice-aggregate-days : tie.Need-slice-aggregate-days
+slice-aggregate-days c =
+    let enum-told = c .before .before in
+    let read = at-read enum-told in
+    sym (length-take-le _ _ (reading-fits _ _ (read .read .ensures)))
+
+days-requires : tie.Need-days-requires
+days-requires c κs =
+    let enum-told = c .before .before in
+    let read = at-read enum-told in
+    let shared-slice-known = read .before in
+    let start = shared-slice-known .before in
+    reading-accepted (start .args .file .now) _ (λ i. shared-slice-known .shared-slice-known .given i .fits) (read .read .ensures) (enum-told .enum-told .given .1)
+
+enum-told-2 : tie.Need-enum-told-2
+enum-told-2 c = search needs
+
+returns : tie.Need-returns
+returns c = search needs
+
+returns-2 : tie.Need-returns-2
+returns-2 c = search needs
+
+pub days-of-spec : {M : Type 1} → statement M
+days-of-spec = tie.close (tie.spec read-requires enum-told array-share-prefix-numbers slice-aggregate-days days-requires enum-told-2 returns returns-2)
