@@ -31,14 +31,14 @@ at-start c = c .before .before .before
 abbrev at-loop : tie.After-penalty-of Inv-loop μ-loop → tie.At-loop Inv-loop μ-loop
 at-loop c = c .before
 
-abbrev not-zero : tie.Else2 Inv-loop μ-loop → tie.Else1 Inv-loop μ-loop
-not-zero c = c .before
+abbrev at-if1 : tie.Else2 Inv-loop μ-loop → tie.Else1 Inv-loop μ-loop
+at-if1 c = c .before
 
 abbrev at-penalty : tie.Else1 Inv-loop μ-loop → tie.After-penalty-of Inv-loop μ-loop
 at-penalty c = c .before
 
-abbrev not-asked : tie.After-step Inv-loop μ-loop → tie.Else2 Inv-loop μ-loop
-not-asked c = c .before
+abbrev at-if2 : tie.After-step Inv-loop μ-loop → tie.Else2 Inv-loop μ-loop
+at-if2 c = c .before
 
 abbrev step-stays : tie.Then3 Inv-loop μ-loop → tie.After-step Inv-loop μ-loop
 step-stays c = c .before .before
@@ -73,33 +73,33 @@ returns : tie.Need-returns Inv-loop μ-loop
 returns c = λ P s e. ends-zero (turn-at (c .before) P s e) (c .if1 .taken)
 
 returns-2 : tie.Need-returns-2 Inv-loop μ-loop
-returns-2 c = let zero = c .before in λ P s e. ends-asked (turn-at (at-penalty zero) P s e) (zero .if1 .left) (c .if2 .taken)
+returns-2 c = let if1 = c .before in λ P s e. ends-asked (turn-at (at-penalty if1) P s e) (if1 .if1 .left) (c .if2 .taken)
 
 step-requires : tie.Need-step-requires Inv-loop μ-loop
-step-requires c κs = let loop = at-loop (at-penalty (not-zero c)) in
+step-requires c κs = let loop = at-loop (at-penalty (at-if1 c)) in
     let start = at-start loop in
     let run = running-at loop in
     ((start .pre .0 .0, start .pre .0 .1, omega (arith, run .counted, run .at-most, c .if2 .left, start .pre .0 .2)), (start .pre .1 .0, start .pre .1 .1))
 
 returns-3 : tie.Need-returns-3 Inv-loop μ-loop
 returns-3 c = let step = step-stays c in
-    let asked = not-asked step in
-    let zero = not-zero asked in
-    λ P s e. stays-none (turn-at (at-penalty zero) P s e) (zero .if1 .left) (asked .if2 .left) (step .step .ensures P s) (not-true _ (c .if3 .taken))
+    let if2 = at-if2 step in
+    let if1 = at-if1 if2 in
+    λ P s e. stays-none (turn-at (at-penalty if1) P s e) (if1 .if1 .left) (if2 .if2 .left) (step .step .ensures P s) (not-true _ (c .if3 .taken))
 
 add-made : tie.Need-add-made Inv-loop μ-loop
-add-made c = let loop = at-loop (at-penalty (not-zero (not-asked (step-moves (moved c))))) in
+add-made c = let loop = at-loop (at-penalty (at-if1 (at-if2 (step-moves (moved c))))) in
     omega (arith, running-at loop .at-most, (at-start loop) .pre .0 .2)
 
 loop-less : tie.Need-loop-less Inv-loop μ-loop
-loop-less c = let asked = not-asked (step-moves (moved c)) in
-    omega (arith, running-at (at-loop (at-penalty (not-zero asked))) .at-most, asked .if2 .left)
+loop-less c = let if2 = at-if2 (step-moves (moved c)) in
+    omega (arith, running-at (at-loop (at-penalty (at-if1 if2))) .at-most, if2 .if2 .left)
 
 loop-again : tie.Need-loop-again Inv-loop μ-loop
 loop-again c = let step = step-moves (moved c) in
-    let asked = not-asked step in
-    let zero = not-zero asked in
-    λ P s e. moves-on (turn-at (at-penalty zero) P s e) (zero .if1 .left) (asked .if2 .left) (step .step .ensures P s) (not-false _ ((moved c) .if3 .left))
+    let if2 = at-if2 step in
+    let if1 = at-if1 if2 in
+    λ P s e. moves-on (turn-at (at-penalty if1) P s e) (if1 .if1 .left) (if2 .if2 .left) (step .step .ensures P s) (not-false _ ((moved c) .if3 .left))
 
 pub advance-spec : {M : Type 1} → statement M
 advance-spec =

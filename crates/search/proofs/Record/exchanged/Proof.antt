@@ -26,7 +26,9 @@ add-after : tie.Need-add-after
 add-after c = search needs
 
 returns : tie.Need-returns
-returns c = exchanged-is (c .before .before .before .before .args .tl) (c .before .before .before .before .args .self) (c .before .before .before .before .args .nurse) (c .before .before .before .before .args .pattern) (c .before .before .before .removal-by .ensures) (c .push .ensures)
+returns c = let removal = c .before .before .before in
+    let a = removal .before .args in
+    exchanged-is (a .tl) (a .self) (a .nurse) (a .pattern) (removal .removal-by .ensures) (c .push .ensures)
 
 pub exchanged-spec : {M : Type 1} → statement M
 exchanged-spec =

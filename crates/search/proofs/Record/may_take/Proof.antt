@@ -20,7 +20,9 @@ element-copy-out-if2 : tie.Need-element-copy-out-if2
 element-copy-out-if2 c = search needs
 
 returns : tie.Need-returns
-returns c = λ m l. may-not m (c .before .before .before .before .args .tl) (c .before .before .before .before .args .t1) (c .before .before .before .before .args .nurse) (c .before .before .before .before .args .pattern) l (rw (c .before .before .if1 .taken) (eq-eqb _ _ (c .if2 .taken)))
+returns c = let if1 = c .before .before in
+    let a = if1 .before .before .args in
+    λ m l. may-not m (a .tl) (a .t1) (a .nurse) (a .pattern) l (rw (if1 .if1 .taken) (eq-eqb _ _ (c .if2 .taken)))
 
 cast-lesser : tie.Need-cast-lesser
 cast-lesser c = search needs
@@ -39,9 +41,11 @@ barred-requires c κs = search needs
 
 returns-2 : tie.Need-returns-2
 returns-2 c =
-    let a = c .before .before .before .before .before .args in
-    let u : holds (slotAt (a .t1) (a .nurse)) (a .pattern) ≡ false = ⊎-elim (λ t. rw (t .0 .taken, ne-eqb _ _ (t .2 .left))) (λ t. rw (t .left)) (c .before .before .before .if1 .came) in
-    λ m l. may-else m (a .tl) (a .t1) (a .nurse) (a .pattern) l u (c .before .before .lesser .ensures) (c .barred .ensures)
+    let lesser = c .before .before in
+    let if1 = lesser .before in
+    let a = if1 .before .before .args in
+    let u : holds (slotAt (a .t1) (a .nurse)) (a .pattern) ≡ false = ⊎-elim (λ t. rw (t .0 .taken, ne-eqb _ _ (t .2 .left))) (λ t. rw (t .left)) (if1 .if1 .came) in
+    λ m l. may-else m (a .tl) (a .t1) (a .nurse) (a .pattern) l u (lesser .lesser .ensures) (c .barred .ensures)
 
 pub may-take-spec : {M : Type 1} → statement M
 may-take-spec =

@@ -20,7 +20,9 @@ element-copy-out-t13 : tie.Need-element-copy-out-t13
 element-copy-out-t13 c = search needs
 
 returns : tie.Need-returns
-returns c = removal-placed (c .before .before .before .args .t1) (c .before .before .before .args .nurse) (c .before .if1 .taken)
+returns c = let if1 = c .before in
+    let a = if1 .before .before .args in
+    removal-placed (a .t1) (a .nurse) (if1 .if1 .taken)
 
 cast-t14 : tie.Need-cast-t14
 cast-t14 c = search needs
@@ -29,7 +31,7 @@ add-t15 : tie.Need-add-t15
 add-t15 c = search needs
 
 returns-2 : tie.Need-returns-2
-returns-2 c = removal-unplaced (c .before .before .args .t1) (c .before .before .args .nurse) (c .if1 .left)
+returns-2 c = let a = c .before .before .args in removal-unplaced (a .t1) (a .nurse) (c .if1 .left)
 
 pub removal-by-spec : {M : Type 1} → statement M
 removal-by-spec =

@@ -38,10 +38,14 @@ loop-less : tie.Need-loop-less Inv-loop μ-loop
 loop-less c = search needs
 
 loop-again : tie.Need-loop-again Inv-loop μ-loop
-loop-again c = (omega arith, loop-turn 0 0 1 (λ j. oneIf (not (getD (c .before .before .before .before .args .t1 .placed) j false))) (c .before .before .before .loop .i) (c .before .before .before .loop .inv .1) (record { is = c .one-if .ensures .0; most = c .one-if .ensures .1 }))
+loop-again c = let loop = c .before .before .before in
+    let a = loop .before .args in
+    (omega arith, loop-turn 0 0 1 (λ j. oneIf (not (getD (a .t1 .placed) j false))) (loop .loop .i) (loop .loop .inv .1) (record { is = c .one-if .ensures .0; most = c .one-if .ensures .1 }))
 
 returns : tie.Need-returns Inv-loop μ-loop
-returns c = loop-end0 1 (λ j. oneIf (not (getD (c .before .before .args .t1 .placed) j false))) (c .before .before .args .m) 48 (c .before .loop .inv .1) (omega arith) (omega arith)
+returns c = let loop = c .before in
+    let a = loop .before .args in
+    loop-end0 1 (λ j. oneIf (not (getD (a .t1 .placed) j false))) (a .m) 48 (loop .loop .inv .1) (omega arith) (omega arith)
 
 pub unplaced-spec : {M : Type 1} → statement M
 unplaced-spec =
