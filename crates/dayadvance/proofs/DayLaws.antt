@@ -9,6 +9,7 @@ use native.Mathlib.Omega.{arith}
 use lib.Dec.{leb, ltb, eqb}
 use lib.ListN.{length, getD, take, replicate, length-append}
 use borrow.Author.Tests.{leb-true, lt-ltb, le-ltb, eq-eqb, ne-eqb, eqb-true}
+use Rattle.fields.specs.Sizes.{nursePlaces, letterPlaces}
 use Rattle.numbers.specs.Range.{upFrom}
 use Rattle.numbers.proofs.RangeLaws.{and-parts}
 use Rattle.fields.specs.Fields.{Accepted, nurses}
@@ -105,7 +106,7 @@ unfolding rosterOf
 written-roster w ps qs v =
     let n = letters-length w ps qs (nurses w) in
     ap₂ (λ (l : List ℕ) (k : ℕ). record { letters = l; count = k })
-    (v .given ∙ ap (λ (k : ℕ). letters w ps qs (nurses w) ++ replicate (1488 - k) 0) (sym n)) (v .counted ∙ sym n)
+    (v .given ∙ ap (λ (k : ℕ). letters w ps qs (nurses w) ++ replicate (letterPlaces - k) 0) (sym n)) (v .counted ∙ sym n)
 
 letters-alike : (w : List ℕ) (ps qs qs′ : ℕ → ℕ) (k : ℕ) → ((i : ℕ) → i < k → qs i ≡ qs′ i) → letters w ps qs k ≡ letters w ps qs′ k
 unfolding letters
@@ -147,10 +148,10 @@ flag-pattern none e = refl
 flag-pattern (some p) e = absurd (true≢false e)
 
 -- a stored record's unplaced nurses have pattern 0
-store-zero : (R : Record) (i : ℕ) → i < 48 → getD (store R .placed) i false ≡ false → getD (store R .patterns) i 0 ≡ 0
+store-zero : (R : Record) (i : ℕ) → i < nursePlaces → getD (store R .placed) i false ≡ false → getD (store R .patterns) i 0 ≡ 0
 unfolding store
 store-zero R i h f =
-    getD-below (λ j. patternOf (R .slots j)) 0 48 i h ∙ flag-pattern (R .slots i) (sym (getD-below (λ j. flagOf (R .slots j)) false 48 i h) ∙ f)
+    getD-below (λ j. patternOf (R .slots j)) 0 nursePlaces i h ∙ flag-pattern (R .slots i) (sym (getD-below (λ j. flagOf (R .slots j)) false nursePlaces i h) ∙ f)
 
 pub stored-zero : (w : List ℕ) (P : Phase) (k : ℕ) (r : Stored) {a : Answer} {x : Stored} → Accepted w → replyStored P k r ≡ (a, x) → UnplacedZero w x
 unfolding replyStored UnplacedZero

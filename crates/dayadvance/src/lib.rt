@@ -1,5 +1,7 @@
 // The day advance on a ward that was read.
 use daylists::lists::Ends;
+use fields::sizes::ENDS;
+use fields::sizes::NURSES;
 use history::Search;
 use letters::written::Roster;
 use phases::opening;
@@ -17,6 +19,7 @@ ghost use mathlib.Core.List.{List};
 ghost use mathlib.Core.Option.{none};
 ghost use Prim.Native.Nat.{ℕ, _≤_};
 ghost use lib.ListN.{length};
+ghost use Rattle.fields.specs.Sizes.{nursePlaces};
 ghost use Rattle.numbers.specs.Range.{upFrom};
 ghost use Rattle.refusals.specs.Refusals.{refusalIn};
 ghost use Rattle.fields.specs.Fields.{Accepted, nurses};
@@ -30,7 +33,7 @@ ghost use Rattle.phases.specs.CodeQuestions.{beforeLists, afterLists, EndsOf, U
 ghost use Rattle.phases.specs.Outcomes.{lettersOf, advanceOf, rosterOf, leftBy, callOf};
 
 // The roster that an advance gives out: at penalty zero that of the nights and its days, else none.
-fn roster_given(w: &[u64], nights: &[u32; 48], x: Advanced) -> Roster
+fn roster_given(w: &[u64], nights: &[u32; NURSES], x: Advanced) -> Roster
     requires { ⌜ Accepted (now w) × UnplacedZero (now w) (x .after) ⌝ }
     ensures { λ r. ⌜ r ≡ rosterOf (lettersOf (answerOf (dayPhase (now (w .entry)) (nightOf (now (nights .entry)))) x)) ⌝ }
 {
@@ -46,7 +49,7 @@ fn roster_given(w: &[u64], nights: &[u32; 48], x: Advanced) -> Roster
 }
 
 // Questions 7 and 8.
-fn first_no(rec: Record, w: &[u64], nights: &[u32; 48], k: u32) -> Answer
+fn first_no(rec: Record, w: &[u64], nights: &[u32; NURSES], k: u32) -> Answer
     requires { ⌜ Accepted (now w) ⌝ }
     ensures { λ r. ⌜ refusalIn r ≡ beforeLists (now (w .entry)) (nightOf (now (nights .entry))) k rec ⌝ }
 {
@@ -57,8 +60,8 @@ fn first_no(rec: Record, w: &[u64], nights: &[u32; 48], k: u32) -> Answer
 }
 
 // Question 10, by where the lists of m nurses end.
-fn days_lacking(ends: [usize; 49], m: usize) -> Answer
-    requires { ⌜ m ≤ 48 ⌝ }
+fn days_lacking(ends: [usize; ENDS], m: usize) -> Answer
+    requires { ⌜ m ≤ nursePlaces ⌝ }
     ensures { λ r. ⌜ ((lists : ℕ → List ℕ) → EndsOf lists m ends → refusalIn r ≡ lacking lists (upFrom 0 m)) ⌝ }
 {
     let mut i: usize = 0;
@@ -73,7 +76,7 @@ fn days_lacking(ends: [usize; 49], m: usize) -> Answer
 }
 
 // Questions 9, 10 and 11, by where the lists end.
-fn next_no(rec: Record, w: &[u64], nights: &[u32; 48], counted: Ends) -> Answer
+fn next_no(rec: Record, w: &[u64], nights: &[u32; NURSES], counted: Ends) -> Answer
     requires { ⌜ Accepted (now w) ⌝ }
     ensures { λ r. ⌜ ((places : ℕ) → Counted (dayLists (now (w .entry)) (now (nights .entry))) (nurses (now (w .entry))) places (counted .over) (counted .ends) → refusalIn r ≡ afterLists (now (w .entry)) (nightOf (now (nights .entry))) places rec) ⌝ }
 {
@@ -93,7 +96,7 @@ fn next_no(rec: Record, w: &[u64], nights: &[u32; 48], counted: Ends) -> Answer
 fn with_lists(
     rec: Record,
     w: &[u64],
-    nights: &[u32; 48],
+    nights: &[u32; NURSES],
     k: u32,
     counted: Ends,
     buffer: &mut [u32],
@@ -119,7 +122,13 @@ fn with_lists(
 }
 
 // The day advance, every question answered before the first store.
-pub fn advance_on(rec: Record, w: &[u64], nights: &[u32; 48], k: u32, buffer: &mut [u32]) -> Advance
+pub fn advance_on(
+    rec: Record,
+    w: &[u64],
+    nights: &[u32; NURSES],
+    k: u32,
+    buffer: &mut [u32],
+) -> Advance
     requires { ⌜ Accepted (now w) ⌝ }
     ensures says { λ r. ⌜ r ≡ advanceOf (advanceStored (dayPhase (now (w .entry)) (nightOf (now (nights .entry)))) (callOf k (length (now (buffer .entry)))) rec) ⌝ }
     ensures leaves { λ _. ⌜ now (buffer .exit) ≡ leftBy (advanceStored (dayPhase (now (w .entry)) (nightOf (now (nights .entry)))) (callOf k (length (now (buffer .entry)))) rec .0) (upTo (dayLists (now (w .entry)) (now (nights .entry))) (nurses (now (w .entry)))) (now (buffer .entry)) ⌝ }

@@ -1,4 +1,6 @@
 // All nurses' day lists in one buffer, each in the part that begins where the last one ends.
+use fields::sizes::ENDS;
+use fields::sizes::NURSES;
 ghost use mathlib.Core.Path.{_≡_};
 ghost use mathlib.Core.List.{_++_};
 ghost use Prim.Native.Nat.{_≤_, _<_};
@@ -11,16 +13,16 @@ ghost use Rattle.daylists.specs.CodeLists.{Counted};
 // begin and end: nurse i's is from ends[i] to ends[i + 1].
 pub struct Ends {
     pub over: usize,
-    pub ends: [usize; 49],
+    pub ends: [usize; ENDS],
 }
 
-pub fn lists_count(w: &[u64], nights: &[u32; 48], places: usize) -> Ends
+pub fn lists_count(w: &[u64], nights: &[u32; NURSES], places: usize) -> Ends
     requires { ⌜ Accepted (now w) ⌝ }
     requires { ⌜ places < 2305843009213693952 ⌝ }
     ensures { λ r. ⌜ Counted (dayLists (now (w .entry)) (now (nights .entry))) (nurses (now (w .entry))) places (r .over) (r .ends) ⌝ }
 {
     let m = fields::nurses(w);
-    let mut ends = [0usize; 49];
+    let mut ends = [0usize; ENDS];
     let mut at: usize = 0;
     let mut over: usize = 0;
     while over < m {
@@ -37,7 +39,7 @@ pub fn lists_count(w: &[u64], nights: &[u32; 48], places: usize) -> Ends
 }
 
 // Writes all lists, where there is room.
-pub fn lists_fill(w: &[u64], nights: &[u32; 48], buf: &mut [u32]) -> usize
+pub fn lists_fill(w: &[u64], nights: &[u32; NURSES], buf: &mut [u32]) -> usize
     requires { ⌜ Accepted (now w) ⌝ }
     requires { ⌜ length (upTo (dayLists (now w) (now nights)) (nurses (now w))) ≤ length (now buf) ⌝ }
     ensures { λ k. ⌜ k ≡ length (upTo (dayLists (now (w .entry)) (now (nights .entry))) (nurses (now (w .entry)))) ⌝ }

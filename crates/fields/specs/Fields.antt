@@ -4,6 +4,7 @@ use Prim.Native.Nat.{ℕ, zero, suc, _+_, _*_, _^_, _≤_, _<_}
 use mathlib.Core.Path.{_≡_}
 use mathlib.Core.List.{List}
 use lib.ListN.{length, getD, take, drop}
+use Rattle.fields.specs.Sizes.{nursePlaces, dayPlaces, tabuMost, numberPlaces}
 
 -- ---- the ward
 
@@ -123,9 +124,9 @@ pub record Block (b : List ℕ) (n : ℕ) : Type 0 where
 
 pub record Accepted (w : List ℕ) : Type 0 where
   pub nurses-some : 1 ≤ nurses w
-  pub nurses-most : nurses w ≤ 48
+  pub nurses-most : nurses w ≤ nursePlaces
   pub days-some : 1 ≤ days w
-  pub days-most : days w ≤ 31
+  pub days-most : days w ≤ dayPlaces
   pub groups-most : groups w ≤ 16
   pub nights-most : mostNights w ≤ 15
   pub run-some : 1 ≤ longestRun w
@@ -133,13 +134,13 @@ pub record Accepted (w : List ℕ) : Type 0 where
   pub gap1-most : gap1 w ≤ 5
   pub gap2-most : gap2 w ≤ 5
   pub gap3-most : gap3 w ≤ 5
-  pub tabu-most : tabu w ≤ 64
+  pub tabu-most : tabu w ≤ tabuMost
   pub day-run-some : 1 ≤ longestDays w
   pub day-run-most : longestDays w ≤ 6
   pub weight-some : (k : ℕ) → k < 6 → 1 ≤ weight w k
   pub weight-most : (k : ℕ) → k < 6 → weight w k ≤ 100
   pub header : 16 ≤ length w
-  pub bound : length w ≤ 4094
+  pub bound : length w ≤ numberPlaces
   pub block-fits : (i : ℕ) → i < nurses w → blockAt w i + (11 + days w) ≤ length w
   pub groups-fit : groupsAt w + groups w ≤ length w
   pub needs-fit : (d : ℕ) → d < days w → needsAt w d + needsSize w ≤ length w

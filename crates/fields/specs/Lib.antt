@@ -1,4 +1,5 @@
 pub mod Fields
+pub mod Sizes
 pub mod Rules
 pub mod Worked
 pub mod CodeRules

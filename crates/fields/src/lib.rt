@@ -2,6 +2,7 @@
 pub mod day;
 pub mod nurse;
 pub mod rules;
+pub mod sizes;
 
 ghost use mathlib.Core.Path.{_≡_};
 ghost use Prim.Native.Nat.{_<_, _≤_};

@@ -1,4 +1,6 @@
 // The night advance on a ward that was read.
+use fields::sizes::ENDS;
+use fields::sizes::NURSES;
 use history::Search;
 use phases::outcomes;
 use phases::outcomes::Advance;
@@ -38,7 +40,7 @@ fn first_no(rec: Record, w: &[u64], k: u32, places: usize) -> Answer
             Answer::Yes => match questions::nights_lacking(w) {
                 Answer::No(n) => Answer::No(n),
                 Answer::Yes => {
-                    let none = [0u32; 48];
+                    let none = [0u32; NURSES];
                     questions::record_asked(w, &none, Search::Nights, rec)
                 }
             },
@@ -58,7 +60,7 @@ pub fn advance_on(rec: Record, w: &[u64], k: u32, buffer: &mut [u32]) -> Advance
             let len = nightlists::common::fill(w, buffer);
             let stretches = Stretches {
                 search: Search::Nights,
-                ends: [0; 49],
+                ends: [0; ENDS],
             };
             let x = rec.advance(w, &buffer[..len], stretches, k);
             outcomes::finished(x, outcomes::no_roster())

@@ -6,6 +6,7 @@ use mathlib.Core.List.{List, _++_}
 use native.Mathlib.Omega.{arith}
 use lib.ListN.{length, take, drop, replicate, length-append}
 use lib.Seq.{take-at}
+use Rattle.fields.specs.Sizes.{letterPlaces}
 use Rattle.refusals.specs.declared.Refusal.{Refusal}
 use Rattle.refusals.specs.declared.Answer.the-variants.{Yes, No}
 use Rattle.ward.specs.declared.Reading.{Reading}
@@ -97,18 +98,18 @@ roster-of (refused n, r) = refl
 roster-of (ended e made penalty letters, r) = refl
 
 -- its count is within the array
-pub count-fits : (a : Answer × Stored) {x : Advance} → x ≡ advanceOf a → length (x .roster .letters) ≡ 1488 → x .roster .count ≤ 1488
+pub count-fits : (a : Answer × Stored) {x : Advance} → x ≡ advanceOf a → length (x .roster .letters) ≡ letterPlaces → x .roster .count ≤ letterPlaces
 unfolding rosterOf
 count-fits a {x} says long =
     let l = lettersOf (a .0) in
     let is : x .roster ≡ rosterOf l = ap (λ (y : Advance). y .roster) says ∙ roster-of a in
     let n : x .roster .count ≡ length l = ap (λ (y : Roster). y .count) is in
-    let all : length (l ++ replicate (1488 - length l) 0) ≡ 1488 = sym (ap (λ (y : Roster). length (y .letters)) is) ∙ long in
-    omega (arith, length-append l (replicate (1488 - length l) 0))
+    let all : length (l ++ replicate (letterPlaces - length l) 0) ≡ letterPlaces = sym (ap (λ (y : Roster). length (y .letters)) is) ∙ long in
+    omega (arith, length-append l (replicate (letterPlaces - length l) 0))
 
 letters-put : (l before : List ℕ) → take (rosterOf l .count) (rosterOf l .letters) ++ drop (rosterOf l .count) before ≡ l ++ drop (length l) before
 unfolding rosterOf
-letters-put l before = ap (λ (t : List ℕ). t ++ drop (length l) before) (take-at l (replicate (1488 - length l) 0) (length l) refl)
+letters-put l before = ap (λ (t : List ℕ). t ++ drop (length l) before) (take-at l (replicate (letterPlaces - length l) 0) (length l) refl)
 
 pub in-roster : (a : Answer × Stored) (roster : List ℕ) {x : Advance} {put : List ℕ} → x ≡ advanceOf a
     → put ≡ take (x .roster .count) (x .roster .letters) ++ drop (x .roster .count) roster → put ≡ rosterLeft (a .0) roster

@@ -6,12 +6,13 @@ use mathlib.Core.List.{List, [], _∷_, map}
 use native.Mathlib.Omega.{arith}
 use lib.ListN.{length, getD, take, drop, replicate, length-map}
 use lib.Seq.{take-at, drop-at, ext-getD}
+use Rattle.fields.specs.Sizes.{nursePlaces, removalPlaces}
 use Rattle.numbers.specs.Range.{upFrom}
 use Rattle.search.specs.declared.Record.{Record as Stored}
 use Rattle.removals.specs.declared.Removal.{Removal as StoredRemoval}
 use Rattle.removals.specs.Removals.{noRemoval}
 use Rattle.search.specs.Stored.{Sized, allZero}
-use Rattle.pantheryl.specs.Words.{flagOf, removalAt, recordOfWords, flagWord, wordsOfRecord}
+use Rattle.pantheryl.specs.Words.{recordWords, flagOf, removalAt, recordOfWords, flagWord, wordsOfRecord}
 use Rattle.pantheryl.specs.CodeWords.{removalWord}
 use Rattle.pantheryl.specs.Back.{ReadBack}
 use Rattle.pantheryl.proofs.WordLaws.{removals-long, removal-read, removal-place, word-steps, words-long}
@@ -24,7 +25,7 @@ flags-back : (fs : List Bool) → map flagOf (map flagWord fs) ≡ fs
 flags-back [] = refl
 flags-back (f ∷ fs) = ap₂ (λ (x : Bool) (xs : List Bool). x ∷ xs) (flag-back f) (flags-back fs)
 
-fresh-read : recordOfWords (replicate 289 0) ≡ allZero
+fresh-read : recordOfWords (replicate recordWords 0) ≡ allZero
 unfolding recordOfWords upFrom
 fresh-read = refl
 
@@ -32,22 +33,22 @@ module _ (r : Stored) (z : Sized r) where
   words : List ℕ
   words = wordsOfRecord r
 
-  long : length words ≡ 289
+  long : length words ≡ recordWords
   unfolding words
   long = words-long r z
 
-  patterns-back : take 48 words ≡ r .patterns
+  patterns-back : take nursePlaces words ≡ r .patterns
   unfolding words wordsOfRecord
-  patterns-back = take-at (r .patterns) _ 48 (z .patterns-long)
+  patterns-back = take-at (r .patterns) _ nursePlaces (z .patterns-long)
 
-  placed-back : map flagOf (take 48 (drop 48 words)) ≡ r .placed
+  placed-back : map flagOf (take nursePlaces (drop nursePlaces words)) ≡ r .placed
   unfolding words wordsOfRecord
   placed-back =
-      ap (λ (l : List ℕ). map flagOf (take 48 l)) (drop-at (r .patterns) _ 48 (z .patterns-long))
-      ∙ ap (map flagOf) (take-at (map flagWord (r .placed)) _ 48 (simp length-map (z .placed-long)))
+      ap (λ (l : List ℕ). map flagOf (take nursePlaces l)) (drop-at (r .patterns) _ nursePlaces (z .patterns-long))
+      ∙ ap (map flagOf) (take-at (map flagWord (r .placed)) _ nursePlaces (simp length-map (z .placed-long)))
       ∙ flags-back (r .placed)
 
-  removal-back : (j : ℕ) → j < 64 → removalAt words j ≡ getD (r .removals) j noRemoval
+  removal-back : (j : ℕ) → j < removalPlaces → removalAt words j ≡ getD (r .removals) j noRemoval
   unfolding words
   removal-back j h =
       let n : getD words (96 + j * 3) 0 ≡ removalWord (getD (r .removals) j noRemoval) 0 = removal-place r z j 0 (96 + j * 3) h (omega arith) (omega arith) in
@@ -55,12 +56,12 @@ module _ (r : Stored) (z : Sized r) where
       let p : getD words (98 + j * 3) 0 ≡ removalWord (getD (r .removals) j noRemoval) 2 = removal-place r z j 2 (98 + j * 3) h (omega arith) (omega arith) in
       rw (n, f, p, flag-back)
 
-  removals-back : map (removalAt words) (upFrom 0 64) ≡ r .removals
+  removals-back : map (removalAt words) (upFrom 0 removalPlaces) ≡ r .removals
   removals-back =
       let l = removals-long words long in
       ext-getD (removalAt words 0) _ (r .removals) (l ∙ sym (z .removals-long)) (λ j h. sym (removal-read words long j (omega arith) refl) ∙ removal-back j (omega arith) ∙ default j (omega arith))
     where
-      default : (j : ℕ) → j < 64 → getD (r .removals) j noRemoval ≡ getD (r .removals) j (removalAt words 0)
+      default : (j : ℕ) → j < removalPlaces → getD (r .removals) j noRemoval ≡ getD (r .removals) j (removalAt words 0)
       default j h = any (r .removals) j (let e = z .removals-long in omega arith)
         where
           any : (xs : List StoredRemoval) (i : ℕ) → i < length xs → getD xs i noRemoval ≡ getD xs i (removalAt words 0)

@@ -22,7 +22,7 @@ use Rattle.planner.specs.Answers.{checkSays}
 use Rattle.planner.specs.Left.{listOf, listsOf, nightLeft, dayLeft}
 use Rattle.planner.specs.Demand1.{noInCheck}
 use Rattle.planner.proofs.Demand1Laws.{noIn, nights-answer, days-answer, demand1}
-use Rattle.pantheryl.specs.Words.{recordOfWords}
+use Rattle.pantheryl.specs.Words.{recordWords, recordOfWords}
 use Rattle.pantheryl.specs.Answers.{countWords, readWords, numbersLeft, wardOf, writeWords, advanceWords, wordsLeft, nightsFrom, daysFrom, rosterLeft, checkWords}
 use Rattle.pantheryl.proofs.WordLaws.{patterns-long, flags-long, removals-long}
 use Rattle.pantheryl.specs.Demand1.{noInWords, WordsDemand1}
@@ -50,7 +50,7 @@ check-no Broken n e = absurd (Option·none-ne-some n e)
 
 -- ---- a record read from words has its declared sizes
 
-words-sized : (words : List ℕ) → length words ≡ 289 → Sized (recordOfWords words)
+words-sized : (words : List ℕ) → length words ≡ recordWords → Sized (recordOfWords words)
 unfolding recordOfWords
 words-sized words l = record { patterns-long = patterns-long words l; placed-long = flags-long words l; removals-long = removals-long words l }
 

@@ -5,6 +5,7 @@ use mathlib.Core.List.{List, [], _∷_}
 use mathlib.Core.Option.{Option, none, some}
 use native.Mathlib.Omega.{arith}
 use lib.ListN.{length, replicate, length-take}
+use Rattle.fields.specs.Sizes.{removalPlaces, tabuMost}
 use Rattle.layout.specs.Grammar.{good, bad}
 use Rattle.ward.specs.Answers.{readWard}
 use Rattle.ward.proofs.ReadingLaws.{read-accepted}
@@ -24,25 +25,25 @@ use Rattle.planner.specs.Advances.{advanceOver}
 use Rattle.phases.proofs.PhaseLaws.{night-fits, day-fits}
 use Rattle.planner.proofs.DemandLaws.{advance-read, advance-without, advance-unread, demand}
 use Rattle.planner.specs.Demand3.{Rightly, Settled, UnlessRefused, Each}
-use Rattle.pantheryl.specs.Words.{wordsOfRecord}
+use Rattle.pantheryl.specs.Words.{recordWords, wordsOfRecord}
 use Rattle.pantheryl.specs.Answers.{wordsLeft}
 use Rattle.pantheryl.specs.Demand3.{byWords, keptWords, WordsDemanded}
 use Rattle.pantheryl.proofs.BackLaws.{read-back}
 
 -- ---- a record handed back has its declared sizes
 
-stepped-few : (tl : ℕ) (s : Step) (R : Record) → tl ≤ 64 → length (stepped tl s R .removals) ≤ 64
+stepped-few : (tl : ℕ) (s : Step) (R : Record) → tl ≤ tabuMost → length (stepped tl s R .removals) ≤ removalPlaces
 unfolding stepped
 stepped-few tl s R l = omega (arith, length-take tl (record { nurse = suc (s .nurse); pattern = R .slots (s .nurse) } ∷ R .removals))
 
 module _ (P : Phase) (fits : Fits P) where
-  proceed-few : (k : ℕ) (R : Record) → length (R .removals) ≤ 64 → length (proceed P k R .0 .removals) ≤ 64
+  proceed-few : (k : ℕ) (R : Record) → length (R .removals) ≤ removalPlaces → length (proceed P k R .0 .removals) ≤ removalPlaces
   unfolding proceed
   proceed-few =
-      by-turns (total P) (best P) (stepped (P .tabu)) (λ k s r. length (s .removals) ≤ 64 → length (r .0 .removals) ≤ 64)
+      by-turns (total P) (best P) (stepped (P .tabu)) (λ k s r. length (s .removals) ≤ removalPlaces → length (r .0 .removals) ≤ removalPlaces)
       (λ k s e h. h) (λ s n h. h) (λ k s n b h. h) (λ k s e r n b g h. g (stepped-few (P .tabu) e s (fits .tabu-most)))
 
-  view-few : (r : Stored) → Sized r → length (viewOf P r .removals) ≤ 64
+  view-few : (r : Stored) → Sized r → length (viewOf P r .removals) ≤ removalPlaces
   view-few r z = omega (arith, view-held (P .nurses) (P .tabu) r z (fits .tabu-most) .count, fits .tabu-most)
 
   reply-sized : (k : ℕ) (r : Stored) → Sized r → Sized (replyStored P k r .1)
@@ -85,12 +86,12 @@ module _ (P : Phase) (fits : Fits P) where
   fresh-sized : Sized allZero
   fresh-sized = record { patterns-long = refl; placed-long = refl; removals-long = refl }
 
-  fresh-words : wordsOfRecord allZero ≡ replicate 289 0
+  fresh-words : wordsOfRecord allZero ≡ replicate recordWords 0
   unfolding wordsOfRecord
   fresh-words = refl
 
   -- the claim about stored records is one about their words
-  by-words : (cs : List Call) → Demand3 P allZero (advanceStored P) store cs → Demand3 P (replicate 289 0) (byWords (advanceStored P)) keptWords cs
+  by-words : (cs : List Call) → Demand3 P allZero (advanceStored P) store cs → Demand3 P (replicate recordWords 0) (byWords (advanceStored P)) keptWords cs
   by-words cs d = record {
     follows = ap (inTurn (byWords (advanceStored P)) cs) (sym fresh-words) ∙ in-turn cs allZero fresh-sized
         ∙ ap (λ (x : List Answer × Stored). (x .0, wordsOfRecord (x .1))) (d .follows);
@@ -105,27 +106,27 @@ module _ (phase : List ℕ → Phase) (file w : List ℕ) (reads : readWard file
   abbrev advances : Call → Stored → Answer × Stored
   advances c r = advanceOver phase (readWard file) c r
 
-  from-file : (cs : List Call) → Demand3 (phase w) allZero advances store cs → Demand3 (phase w) (replicate 289 0) (byWords advances) keptWords cs
+  from-file : (cs : List Call) → Demand3 (phase w) allZero advances store cs → Demand3 (phase w) (replicate recordWords 0) (byWords advances) keptWords cs
   from-file cs d =
       let same = advance-read phase file w reads in
-      subst (λ (adv : Call → Stored → Answer × Stored). Demand3 (phase w) (replicate 289 0) (byWords adv) keptWords cs) (sym same)
+      subst (λ (adv : Call → Stored → Answer × Stored). Demand3 (phase w) (replicate recordWords 0) (byWords adv) keptWords cs) (sym same)
       (by-words (phase w) fits cs (subst (λ (adv : Call → Stored → Answer × Stored). Demand3 (phase w) allZero adv store cs) same d))
 
 -- a refused advance leaves the words as they were
 refused-words : (advance : Call → Stored → Answer × Stored) (n : Refusal) (c : Call) → advance c allZero ≡ (refused n, allZero)
-    → byWords advance c (replicate 289 0) ≡ (refused n, replicate 289 0)
+    → byWords advance c (replicate recordWords 0) ≡ (refused n, replicate recordWords 0)
 unfolding wordsLeft
 refused-words advance n c e = rw (read-back .fresh, e)
 
-words-without : (phase : List ℕ → Phase) (file w : List ℕ) → readWard file ≡ good w → Refusing (phase w) (replicate 289 0) (byWords (advanceOver phase (readWard file)))
+words-without : (phase : List ℕ → Phase) (file w : List ℕ) → readWard file ≡ good w → Refusing (phase w) (replicate recordWords 0) (byWords (advanceOver phase (readWard file)))
 words-without phase file w e =
-    refusing (phase w) (replicate 289 0) (byWords (advanceOver phase (readWard file)))
+    refusing (phase w) (replicate recordWords 0) (byWords (advanceOver phase (readWard file)))
     (λ i h c. refused-words (advanceOver phase (readWard file)) (orTen i (refusal (phase w) c 0)) c (advance-without phase file w e i h c))
 
 words-unread : (phase : List ℕ → Phase) (file : List ℕ) (n : Refusal) → readWard file ≡ bad n → (cs : List Call)
-    → AllRefused (replicate 289 0) (byWords (advanceOver phase (readWard file))) (λ c. n) cs
+    → AllRefused (replicate recordWords 0) (byWords (advanceOver phase (readWard file))) (λ c. n) cs
 words-unread phase file n e cs =
-    all-refused (replicate 289 0) (byWords (advanceOver phase (readWard file))) (λ c. n)
+    all-refused (replicate recordWords 0) (byWords (advanceOver phase (readWard file))) (λ c. n)
     (λ c. refused-words (advanceOver phase (readWard file)) n c (advance-unread phase file n c allZero e)) cs
 
 pub words-demand : WordsDemanded

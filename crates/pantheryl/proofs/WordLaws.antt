@@ -7,37 +7,38 @@ use native.Mathlib.Nat.{zero-add}
 use native.Mathlib.Omega.{arith}
 use lib.ListN.{length, getD, take, drop, length-append, length-map, length-drop, List·getD-append, List·getD-map}
 use lib.Seq.{getD-append-add, getD-take, getD-drop, length-take-le}
+use Rattle.fields.specs.Sizes.{nursePlaces, removalPlaces}
 use Rattle.numbers.specs.Range.{upFrom}
 use Rattle.numbers.proofs.RangeLaws.{length-range, range-at}
 use Rattle.search.specs.declared.Record.{Record as Stored}
 use Rattle.removals.specs.declared.Removal.{Removal as StoredRemoval}
 use Rattle.removals.specs.Removals.{noRemoval}
 use Rattle.search.specs.Stored.{Sized}
-use Rattle.pantheryl.specs.Words.{flagOf, removalAt, flagWord, removalWords, wordsOfRecord}
+use Rattle.pantheryl.specs.Words.{recordWords, flagOf, removalAt, flagWord, removalWords, wordsOfRecord}
 use Rattle.pantheryl.specs.CodeWords.{removalWord}
 
 -- ---- read
 
-module _ (words : List ℕ) (long : length words ≡ 289) where
-  pub patterns-long : length (take 48 words) ≡ 48
-  patterns-long = length-take-le 48 words (omega arith)
+module _ (words : List ℕ) (long : length words ≡ recordWords) where
+  pub patterns-long : length (take nursePlaces words) ≡ nursePlaces
+  patterns-long = length-take-le nursePlaces words (omega arith)
 
-  pub pattern-read : (i : ℕ) → i < 48 → getD words i 0 ≡ getD (take 48 words) i 0
-  pattern-read i h = sym (getD-take 48 words i 0 h)
+  pub pattern-read : (i : ℕ) → i < nursePlaces → getD words i 0 ≡ getD (take nursePlaces words) i 0
+  pattern-read i h = sym (getD-take nursePlaces words i 0 h)
 
-  pub flags-long : length (map flagOf (take 48 (drop 48 words))) ≡ 48
-  flags-long = length-map (take 48 (drop 48 words)) flagOf ∙ length-take-le 48 (drop 48 words) (omega (arith, length-drop 48 words))
+  pub flags-long : length (map flagOf (take nursePlaces (drop nursePlaces words))) ≡ nursePlaces
+  flags-long = length-map (take nursePlaces (drop nursePlaces words)) flagOf ∙ length-take-le nursePlaces (drop nursePlaces words) (omega (arith, length-drop nursePlaces words))
 
-  pub flag-read : (i : ℕ) {f : Bool} → i < 48 → f ≡ flagOf (getD words (48 + i) 0) → f ≡ getD (map flagOf (take 48 (drop 48 words))) i false
+  pub flag-read : (i : ℕ) {f : Bool} → i < nursePlaces → f ≡ flagOf (getD words (nursePlaces + i) 0) → f ≡ getD (map flagOf (take nursePlaces (drop nursePlaces words))) i false
   flag-read i h e =
-      e ∙ sym (List·getD-map flagOf (take 48 (drop 48 words)) i 0 ∙ ap flagOf (getD-take 48 (drop 48 words) i 0 h ∙ getD-drop 48 words i 0))
+      e ∙ sym (List·getD-map flagOf (take nursePlaces (drop nursePlaces words)) i 0 ∙ ap flagOf (getD-take nursePlaces (drop nursePlaces words) i 0 h ∙ getD-drop nursePlaces words i 0))
 
-  pub removals-long : length (map (removalAt words) (upFrom 0 64)) ≡ 64
-  removals-long = length-map (upFrom 0 64) (removalAt words) ∙ length-range 0 64
+  pub removals-long : length (map (removalAt words) (upFrom 0 removalPlaces)) ≡ removalPlaces
+  removals-long = length-map (upFrom 0 removalPlaces) (removalAt words) ∙ length-range 0 removalPlaces
 
-  pub removal-read : (j : ℕ) {x : StoredRemoval} → j < 64 → x ≡ removalAt words j → x ≡ getD (map (removalAt words) (upFrom 0 64)) j (removalAt words 0)
+  pub removal-read : (j : ℕ) {x : StoredRemoval} → j < removalPlaces → x ≡ removalAt words j → x ≡ getD (map (removalAt words) (upFrom 0 removalPlaces)) j (removalAt words 0)
   removal-read j h e =
-      e ∙ sym (List·getD-map (removalAt words) (upFrom 0 64) j 0 ∙ ap (removalAt words) (range-at 0 64 j h ∙ zero-add j))
+      e ∙ sym (List·getD-map (removalAt words) (upFrom 0 removalPlaces) j 0 ∙ ap (removalAt words) (range-at 0 removalPlaces j h ∙ zero-add j))
 
 -- ---- written
 
@@ -78,31 +79,31 @@ module _ (r : Stored) (z : Sized r) where
   rest : List ℕ
   rest = removalWords (r .removals) ++ (r .steps ∷ [])
 
-  flags-is : length flags ≡ 48
+  flags-is : length flags ≡ nursePlaces
   unfolding flags
   flags-is = length-map (r .placed) flagWord ∙ z .placed-long
 
   -- past the patterns, and past the flags
-  past-patterns : (j : ℕ) → getD (wordsOfRecord r) (48 + j) 0 ≡ getD (flags ++ rest) j 0
+  past-patterns : (j : ℕ) → getD (wordsOfRecord r) (nursePlaces + j) 0 ≡ getD (flags ++ rest) j 0
   unfolding wordsOfRecord flags rest
   past-patterns j = ap (λ (n : ℕ). getD (wordsOfRecord r) (n + j) 0) (sym (z .patterns-long)) ∙ getD-append-add (r .patterns) (flags ++ rest) j 0
 
-  past-flags : (j : ℕ) → getD (wordsOfRecord r) (48 + (48 + j)) 0 ≡ getD rest j 0
-  past-flags j = past-patterns (48 + j) ∙ ap (λ (n : ℕ). getD (flags ++ rest) (n + j) 0) (sym flags-is) ∙ getD-append-add flags rest j 0
+  past-flags : (j : ℕ) → getD (wordsOfRecord r) (nursePlaces + (nursePlaces + j)) 0 ≡ getD rest j 0
+  past-flags j = past-patterns (nursePlaces + j) ∙ ap (λ (n : ℕ). getD (flags ++ rest) (n + j) 0) (sym flags-is) ∙ getD-append-add flags rest j 0
 
-  pub word-pattern : (i : ℕ) → i < 48 → getD (r .patterns) i 0 ≡ getD (wordsOfRecord r) i 0
+  pub word-pattern : (i : ℕ) → i < nursePlaces → getD (r .patterns) i 0 ≡ getD (wordsOfRecord r) i 0
   unfolding wordsOfRecord
   word-pattern i h = let l = z .patterns-long in sym (List·getD-append (r .patterns) _ 0 i (omega arith))
 
-  pub word-flag : (i : ℕ) {x : ℕ} → 48 ≤ i → i < 96 → x ≡ flagWord (getD (r .placed) (i - 48) false) → x ≡ getD (wordsOfRecord r) i 0
+  pub word-flag : (i : ℕ) {x : ℕ} → nursePlaces ≤ i → i < 96 → x ≡ flagWord (getD (r .placed) (i - nursePlaces) false) → x ≡ getD (wordsOfRecord r) i 0
   unfolding flags
   word-flag i k h e =
       let l = flags-is in
-      let q : 48 + (i - 48) ≡ i = omega arith in
+      let q : nursePlaces + (i - nursePlaces) ≡ i = omega arith in
       e
-      ∙ sym (List·getD-map flagWord (r .placed) (i - 48) false)
-      ∙ sym (List·getD-append flags rest 0 (i - 48) (omega arith))
-      ∙ sym (past-patterns (i - 48))
+      ∙ sym (List·getD-map flagWord (r .placed) (i - nursePlaces) false)
+      ∙ sym (List·getD-append flags rest 0 (i - nursePlaces) (omega arith))
+      ∙ sym (past-patterns (i - nursePlaces))
       ∙ ap (λ (n : ℕ). getD (wordsOfRecord r) n 0) q
 
   pub word-removal : (i : ℕ) {x : ℕ} → 96 ≤ i → i < 288 → x ≡ removalWord (getD (r .removals) ((i - 96) / 3) noRemoval) ((i - 96) % 3) → x ≡ getD (wordsOfRecord r) i 0
@@ -110,7 +111,7 @@ module _ (r : Stored) (z : Sized r) where
   word-removal i k h e =
       let l = z .removals-long in
       let m = removal-words-long (r .removals) in
-      let q : 48 + (48 + (i - 96)) ≡ i = omega arith in
+      let q : nursePlaces + (nursePlaces + (i - 96)) ≡ i = omega arith in
       e
       ∙ removal-written (r .removals) (i - 96) (omega arith)
       ∙ sym (List·getD-append (removalWords (r .removals)) (r .steps ∷ []) 0 (i - 96) (omega arith))
@@ -118,29 +119,29 @@ module _ (r : Stored) (z : Sized r) where
       ∙ ap (λ (n : ℕ). getD (wordsOfRecord r) n 0) q
 
   -- word t of removal q, from the front
-  pub removal-place : (q t i : ℕ) → q < 64 → t < 3 → i ≡ 96 + t + q * 3 → getD (wordsOfRecord r) i 0 ≡ removalWord (getD (r .removals) q noRemoval) t
+  pub removal-place : (q t i : ℕ) → q < removalPlaces → t < 3 → i ≡ 96 + t + q * 3 → getD (wordsOfRecord r) i 0 ≡ removalWord (getD (r .removals) q noRemoval) t
   unfolding rest
   removal-place q t i h k e =
       let l = z .removals-long in
       let m = removal-words-long (r .removals) in
       let a = at3-is q t in
-      let p : i ≡ 48 + (48 + at3 q t) = omega arith in
+      let p : i ≡ nursePlaces + (nursePlaces + at3 q t) = omega arith in
       ap (λ (n : ℕ). getD (wordsOfRecord r) n 0) p
       ∙ past-flags (at3 q t)
       ∙ List·getD-append (removalWords (r .removals)) (r .steps ∷ []) 0 (at3 q t) (omega arith)
       ∙ removal-at3 (r .removals) q t (omega arith) k
 
-  pub word-steps : (i : ℕ) → 288 ≤ i → i < 289 → r .steps ≡ getD (wordsOfRecord r) i 0
+  pub word-steps : (i : ℕ) → 288 ≤ i → i < recordWords → r .steps ≡ getD (wordsOfRecord r) i 0
   unfolding rest
   word-steps i k h =
       let l = z .removals-long in
       let m = removal-words-long (r .removals) in
-      let q : 48 + (48 + (length (removalWords (r .removals)) + 0)) ≡ i = omega arith in
+      let q : nursePlaces + (nursePlaces + (length (removalWords (r .removals)) + 0)) ≡ i = omega arith in
       sym (getD-append-add (removalWords (r .removals)) (r .steps ∷ []) 0 0)
       ∙ sym (past-flags (length (removalWords (r .removals)) + 0))
       ∙ ap (λ (n : ℕ). getD (wordsOfRecord r) n 0) q
 
-  pub words-long : length (wordsOfRecord r) ≡ 289
+  pub words-long : length (wordsOfRecord r) ≡ recordWords
   unfolding wordsOfRecord
   words-long =
       let l = z .patterns-long in

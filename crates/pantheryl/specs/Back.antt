@@ -3,8 +3,8 @@ use mathlib.Core.Path.{_≡_}
 use lib.ListN.{replicate}
 use Rattle.search.specs.declared.Record.{Record as Stored}
 use Rattle.search.specs.Stored.{Sized, allZero}
-use Rattle.pantheryl.specs.Words.{recordOfWords, wordsOfRecord}
+use Rattle.pantheryl.specs.Words.{recordWords, recordOfWords, wordsOfRecord}
 
 pub record ReadBack : Type 0 where
-  pub fresh : recordOfWords (replicate 289 0) ≡ allZero
+  pub fresh : recordOfWords (replicate recordWords 0) ≡ allZero
   pub same : (r : Stored) → Sized r → recordOfWords (wordsOfRecord r) ≡ r

@@ -17,7 +17,7 @@ use Rattle.planner.specs.Answers.{checkSays}
 use Rattle.planner.specs.Left.{nightLeft, dayLeft}
 use Rattle.planner.specs.Faults.{nightQuestions, dayQuestions, checkQuestions, FileNo, WriterNo}
 use Rattle.planner.specs.Demand1.{Refuses, Bytes}
-use Rattle.pantheryl.specs.Words.{recordOfWords}
+use Rattle.pantheryl.specs.Words.{recordWords, recordOfWords}
 use Rattle.pantheryl.specs.Answers.{refusalWords, readWords, numbersLeft, wardOf, writeWords, advanceWords, wordsLeft, nightsFrom, daysFrom, rosterLeft, checkWords}
 
 -- an answer's words are a refusal's where the first is not 0: question and place
@@ -34,12 +34,12 @@ pub record WordsDemand1 : Type 0 where
   pub write : (numbers : List ℕ) (count : ℕ) (buffer : List ℕ)
       → let ws = counted (wardOf numbers count) in
       WordsRefuse (WriterNo ws (length buffer)) (writeWords (writingOf (length buffer) (checkWard ws))) (leftOf buffer (checkWard ws) ≡ buffer)
-  pub nights : (file : List ℕ) → Bytes file → (words : List ℕ) → length words ≡ 289 → (k : ℕ) (buffer : List ℕ)
+  pub nights : (file : List ℕ) → Bytes file → (words : List ℕ) → length words ≡ recordWords → (k : ℕ) (buffer : List ℕ)
       → let a = nightsFrom file words k buffer in
       let r = recordOfWords words in
       WordsRefuse (FileNo file (nightQuestions (callOf k (length buffer)) r)) (advanceWords (a .0))
       ((wordsLeft a words ≡ words) × (nightLeft file r k buffer ≡ buffer))
-  pub days : (file : List ℕ) → Bytes file → (nights words : List ℕ) → length words ≡ 289 → (k : ℕ) (buffer roster : List ℕ)
+  pub days : (file : List ℕ) → Bytes file → (nights words : List ℕ) → length words ≡ recordWords → (k : ℕ) (buffer roster : List ℕ)
       → let a = daysFrom file nights words k buffer in
       let r = recordOfWords words in
       WordsRefuse (FileNo file (dayQuestions (nightOf nights) (callOf k (length buffer)) r)) (advanceWords (a .0))

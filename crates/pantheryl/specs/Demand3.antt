@@ -8,7 +8,7 @@ use Rattle.search.specs.Stored.{store}
 use Rattle.search.specs.declared.Record.{Record as Stored}
 use Rattle.planner.specs.Advances.{advanceNights, advanceDays}
 use Rattle.planner.specs.Demand3.{DemandedOf}
-use Rattle.pantheryl.specs.Words.{recordOfWords, wordsOfRecord}
+use Rattle.pantheryl.specs.Words.{recordWords, recordOfWords, wordsOfRecord}
 use Rattle.pantheryl.specs.Answers.{wordsLeft}
 
 -- what an advance answers where the record is handed in as words, and the words that it leaves: `nightsFrom` and `wordsLeft` of the contracts, and by day
@@ -21,4 +21,4 @@ keptWords r = wordsOfRecord (store r)
 
 -- For every file of bytes, whether the reader accepts it or not; proofs/DemandLaws shows it.
 abbrev pub WordsDemanded : Type 0
-WordsDemanded = DemandedOf (replicate 289 0) (λ file. byWords (advanceNights file)) (λ file nights. byWords (advanceDays file nights)) keptWords
+WordsDemanded = DemandedOf (replicate recordWords 0) (λ file. byWords (advanceNights file)) (λ file nights. byWords (advanceDays file nights)) keptWords

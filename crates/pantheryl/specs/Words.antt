@@ -4,9 +4,14 @@ use mathlib.Core.Bool.{Bool, cond, not}
 use mathlib.Core.List.{List, [], _∷_, _++_, map}
 use lib.Dec.{eqb}
 use lib.ListN.{getD, take, drop}
+use Rattle.fields.specs.Sizes.{nursePlaces, removalPlaces}
 use Rattle.numbers.specs.Range.{upFrom}
 use Rattle.search.specs.declared.Record.{Record as Stored}
 use Rattle.removals.specs.declared.Removal.{Removal as StoredRemoval}
+
+-- how many
+abbrev pub recordWords : ℕ
+recordWords = 289
 
 -- ---- read
 
@@ -26,9 +31,9 @@ removalAt words j =
 unfoldable pub recordOfWords : List ℕ → Stored
 recordOfWords words =
     record {
-      patterns = take 48 words;
-      placed = map flagOf (take 48 (drop 48 words));
-      removals = map (removalAt words) (upFrom 0 64);
+      patterns = take nursePlaces words;
+      placed = map flagOf (take nursePlaces (drop nursePlaces words));
+      removals = map (removalAt words) (upFrom 0 removalPlaces);
       steps = getD words 288 0;
     }
 

@@ -1,4 +1,5 @@
 // The six words of an answer.
+use fields::sizes::LETTERS;
 use planner::Checked;
 use planner::Outcome;
 use refusals::Answer;
@@ -7,6 +8,7 @@ ghost use mathlib.Core.Path.{_≡_};
 ghost use mathlib.Core.List.{_++_};
 ghost use Prim.Native.Nat.{_≤_};
 ghost use lib.ListN.{take, drop};
+ghost use Rattle.fields.specs.Sizes.{letterPlaces};
 ghost use Rattle.pantheryl.specs.Answers.{refusalWords, countWords, checkWords};
 ghost use Rattle.pantheryl.specs.CodeWords.{outcomeWords, isRefused};
 
@@ -50,8 +52,8 @@ pub(crate) fn is_refused(outcome: Outcome) -> bool
 }
 
 // The roster with the letters at its start.
-fn with_letters(before: [u8; 1488], letters: [u8; 1488], count: usize) -> [u8; 1488]
-    requires { ⌜ count ≤ 1488 ⌝ }
+fn with_letters(before: [u8; LETTERS], letters: [u8; LETTERS], count: usize) -> [u8; LETTERS]
+    requires { ⌜ count ≤ letterPlaces ⌝ }
     ensures { λ r. ⌜ r ≡ take count letters ++ drop count before ⌝ }
 {
     let mut roster = before;
@@ -62,8 +64,8 @@ fn with_letters(before: [u8; 1488], letters: [u8; 1488], count: usize) -> [u8; 1
 }
 
 // Writes the letters, if any are given out.
-pub(crate) fn put_letters(roster: &mut [u8; 1488], letters: [u8; 1488], count: usize)
-    requires { ⌜ count ≤ 1488 ⌝ }
+pub(crate) fn put_letters(roster: &mut [u8; LETTERS], letters: [u8; LETTERS], count: usize)
+    requires { ⌜ count ≤ letterPlaces ⌝ }
     ensures { λ _. ⌜ now (roster .exit) ≡ take count letters ++ drop count (now (roster .entry)) ⌝ }
 {
     if 0 < count {

@@ -2,7 +2,11 @@
 mod answers;
 mod words;
 
+use fields::sizes::LETTERS;
+use fields::sizes::NUMBERS;
+use fields::sizes::NURSES;
 use refusals::Answer;
+use words::WORDS;
 ghost use mathlib.Core.Path.{_≡_};
 ghost use lib.ListN.{length};
 ghost use Rattle.ward.specs.Answers.{readingOf, readWard, counted, checkWard, writingOf, leftOf};
@@ -13,7 +17,7 @@ ghost use Rattle.pantheryl.specs.Answers.{readWords, numbersLeft, wardOf
 
 // Reads a ward file into numbers; the count says how many.
 #[no_mangle]
-pub extern "C" fn pantheryl_read(file: &[u8], numbers: &mut [u64; 4094], answer: &mut [u64; 6])
+pub extern "C" fn pantheryl_read(file: &[u8], numbers: &mut [u64; NUMBERS], answer: &mut [u64; 6])
     ensures says { λ _. ⌜ now (answer .exit) ≡ readWords (readingOf (readWard (now (file .entry)))) ⌝ }
     ensures leaves { λ _. ⌜ now (numbers .exit) ≡ numbersLeft (readingOf (readWard (now (file .entry)))) (now (numbers .entry)) ⌝ }
 {
@@ -33,7 +37,7 @@ pub extern "C" fn pantheryl_read(file: &[u8], numbers: &mut [u64; 4094], answer:
 // Writes the counted numbers as a ward file into buffer; the count says how many bytes.
 #[no_mangle]
 pub extern "C" fn pantheryl_write(
-    numbers: &[u64; 4094],
+    numbers: &[u64; NUMBERS],
     count: u64,
     buffer: &mut [u8],
     answer: &mut [u64; 6],
@@ -56,7 +60,7 @@ pub extern "C" fn pantheryl_write(
 #[no_mangle]
 pub extern "C" fn pantheryl_advance_nights(
     file: &[u8],
-    words: &mut [u32; 289],
+    words: &mut [u32; WORDS],
     k: u32,
     buffer: &mut [u32],
     answer: &mut [u64; 6],
@@ -82,11 +86,11 @@ pub extern "C" fn pantheryl_advance_nights(
 #[no_mangle]
 pub extern "C" fn pantheryl_advance_days(
     file: &[u8],
-    nights: &[u32; 48],
-    words: &mut [u32; 289],
+    nights: &[u32; NURSES],
+    words: &mut [u32; WORDS],
     k: u32,
     buffer: &mut [u32],
-    roster: &mut [u8; 1488],
+    roster: &mut [u8; LETTERS],
     answer: &mut [u64; 6],
 )
     ensures says { λ _. ⌜ now (answer .exit) ≡ advanceWords (daysFrom (now (file .entry)) (now (nights .entry)) (now (words .entry)) k (now (buffer .entry)) .0) ⌝ }

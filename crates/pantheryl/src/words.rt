@@ -1,19 +1,25 @@
 // A search record from its words, and back.
+use fields::sizes::NURSES;
+use fields::sizes::REMOVALS;
 use removals::Removal;
 use search::Record;
 ghost use mathlib.Core.Path.{_≡_};
 ghost use mathlib.Core.List.{map};
 ghost use Prim.Native.Nat.{_<_};
 ghost use lib.ListN.{getD, take, drop};
+ghost use Rattle.fields.specs.Sizes.{nursePlaces, removalPlaces};
 ghost use Rattle.numbers.specs.Range.{upFrom};
-ghost use Rattle.pantheryl.specs.Words.{flagOf, removalAt, recordOfWords, flagWord, wordsOfRecord};
+ghost use Rattle.pantheryl.specs.Words.{recordWords, flagOf, removalAt, recordOfWords, flagWord, wordsOfRecord};
 ghost use Rattle.pantheryl.specs.CodeWords.{removalWord};
 
-fn patterns_of(words: [u32; 289]) -> [u32; 48]
-    ensures { λ r. ⌜ r ≡ take 48 words ⌝ }
+// How many words a record has.
+pub const WORDS: usize = 289;
+
+fn patterns_of(words: [u32; WORDS]) -> [u32; NURSES]
+    ensures { λ r. ⌜ r ≡ take nursePlaces words ⌝ }
 {
-    let mut patterns = [0u32; 48];
-    for i in 0..48 {
+    let mut patterns = [0u32; NURSES];
+    for i in 0..NURSES {
         patterns[i] = words[i];
     }
     patterns
@@ -25,18 +31,18 @@ fn flag_of(word: u32) -> bool
     word != 0
 }
 
-fn flags_of(words: [u32; 289]) -> [bool; 48]
-    ensures { λ r. ⌜ r ≡ map flagOf (take 48 (drop 48 words)) ⌝ }
+fn flags_of(words: [u32; WORDS]) -> [bool; NURSES]
+    ensures { λ r. ⌜ r ≡ map flagOf (take nursePlaces (drop nursePlaces words)) ⌝ }
 {
-    let mut flags = [false; 48];
-    for i in 0..48 {
+    let mut flags = [false; NURSES];
+    for i in 0..NURSES {
         flags[i] = flag_of(words[48 + i]);
     }
     flags
 }
 
-fn removal_at(words: [u32; 289], j: usize) -> Removal
-    requires { ⌜ j < 64 ⌝ }
+fn removal_at(words: [u32; WORDS], j: usize) -> Removal
+    requires { ⌜ j < removalPlaces ⌝ }
     ensures { λ r. ⌜ r ≡ removalAt words j ⌝ }
 {
     Removal {
@@ -46,22 +52,22 @@ fn removal_at(words: [u32; 289], j: usize) -> Removal
     }
 }
 
-fn removals_of(words: [u32; 289]) -> [Removal; 64]
-    ensures { λ r. ⌜ r ≡ map (removalAt words) (upFrom 0 64) ⌝ }
+fn removals_of(words: [u32; WORDS]) -> [Removal; REMOVALS]
+    ensures { λ r. ⌜ r ≡ map (removalAt words) (upFrom 0 removalPlaces) ⌝ }
 {
     let mut removals = [Removal {
         nurse: 0,
         has: false,
         pattern: 0,
-    }; 64];
-    for j in 0..64 {
+    }; REMOVALS];
+    for j in 0..REMOVALS {
         let x = removal_at(words, j);
         removals[j] = x;
     }
     removals
 }
 
-pub(crate) fn record_of(words: [u32; 289]) -> Record
+pub(crate) fn record_of(words: [u32; WORDS]) -> Record
     ensures { λ r. ⌜ r ≡ recordOfWords words ⌝ }
 {
     let patterns = patterns_of(words);
@@ -96,7 +102,7 @@ fn removal_word(x: Removal, t: usize) -> u32
 
 // Word i of a record.
 fn word_of(rec: Record, i: usize) -> u32
-    requires { ⌜ i < 289 ⌝ }
+    requires { ⌜ i < recordWords ⌝ }
     ensures { λ r. ⌜ r ≡ getD (wordsOfRecord rec) i 0 ⌝ }
 {
     if i < 48 {
@@ -112,11 +118,11 @@ fn word_of(rec: Record, i: usize) -> u32
     rec.steps
 }
 
-pub(crate) fn words_of(rec: Record) -> [u32; 289]
+pub(crate) fn words_of(rec: Record) -> [u32; WORDS]
     ensures { λ r. ⌜ r ≡ wordsOfRecord rec ⌝ }
 {
-    let mut words = [0u32; 289];
-    for i in 0..289 {
+    let mut words = [0u32; WORDS];
+    for i in 0..WORDS {
         words[i] = word_of(rec, i);
     }
     words

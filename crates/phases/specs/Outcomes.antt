@@ -2,6 +2,7 @@
 use Prim.Native.Nat.{ℕ, _-_}
 use mathlib.Core.List.{List, [], _++_}
 use lib.ListN.{length, drop, replicate}
+use Rattle.fields.specs.Sizes.{letterPlaces}
 use Rattle.history.specs.Phase.{Call, Answer, refused, ended, End, End·zero, End·asked, End·none}
 use Rattle.search.specs.declared.Record.{Record as Stored}
 use Rattle.letters.specs.declared.written.Roster.{Roster}
@@ -17,7 +18,7 @@ outcomeOf End·none = None
 
 -- a roster's letters from the start, 0 after them, and their count
 unfoldable pub rosterOf : List ℕ → Roster
-rosterOf l = record { letters = l ++ replicate (1488 - length l) 0; count = length l }
+rosterOf l = record { letters = l ++ replicate (letterPlaces - length l) 0; count = length l }
 
 -- The answer and the record as the call gives them. A no gives the refusal; the record comes back as it was, and all else is 0.
 unfoldable pub advanceOf : Answer × Stored → Advance

@@ -1,4 +1,5 @@
 // Question 8: whether the day search opens on a choice of nights.
+use fields::sizes::NURSES;
 use history::Search;
 use refusals::Answer;
 use refusals::question;
@@ -14,7 +15,7 @@ ghost use Rattle.penalty.specs.Penalty.{nightPenalty};
 ghost use Rattle.phases.specs.Phases.{nightsOpen, nightOf};
 
 // Whether each night pattern is hers.
-fn nights_hers(w: &[u64], nights: &[u32; 48]) -> bool
+fn nights_hers(w: &[u64], nights: &[u32; NURSES]) -> bool
     requires { ⌜ Accepted (now w) ⌝ }
     ensures { λ r. ⌜ r ≡ all (λ i. hersOf (now (w .entry)) i (nightOf (now (nights .entry)) i)) (upFrom 0 (nurses (now (w .entry)))) ⌝ }
 {
@@ -31,19 +32,19 @@ fn nights_hers(w: &[u64], nights: &[u32; 48]) -> bool
 }
 
 // The night penalty, everyone placed.
-fn night_penalty(w: &[u64], nights: &[u32; 48]) -> u64
+fn night_penalty(w: &[u64], nights: &[u32; NURSES]) -> u64
     requires { ⌜ Accepted (now w) ⌝ }
     ensures { λ r. ⌜ r ≡ nightPenalty (now (w .entry)) (λ i. some (nightOf (now (nights .entry)) i)) ⌝ }
 {
     let patterns = *nights;
-    let placed = [true; 48];
+    let placed = [true; NURSES];
     let mut rec = Record::fresh();
     rec.patterns = patterns;
     rec.placed = placed;
     search::slots::penalty_of(w, rec, Search::Nights)
 }
 
-fn nights_open(w: &[u64], nights: &[u32; 48]) -> bool
+fn nights_open(w: &[u64], nights: &[u32; NURSES]) -> bool
     requires { ⌜ Accepted (now w) ⌝ }
     ensures { λ r. ⌜ r ≡ nightsOpen (now (w .entry)) (nightOf (now (nights .entry))) ⌝ }
 {
@@ -53,7 +54,7 @@ fn nights_open(w: &[u64], nights: &[u32; 48]) -> bool
     false
 }
 
-pub fn nights_asked(w: &[u64], nights: &[u32; 48]) -> Answer
+pub fn nights_asked(w: &[u64], nights: &[u32; NURSES]) -> Answer
     requires { ⌜ Accepted (now w) ⌝ }
     ensures { λ r. ⌜ refusalIn r ≡ unless (nightsOpen (now (w .entry)) (nightOf (now (nights .entry)))) question.nights 0 ⌝ }
 {

@@ -1,4 +1,5 @@
 // What an advance hands back.
+use fields::sizes::LETTERS;
 use letters::written::Roster;
 use refusals::Refusal;
 use search::Advanced;
@@ -33,7 +34,7 @@ pub fn no_roster() -> Roster
     ensures { λ r. ⌜ r ≡ rosterOf [] ⌝ }
 {
     Roster {
-        letters: [0; 1488],
+        letters: [0; LETTERS],
         count: 0,
     }
 }

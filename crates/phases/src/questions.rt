@@ -1,5 +1,6 @@
 // The questions that an advance asks of its steps, its record and its nurses. By night the night patterns are not looked at;
 // by day the questions are asked over those patterns.
+use fields::sizes::NURSES;
 use history::Search;
 use refusals::Answer;
 use refusals::question;
@@ -28,7 +29,7 @@ fn steps_allowed(steps: u32, k: u32) -> bool
 }
 
 // Whether p is one of nurse i's own.
-pub(crate) fn is_own(w: &[u64], nights: &[u32; 48], search: Search, i: usize, p: u32) -> bool
+pub(crate) fn is_own(w: &[u64], nights: &[u32; NURSES], search: Search, i: usize, p: u32) -> bool
     requires { ⌜ Accepted (now w) × (i < nurses (now w)) ⌝ }
     ensures { λ r. ⌜ r ≡ among (phaseOf search (now (w .entry)) (now (nights .entry)) .patterns i) p ⌝ }
 {
@@ -41,7 +42,7 @@ pub(crate) fn is_own(w: &[u64], nights: &[u32; 48], search: Search, i: usize, p:
 // Whether a slot holds one of nurse i's own, or none.
 pub(crate) fn slot_own(
     w: &[u64],
-    nights: &[u32; 48],
+    nights: &[u32; NURSES],
     search: Search,
     i: usize,
     placed: bool,
@@ -57,7 +58,12 @@ pub(crate) fn slot_own(
 }
 
 // Whether each placed nurse holds one of her own.
-pub(crate) fn slots_own(w: &[u64], nights: &[u32; 48], search: Search, rec: search::Record) -> bool
+pub(crate) fn slots_own(
+    w: &[u64],
+    nights: &[u32; NURSES],
+    search: Search,
+    rec: search::Record,
+) -> bool
     requires { ⌜ Accepted (now w) ⌝ }
     ensures { λ r. ⌜ r ≡ all (λ i. hers (phaseOf search (now (w .entry)) (now (nights .entry))) i (slotAt rec i)) (upFrom 0 (phaseOf search (now (w .entry)) (now (nights .entry)) .nurses)) ⌝ }
 {
@@ -76,7 +82,7 @@ pub(crate) fn slots_own(w: &[u64], nights: &[u32; 48], search: Search, rec: sear
 // Whether a removal names a nurse, with one of hers or with none.
 pub(crate) fn removal_names(
     w: &[u64],
-    nights: &[u32; 48],
+    nights: &[u32; NURSES],
     search: Search,
     x: removals::Removal,
 ) -> bool
@@ -97,7 +103,7 @@ pub(crate) fn removal_names(
 // Whether each removal held names a nurse, with one of hers or with none.
 pub(crate) fn removals_name(
     w: &[u64],
-    nights: &[u32; 48],
+    nights: &[u32; NURSES],
     search: Search,
     rec: search::Record,
 ) -> bool
@@ -119,7 +125,12 @@ pub(crate) fn removals_name(
 }
 
 // Each placed nurse holds one of her own, each removal held names a nurse, and unused fields are 0.
-pub(crate) fn record_sound(w: &[u64], nights: &[u32; 48], search: Search, rec: search::Record) -> bool
+pub(crate) fn record_sound(
+    w: &[u64],
+    nights: &[u32; NURSES],
+    search: Search,
+    rec: search::Record,
+) -> bool
     requires { ⌜ Accepted (now w) ⌝ }
     ensures { λ r. ⌜ r ≡ soundStored (phaseOf search (now (w .entry)) (now (nights .entry))) rec ⌝ }
 {
@@ -159,7 +170,12 @@ pub fn nights_lacking(w: &[u64]) -> Answer
 }
 
 // Question 11.
-pub fn record_asked(w: &[u64], nights: &[u32; 48], search: Search, rec: search::Record) -> Answer
+pub fn record_asked(
+    w: &[u64],
+    nights: &[u32; NURSES],
+    search: Search,
+    rec: search::Record,
+) -> Answer
     requires { ⌜ Accepted (now w) ⌝ }
     ensures { λ r. ⌜ refusalIn r ≡ unless (soundStored (phaseOf search (now (w .entry)) (now (nights .entry))) rec) question.record-sound 0 ⌝ }
 {

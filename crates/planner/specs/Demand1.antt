@@ -1,5 +1,6 @@
 -- Demand 1 in one record: for every published call and any input, a refusal comes exactly for the fault that it names, at its place, no earlier question
 -- being a no, and then all else in the result is 0 and all that was lent holds what it held. That a call otherwise answers is its contract's equation.
+use Rattle.fields.specs.Sizes.{letterPlaces, numberPlaces}
 use Rattle.refusals.specs.Refusals.{numbered, refusalIn}
 use Prim.Native.Nat.{ℕ, _≤_, _<_}
 use mathlib.Core.Path.{_≡_}
@@ -56,7 +57,7 @@ Bytes file = (i : ℕ) → getD file i 0 < 256
 abbrev pub ReadRefuses : List ℕ → Type 0
 ReadRefuses file =
     Refuses (FileFault ward file) (readingOf (readWard file)) (λ x. refusalIn (x .answer))
-    (λ q p. record { answer = No (numbered q p); ward = record { numbers = replicate 4094 0; count = 0 } }) Unit
+    (λ q p. record { answer = No (numbered q p); ward = record { numbers = replicate numberPlaces 0; count = 0 } }) Unit
 
 abbrev pub WriteRefuses : Ward → List ℕ → Type 0
 WriteRefuses w buffer =
@@ -65,7 +66,7 @@ WriteRefuses w buffer =
 
 -- a refused advance: the record as it was handed in, and all else 0
 abbrev pub refusedBy : Stored → ℕ → ℕ → Advance
-refusedBy r q p = record { after = r; penalty = 0; steps = 0; outcome = outcomes.Refused (numbered q p); roster = record { letters = replicate 1488 0; count = 0 } }
+refusedBy r q p = record { after = r; penalty = 0; steps = 0; outcome = outcomes.Refused (numbered q p); roster = record { letters = replicate letterPlaces 0; count = 0 } }
 
 abbrev pub NightsRefuse : List ℕ → Stored → ℕ → List ℕ → Type 0
 NightsRefuse file r k buffer =

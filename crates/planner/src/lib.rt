@@ -1,4 +1,5 @@
 // The published calls.
+use fields::sizes::NURSES;
 use letters::Place;
 use phases::outcomes;
 pub use phases::outcomes::Advance;
@@ -97,7 +98,7 @@ pub fn advance_nights(rec: search::Record, file: &[u8], k: u32, buffer: &mut [u3
 pub fn advance_days(
     rec: search::Record,
     file: &[u8],
-    nights: &[u32; 48],
+    nights: &[u32; NURSES],
     k: u32,
     buffer: &mut [u32],
 ) -> Advance

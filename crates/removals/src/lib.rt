@@ -1,12 +1,14 @@
 // The last TL removals: the last one first, those in use from the start.
 pub mod unused;
 
+use fields::sizes::REMOVALS;
 ghost use mathlib.Core.Path.{_≡_};
 ghost use mathlib.Core.Bool.{_&&_};
 ghost use mathlib.Core.List.{map};
 ghost use Prim.Native.Nat.{_<_, _≤_, min};
 ghost use lib.Dec.{eqb};
 ghost use lib.ListN.{take};
+ghost use Rattle.fields.specs.Sizes.{removalPlaces, tabuMost};
 ghost use Rattle.history.specs.Phase.{holds};
 ghost use Rattle.history.specs.Record.{barred};
 ghost use Rattle.removals.specs.Removals.{slot, removalOf};
@@ -34,8 +36,8 @@ fn bars(x: Removal, nurse: u32, pattern: u32) -> bool
 }
 
 // Whether one of the first `held` removals is this nurse's, of this pattern.
-pub fn barred(list: [Removal; 64], held: usize, nurse: u32, pattern: u32) -> bool
-    requires { ⌜ held ≤ 64 ⌝ }
+pub fn barred(list: [Removal; REMOVALS], held: usize, nurse: u32, pattern: u32) -> bool
+    requires { ⌜ held ≤ removalPlaces ⌝ }
     ensures { λ r. ⌜ r ≡ barred (map removalOf (take held list)) nurse pattern ⌝ }
 {
     for k in 0..held {
@@ -48,8 +50,8 @@ pub fn barred(list: [Removal; 64], held: usize, nurse: u32, pattern: u32) -> boo
 }
 
 // The removal in front of the first k; the one that stood after them is dropped.
-fn put_in_front(list: [Removal; 64], k: usize, x: Removal) -> [Removal; 64]
-    requires { ⌜ k < 64 ⌝ }
+fn put_in_front(list: [Removal; REMOVALS], k: usize, x: Removal) -> [Removal; REMOVALS]
+    requires { ⌜ k < removalPlaces ⌝ }
     ensures { λ r. ⌜ r ≡ inFront k x list ⌝ }
 {
     let mut moved = list;
@@ -64,8 +66,8 @@ fn put_in_front(list: [Removal; 64], k: usize, x: Removal) -> [Removal; 64]
 }
 
 // One removal more, after so many steps; the last `tl` are kept.
-pub fn push(list: [Removal; 64], tl: usize, steps: usize, x: Removal) -> [Removal; 64]
-    requires { ⌜ tl ≤ 64 ⌝ }
+pub fn push(list: [Removal; REMOVALS], tl: usize, steps: usize, x: Removal) -> [Removal; REMOVALS]
+    requires { ⌜ tl ≤ tabuMost ⌝ }
     ensures { λ r. ⌜ r ≡ pushed tl steps x list ⌝ }
 {
     if tl == 0 {

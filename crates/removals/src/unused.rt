@@ -1,8 +1,11 @@
 // Whether the fields of a record that are not in use are 0.
 use crate::Removal;
+use fields::sizes::NURSES;
+use fields::sizes::REMOVALS;
 ghost use mathlib.Core.Path.{_≡_};
 ghost use mathlib.Core.Bool.{cond, not, _&&_, _||_};
 ghost use lib.Dec.{eqb};
+ghost use Rattle.fields.specs.Sizes.{nursePlaces, removalPlaces};
 ghost use Rattle.numbers.specs.Range.{upFrom, all};
 ghost use Rattle.removals.specs.Removals.{slotZero, removalZero};
 
@@ -17,10 +20,10 @@ fn slot_zero(here: bool, placed: bool, pattern: u32) -> bool
 }
 
 // All 48, of whom the ward has m.
-pub fn slots_zero(placed: [bool; 48], patterns: [u32; 48], m: usize) -> bool
-    ensures { λ r. ⌜ r ≡ all (slotZero m placed patterns) (upFrom 0 48) ⌝ }
+pub fn slots_zero(placed: [bool; NURSES], patterns: [u32; NURSES], m: usize) -> bool
+    ensures { λ r. ⌜ r ≡ all (slotZero m placed patterns) (upFrom 0 nursePlaces) ⌝ }
 {
-    for i in 0..48 {
+    for i in 0..NURSES {
         if !slot_zero(i < m, placed[i], patterns[i]) {
             return false;
         }
@@ -39,10 +42,10 @@ fn removal_zero(here: bool, x: Removal) -> bool
 }
 
 // All 64, of which the first `held` are in use.
-pub fn removals_zero(list: [Removal; 64], held: usize) -> bool
-    ensures { λ r. ⌜ r ≡ all (removalZero held list) (upFrom 0 64) ⌝ }
+pub fn removals_zero(list: [Removal; REMOVALS], held: usize) -> bool
+    ensures { λ r. ⌜ r ≡ all (removalZero held list) (upFrom 0 removalPlaces) ⌝ }
 {
-    for k in 0..64 {
+    for k in 0..REMOVALS {
         let x = list[k];
         if !removal_zero(k < held, x) {
             return false;

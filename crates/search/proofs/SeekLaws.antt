@@ -9,6 +9,7 @@ use lib.Dec.{eqb}
 use lib.Pow.{pow-mono}
 use lib.ListN.{length, getD, take}
 use borrow.Author.Tests.{lt-ltb}
+use Rattle.fields.specs.Sizes.{nursePlaces, tabuMost}
 use Rattle.numbers.specs.Sum.{countTo, oneIf, Is}
 use Rattle.numbers.specs.Digits.{numberOf}
 use Rattle.numbers.proofs.SumLaws.{sum-ext}
@@ -132,7 +133,7 @@ cost-total Nights w slots = refl
 cost-total Days w slots = refl
 
 module _ (which : Search) (w : List ℕ) (r : Stored) (slots : ℕ → Slot) (cols : Columns) {m u : ℕ} (e : m ≡ nurses w)
-    (q : Is u (countTo m (λ i. not (getD (r .placed) i false))) 48) (a : Agree w r slots)
+    (q : Is u (countTo m (λ i. not (getD (r .placed) i false))) nursePlaces) (a : Agree w r slots)
     (s : (l : ℕ → Slot) → Agree w r l → Shown which w l (nurses w) cols) where
   counted : u ≡ unplacedIn w slots
   counted = q .is ∙ unplaced-is w r slots e a
@@ -194,11 +195,11 @@ view-agrees w r P e j h = rw (lt-ltb j (P .nurses) (omega arith))
 -- what is known before her list is looked at: TL, her table, and the unplaced besides her
 pub record NurseTable (which : Search) (w : List ℕ) (cols : Columns) (u : ℕ) (r : Stored) (i tl : ℕ) (t : List ℕ) (others : ℕ) : Type 0 where
   pub tabu-is : tl ≡ tabu w
-  pub tabu-most : tl ≤ 64
+  pub tabu-most : tl ≤ tabuMost
   pub small : ChunksSmall t
   pub tables : Tables which w cols i t
   pub others-are : (a : ℕ) → u ≡ a + oneIf (not (getD (r .placed) i false)) → others ≡ a
-  pub others-most : others ≤ 48
+  pub others-most : others ≤ nursePlaces
 
 pub stretch-begins : {which : Search} {w lists ends : List ℕ} {cols : Columns} {u : ℕ} {r : Stored} {i : ℕ} → NurseNeeds which w lists ends cols u r i
     → which ≡ Days → getD ends i 0 ≤ getD ends (i + 1) 0
@@ -225,14 +226,14 @@ nights-need n y d m e =
 
 -- by the nurses counted, of whom she is one
 pub nurse-needs : {which : Search} {w lists ends : List ℕ} {cols : Columns} {u : ℕ} {r : Stored} {i m : ℕ} → Accepted w → Lists which w lists ends → m ≡ nurses w
-    → Is u (countTo m (λ j. not (getD (r .placed) j false))) 48 → ((slots : ℕ → Slot) → Agree w r slots → Shows which w slots cols) → i < m
+    → Is u (countTo m (λ j. not (getD (r .placed) j false))) nursePlaces → ((slots : ℕ → Slot) → Agree w r slots → Shows which w slots cols) → i < m
     → NurseNeeds which w lists ends cols u r i
 nurse-needs {u = u} {r = r} a l e q s h =
     record {
       ward = a;
       nurse = omega (arith, e, h);
       listed = l;
-      counted = subst (λ (k : ℕ). Is u (countTo k (λ j. not (getD (r .placed) j false))) 48) e q;
+      counted = subst (λ (k : ℕ). Is u (countTo k (λ j. not (getD (r .placed) j false))) nursePlaces) e q;
       shown = s;
     }
 
@@ -318,7 +319,7 @@ module _ {which : Search} {w lists ends : List ℕ} {P : Phase} (s : Seeks which
   pub seeks-cost : (r : Stored) {pen : ℕ} → ((slots : ℕ → Slot) → Agree w r slots → pen ≡ costOf which w slots) → pen ≡ P .cost ((viewOf P r) .slots)
   seeks-cost r f = f ((viewOf P r) .slots) (view-agrees w r P (s .nurses-are)) ∙ sym (s .cost-is ((viewOf P r) .slots))
 
-  pub seeks-nurse : (r : Stored) {b : Best} {i p c : ℕ} → Accepted w → b ≡ bestOver P (viewOf P r) (P .nurses) → b ≡ Exchange i p c → i < 48
+  pub seeks-nurse : (r : Stored) {b : Best} {i p c : ℕ} → Accepted w → b ≡ bestOver P (viewOf P r) (P .nurses) → b ≡ Exchange i p c → i < nursePlaces
   seeks-nurse r {b} {i} a e q = let l : i < P .nurses = takes-nurse P r (s .ascending) e q in omega (arith, s .nurses-are, a .nurses-most)
 
   pub seeks-none : (r : Stored) {b : Best} → b ≡ bestOver P (viewOf P r) (P .nurses) → b ≡ Nothing → record { moved = false; after = r } ≡ steppedOf P r

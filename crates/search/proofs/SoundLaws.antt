@@ -8,6 +8,7 @@ use native.Mathlib.Omega.{arith}
 use lib.Dec.{ltb, eqb}
 use lib.ListN.{getD}
 use borrow.Author.Tests.{lt-ltb, le-ltb, ltb-true, ltb-false, eqb-true, eq-eqb, not-true}
+use Rattle.fields.specs.Sizes.{nursePlaces, removalPlaces}
 use Rattle.numbers.specs.Range.{upFrom, all}
 use Rattle.numbers.proofs.AllLaws.{all-each, all-if}
 use Rattle.history.specs.Slot.{Slot}
@@ -90,10 +91,10 @@ module _ (P : Phase) (r : Stored) (s : Sized r) (f : Fits P) where
   nameAll = all (namesAt P (r .removals)) (upFrom 0 (held (P .tabu) r))
 
   abbrev slotsZero : Bool
-  slotsZero = all (slotZero (P .nurses) (r .placed) (r .patterns)) (upFrom 0 48)
+  slotsZero = all (slotZero (P .nurses) (r .placed) (r .patterns)) (upFrom 0 nursePlaces)
 
   abbrev removalsZero : Bool
-  removalsZero = all (removalZero (held (P .tabu) r) (r .removals)) (upFrom 0 64)
+  removalsZero = all (removalZero (held (P .tabu) r) (r .removals)) (upFrom 0 removalPlaces)
 
   parts : soundStored P r ≡ (ownAll && (nameAll && (slotsZero && removalsZero)))
   unfolding unusedZero
@@ -107,8 +108,8 @@ module _ (P : Phase) (r : Stored) (s : Sized r) (f : Fits P) where
       let a = and-true ownAll (nameAll && (slotsZero && removalsZero)) (sym parts ∙ e) in
       let b = and-true nameAll (slotsZero && removalsZero) (a .1) in
       let c = and-true slotsZero removalsZero (b .1) in
-      let slots : (i : ℕ) → i < 48 → slotZero (P .nurses) (r .placed) (r .patterns) i ≡ true = λ i l. all-each (slotZero (P .nurses) (r .placed) (r .patterns)) 48 i (c .0) l in
-      let taken : (j : ℕ) → j < 64 → removalZero (held (P .tabu) r) (r .removals) j ≡ true = λ j l. all-each (removalZero (held (P .tabu) r) (r .removals)) 64 j (c .1) l in
+      let slots : (i : ℕ) → i < nursePlaces → slotZero (P .nurses) (r .placed) (r .patterns) i ≡ true = λ i l. all-each (slotZero (P .nurses) (r .placed) (r .patterns)) nursePlaces i (c .0) l in
+      let taken : (j : ℕ) → j < removalPlaces → removalZero (held (P .tabu) r) (r .removals) j ≡ true = λ j l. all-each (removalZero (held (P .tabu) r) (r .removals)) removalPlaces j (c .1) l in
       record {
         placed = λ i l h. own-member P i (getD (r .placed) i false) (getD (r .patterns) i 0) (all-each (λ i. hers P i (slotAt r i)) (P .nurses) i (a .0) l) h;
         unplaced = λ i l h.
@@ -123,14 +124,14 @@ module _ (P : Phase) (r : Stored) (s : Sized r) (f : Fits P) where
       }
 
   module _ (x : Sound P r) where
-    slot-of : (i : ℕ) → i < 48 → (b : Bool) → ltb i (P .nurses) ≡ b
+    slot-of : (i : ℕ) → i < nursePlaces → (b : Bool) → ltb i (P .nurses) ≡ b
         → cond b (getD (r .placed) i false || eqb (getD (r .patterns) i 0) 0) (not (getD (r .placed) i false) && eqb (getD (r .patterns) i 0) 0) ≡ true
     slot-of i l true e = unused-zero (getD (r .placed) i false) (getD (r .patterns) i 0) (x .unplaced i (ltb-true i (P .nurses) e))
     slot-of i l false e =
         let z = x .past i (ltb-false i (P .nurses) e) l in
         both-true (not (getD (r .placed) i false)) (eqb (getD (r .patterns) i 0) 0) (not-of-false (getD (r .placed) i false) (z .0)) (eq-eqb (getD (r .patterns) i 0) 0 (z .1))
 
-    removal-of : (j : ℕ) → j < 64 → (b : Bool) → ltb j (held (P .tabu) r) ≡ b
+    removal-of : (j : ℕ) → j < removalPlaces → (b : Bool) → ltb j (held (P .tabu) r) ≡ b
         → cond b (at j .has || eqb (at j .pattern) 0) (eqb (at j .nurse) 0 && (not (at j .has) && eqb (at j .pattern) 0)) ≡ true
     removal-of j l true e = unused-zero (at j .has) (at j .pattern) (x .named j (ltb-true j (held (P .tabu) r) e) .unused)
     removal-of j l false e =
@@ -144,8 +145,8 @@ module _ (P : Phase) (r : Stored) (s : Sized r) (f : Fits P) where
         (both-true nameAll (slotsZero && removalsZero)
         (all-if (namesAt P (r .removals)) (held (P .tabu) r) (λ j l. of-names P (at j) (x .named j l)))
         (both-true slotsZero removalsZero
-        (all-if (slotZero (P .nurses) (r .placed) (r .patterns)) 48 (λ i l. slot-of i l (ltb i (P .nurses)) refl))
-        (all-if (removalZero (held (P .tabu) r) (r .removals)) 64 (λ j l. removal-of j l (ltb j (held (P .tabu) r)) refl))))
+        (all-if (slotZero (P .nurses) (r .placed) (r .patterns)) nursePlaces (λ i l. slot-of i l (ltb i (P .nurses)) refl))
+        (all-if (removalZero (held (P .tabu) r) (r .removals)) removalPlaces (λ j l. removal-of j l (ltb j (held (P .tabu) r)) refl))))
 
 pub sound-when : (P : Phase) (r : Stored) → Sized r → Fits P → (soundStored P r ≡ true) ↔ Sound P r
 sound-when P r s f = (sound-of P r s f, of-sound P r s f)

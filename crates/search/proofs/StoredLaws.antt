@@ -12,6 +12,7 @@ use lib.Dec.{ltb, eqb, eqb·suc-zero}
 use lib.ListN.{length, getD, take, drop, set, replicate, length-map, length-set, length-take, length-append, length-replicate, List·getD-append}
 use lib.Seq.{ext-getD, getD-set-same, getD-set-other, getD-take, take-append-le, take-all, take-at, drop-at, length-take-le, getD-append-add, drop-append-add}
 use borrow.Author.Tests.{le-ltb, ltb-true, ltb-false, eqb-true, eqb-false, ne-eqb, not-true}
+use Rattle.fields.specs.Sizes.{nursePlaces, removalPlaces, tabuMost}
 use Rattle.numbers.specs.Range.{upFrom, all}
 use Rattle.numbers.proofs.RangeLaws.{length-range, and-parts}
 use Rattle.numbers.proofs.AllLaws.{all-each, all-if}
@@ -138,7 +139,7 @@ pub record Held (m tl : ℕ) (R : Record) : Type 0 where
 pub fresh-held : (m tl : ℕ) → Held m tl fresh
 fresh-held m tl = record { none-past = λ i l. refl; count = omega arith }
 
-pub view-held : (m tl : ℕ) (r : Stored) → Sized r → tl ≤ 64 → Held m tl (view m tl r)
+pub view-held : (m tl : ℕ) (r : Stored) → Sized r → tl ≤ tabuMost → Held m tl (view m tl r)
 unfolding view
 view-held m tl r s l =
     record {
@@ -171,30 +172,30 @@ pub store-fresh : store fresh ≡ allZero
 unfolding store upFrom
 store-fresh = refl
 
-pub store-sized : (R : Record) → length (R .removals) ≤ 64 → Sized (store R)
+pub store-sized : (R : Record) → length (R .removals) ≤ removalPlaces → Sized (store R)
 unfolding store
 store-sized R l =
     record {
-      patterns-long = length-below (λ i. patternOf (R .slots i)) 48;
-      placed-long = length-below (λ i. flagOf (R .slots i)) 48;
-      removals-long = length-padded 64 noRemoval (map storedRemoval (R .removals)) (omega (arith, length-map (R .removals) storedRemoval));
+      patterns-long = length-below (λ i. patternOf (R .slots i)) nursePlaces;
+      placed-long = length-below (λ i. flagOf (R .slots i)) nursePlaces;
+      removals-long = length-padded removalPlaces noRemoval (map storedRemoval (R .removals)) (omega (arith, length-map (R .removals) storedRemoval));
     }
 
 module _ (m tl : ℕ) (R : Record) (h : Held m tl R) where
-  pub store-slot : (i : ℕ) → i < 48 → slotAt (store R) i ≡ R .slots i
+  pub store-slot : (i : ℕ) → i < nursePlaces → slotAt (store R) i ≡ R .slots i
   unfolding store
   store-slot i l =
-      ap₂ slot (getD-below (λ j. flagOf (R .slots j)) false 48 i l) (getD-below (λ j. patternOf (R .slots j)) 0 48 i l) ∙ slot-back (R .slots i)
+      ap₂ slot (getD-below (λ j. flagOf (R .slots j)) false nursePlaces i l) (getD-below (λ j. patternOf (R .slots j)) 0 nursePlaces i l) ∙ slot-back (R .slots i)
 
-  slots-back : m ≤ 48 → (i : ℕ) (b : Bool) → ltb i m ≡ b → cond b (slotAt (store R) i) none ≡ R .slots i
+  slots-back : m ≤ nursePlaces → (i : ℕ) (b : Bool) → ltb i m ≡ b → cond b (slotAt (store R) i) none ≡ R .slots i
   slots-back n i true e = store-slot i (omega (arith, ltb-true i m e))
   slots-back n i false e = sym (h .none-past i (ltb-false i m e))
 
-  pub view-store : m ≤ 48 → view m tl (store R) ≡ R
+  pub view-store : m ≤ nursePlaces → view m tl (store R) ≡ R
   unfolding view store
   view-store n =
       record-path (fun-ext (λ i. slots-back n i (ltb i m) refl))
-      (ap (map removalOf) (take-at (map storedRemoval (R .removals)) (replicate (64 - length (map storedRemoval (R .removals))) noRemoval) (min (R .steps) tl) (length-map (R .removals) storedRemoval ∙ h .count))
+      (ap (map removalOf) (take-at (map storedRemoval (R .removals)) (replicate (removalPlaces - length (map storedRemoval (R .removals))) noRemoval) (min (R .steps) tl) (length-map (R .removals) storedRemoval ∙ h .count))
       ∙ removals-back (R .removals))
       refl
 
@@ -210,23 +211,23 @@ module _ (m tl : ℕ) (R : Record) (h : Held m tl R) where
   removal-zero (some p) = refl
 
   removal-here : (j : ℕ) (b : Bool) → ltb j (min (R .steps) tl) ≡ b
-      → (let x = getD (padded 64 noRemoval (map storedRemoval (R .removals))) j noRemoval in
+      → (let x = getD (padded removalPlaces noRemoval (map storedRemoval (R .removals))) j noRemoval in
       cond b (x .has || eqb (x .pattern) 0) (eqb (x .nurse) 0 && (not (x .has) && eqb (x .pattern) 0))) ≡ true
   removal-here j true e =
       let l : j < length (R .removals) = omega (arith, ltb-true j (min (R .steps) tl) e, h .count) in
       let d : Removal = record { nurse = 0; pattern = none } in
-      rw (padded-at 64 noRemoval (map storedRemoval (R .removals)) j (rw (length-map (R .removals) storedRemoval) l), getD-map storedRemoval d noRemoval (R .removals) j l)
+      rw (padded-at removalPlaces noRemoval (map storedRemoval (R .removals)) j (rw (length-map (R .removals) storedRemoval) l), getD-map storedRemoval d noRemoval (R .removals) j l)
       (removal-zero (getD (R .removals) j d .pattern))
   removal-here j false e =
-      rw (padded-past 64 noRemoval (map storedRemoval (R .removals)) j (rw (length-map (R .removals) storedRemoval) (omega (arith, ltb-false j (min (R .steps) tl) e, h .count))))
+      rw (padded-past removalPlaces noRemoval (map storedRemoval (R .removals)) j (rw (length-map (R .removals) storedRemoval) (omega (arith, ltb-false j (min (R .steps) tl) e, h .count))))
 
   pub unused-store : unusedZero m tl (store R) ≡ true
   unfolding unusedZero store
   unused-store =
       rw (
-        all-if (slotZero m (map (λ i. flagOf (R .slots i)) (upFrom 0 48)) (map (λ i. patternOf (R .slots i)) (upFrom 0 48))) 48
-            (λ i l. rw (getD-below (λ j. flagOf (R .slots j)) false 48 i l, getD-below (λ j. patternOf (R .slots j)) 0 48 i l) (slot-zero i (R .slots i) (ltb i m) (λ e. h .none-past i (ltb-false i m e)))),
-        all-if (removalZero (min (R .steps) tl) (padded 64 noRemoval (map storedRemoval (R .removals)))) 64 (λ j l. removal-here j (ltb j (min (R .steps) tl)) refl),
+        all-if (slotZero m (map (λ i. flagOf (R .slots i)) (upFrom 0 nursePlaces)) (map (λ i. patternOf (R .slots i)) (upFrom 0 nursePlaces))) nursePlaces
+            (λ i l. rw (getD-below (λ j. flagOf (R .slots j)) false nursePlaces i l, getD-below (λ j. patternOf (R .slots j)) 0 nursePlaces i l) (slot-zero i (R .slots i) (ltb i m) (λ e. h .none-past i (ltb-false i m e)))),
+        all-if (removalZero (min (R .steps) tl) (padded removalPlaces noRemoval (map storedRemoval (R .removals)))) removalPlaces (λ j l. removal-here j (ltb j (min (R .steps) tl)) refl),
       )
 
 -- ---- from what is stored to the record, and back: the same where the unused fields are 0
@@ -263,33 +264,33 @@ no-removal x e =
     let b = and-parts (not (x .has)) (eqb (x .pattern) 0) (a .1) in
     stored-removal-path (sym (eqb-true (x .nurse) 0 (a .0))) (sym (not-true (x .has) (b .0))) (sym (eqb-true (x .pattern) 0 (b .1)))
 
-module _ (m tl : ℕ) (r : Stored) (s : Sized r) (room : tl ≤ 64) (zero : unusedZero m tl r ≡ true) where
-  slots-zero : (i : ℕ) → i < 48 → slotZero m (r .placed) (r .patterns) i ≡ true
+module _ (m tl : ℕ) (r : Stored) (s : Sized r) (room : tl ≤ tabuMost) (zero : unusedZero m tl r ≡ true) where
+  slots-zero : (i : ℕ) → i < nursePlaces → slotZero m (r .placed) (r .patterns) i ≡ true
   unfolding unusedZero
-  slots-zero i l = all-each (slotZero m (r .placed) (r .patterns)) 48 i (and-parts _ (all (removalZero (held tl r) (r .removals)) (upFrom 0 64)) zero .0) l
+  slots-zero i l = all-each (slotZero m (r .placed) (r .patterns)) nursePlaces i (and-parts _ (all (removalZero (held tl r) (r .removals)) (upFrom 0 removalPlaces)) zero .0) l
 
-  removals-zero : (j : ℕ) → j < 64 → removalZero (held tl r) (r .removals) j ≡ true
+  removals-zero : (j : ℕ) → j < removalPlaces → removalZero (held tl r) (r .removals) j ≡ true
   unfolding unusedZero
-  removals-zero j l = all-each (removalZero (held tl r) (r .removals)) 64 j (and-parts (all (slotZero m (r .placed) (r .patterns)) (upFrom 0 48)) _ zero .1) l
+  removals-zero j l = all-each (removalZero (held tl r) (r .removals)) removalPlaces j (and-parts (all (slotZero m (r .placed) (r .patterns)) (upFrom 0 nursePlaces)) _ zero .1) l
 
   slotIn : ℕ → Slot
   slotIn i = cond (ltb i m) (slotAt r i) none
 
-  patterns-back : map (λ i. patternOf (slotIn i)) (upFrom 0 48) ≡ r .patterns
+  patterns-back : map (λ i. patternOf (slotIn i)) (upFrom 0 nursePlaces) ≡ r .patterns
   unfolding slotIn
   patterns-back =
-      ext-getD 0 (map (λ i. patternOf (slotIn i)) (upFrom 0 48)) (r .patterns) (length-below (λ i. patternOf (slotIn i)) 48 ∙ sym (s .patterns-long))
+      ext-getD 0 (map (λ i. patternOf (slotIn i)) (upFrom 0 nursePlaces)) (r .patterns) (length-below (λ i. patternOf (slotIn i)) nursePlaces ∙ sym (s .patterns-long))
       (λ i l.
-      let h : i < 48 = omega (arith, length-below (λ i. patternOf (slotIn i)) 48) in
-      getD-below (λ i. patternOf (slotIn i)) 0 48 i h ∙ same-pattern (ltb i m) (getD (r .placed) i false) (getD (r .patterns) i 0) (slots-zero i h))
+      let h : i < nursePlaces = omega (arith, length-below (λ i. patternOf (slotIn i)) nursePlaces) in
+      getD-below (λ i. patternOf (slotIn i)) 0 nursePlaces i h ∙ same-pattern (ltb i m) (getD (r .placed) i false) (getD (r .patterns) i 0) (slots-zero i h))
 
-  placed-back : map (λ i. flagOf (slotIn i)) (upFrom 0 48) ≡ r .placed
+  placed-back : map (λ i. flagOf (slotIn i)) (upFrom 0 nursePlaces) ≡ r .placed
   unfolding slotIn
   placed-back =
-      ext-getD false (map (λ i. flagOf (slotIn i)) (upFrom 0 48)) (r .placed) (length-below (λ i. flagOf (slotIn i)) 48 ∙ sym (s .placed-long))
+      ext-getD false (map (λ i. flagOf (slotIn i)) (upFrom 0 nursePlaces)) (r .placed) (length-below (λ i. flagOf (slotIn i)) nursePlaces ∙ sym (s .placed-long))
       (λ i l.
-      let h : i < 48 = omega (arith, length-below (λ i. flagOf (slotIn i)) 48) in
-      getD-below (λ i. flagOf (slotIn i)) false 48 i h ∙ same-flag (ltb i m) (getD (r .placed) i false) (getD (r .patterns) i 0) (slots-zero i h))
+      let h : i < nursePlaces = omega (arith, length-below (λ i. flagOf (slotIn i)) nursePlaces) in
+      getD-below (λ i. flagOf (slotIn i)) false nursePlaces i h ∙ same-flag (ltb i m) (getD (r .placed) i false) (getD (r .patterns) i 0) (slots-zero i h))
 
   n : ℕ
   n = held tl r
@@ -310,27 +311,27 @@ module _ (m tl : ℕ) (r : Stored) (s : Sized r) (room : tl ≤ 64) (zero : unus
       getD-map storedRemoval (removalOf noRemoval) noRemoval (map removalOf (take n (r .removals))) j (rw (length-map, k) l)
       ∙ ap storedRemoval (getD-map removalOf noRemoval (removalOf noRemoval) (take n (r .removals)) j (rw k l) ∙ ap removalOf (getD-take n (r .removals) j noRemoval l))
 
-  removal-back : (j : ℕ) → j < 64 → (b : Bool) → ltb j n ≡ b → getD (padded 64 noRemoval front) j noRemoval ≡ getD (r .removals) j noRemoval
+  removal-back : (j : ℕ) → j < removalPlaces → (b : Bool) → ltb j n ≡ b → getD (padded removalPlaces noRemoval front) j noRemoval ≡ getD (r .removals) j noRemoval
   unfolding n
   removal-back j l true e =
       let h = ltb-true j n e in
-      padded-at 64 noRemoval front j (rw front-long h) ∙ front-at j h
+      padded-at removalPlaces noRemoval front j (rw front-long h) ∙ front-at j h
       ∙ same-removal (getD (r .removals) j noRemoval) (rw e at (removals-zero j l))
   removal-back j l false e =
-      padded-past 64 noRemoval front j (rw front-long (ltb-false j n e)) ∙ no-removal (getD (r .removals) j noRemoval) (rw e at (removals-zero j l))
+      padded-past removalPlaces noRemoval front j (rw front-long (ltb-false j n e)) ∙ no-removal (getD (r .removals) j noRemoval) (rw e at (removals-zero j l))
 
-  removals-kept : padded 64 noRemoval front ≡ r .removals
+  removals-kept : padded removalPlaces noRemoval front ≡ r .removals
   unfolding n
   removals-kept =
-      let k : length (padded 64 noRemoval front) ≡ 64 = length-padded 64 noRemoval front (rw front-long (omega arith)) in
-      ext-getD noRemoval (padded 64 noRemoval front) (r .removals) (k ∙ sym (s .removals-long)) (λ j l. removal-back j (omega arith) (ltb j n) refl)
+      let k : length (padded removalPlaces noRemoval front) ≡ removalPlaces = length-padded removalPlaces noRemoval front (rw front-long (omega arith)) in
+      ext-getD noRemoval (padded removalPlaces noRemoval front) (r .removals) (k ∙ sym (s .removals-long)) (λ j l. removal-back j (omega arith) (ltb j n) refl)
 
   pub store-view : store (view m tl r) ≡ r
   unfolding store view slotIn front n
   store-view = stored-path patterns-back placed-back removals-kept refl
 
 -- a stored record is stored back exactly when its unused fields are 0
-pub stored-back : (m tl : ℕ) (r : Stored) → Sized r → m ≤ 48 → tl ≤ 64 → (store (view m tl r) ≡ r) ↔ (unusedZero m tl r ≡ true)
+pub stored-back : (m tl : ℕ) (r : Stored) → Sized r → m ≤ nursePlaces → tl ≤ tabuMost → (store (view m tl r) ≡ r) ↔ (unusedZero m tl r ≡ true)
 stored-back m tl r s n l = (
   λ e. subst (λ (x : Stored). unusedZero m tl x ≡ true) e (unused-store m tl (view m tl r) (view-held m tl r s l)),
   λ z. store-view m tl r s l z,
@@ -346,29 +347,29 @@ cond-flag : (b : Bool) (p : ℕ) (s : Slot) → cond b true (flagOf s) ≡ flagO
 cond-flag true p s = refl
 cond-flag false p s = refl
 
-module _ (m tl : ℕ) (R : Record) (h : Held m tl R) (room : tl ≤ 64) (i p : ℕ) (l : i < 48) where
+module _ (m tl : ℕ) (R : Record) (h : Held m tl R) (room : tl ≤ tabuMost) (i p : ℕ) (l : i < nursePlaces) where
   abbrev took : Step
   took = record { nurse = i; pattern = p }
 
   abbrev removal : Removal
   removal = record { nurse = suc i; pattern = R .slots i }
 
-  patterns-step : set (map (λ j. patternOf (R .slots j)) (upFrom 0 48)) i p ≡ map (λ j. patternOf (exchanged (R .slots) i p j)) (upFrom 0 48)
+  patterns-step : set (map (λ j. patternOf (R .slots j)) (upFrom 0 nursePlaces)) i p ≡ map (λ j. patternOf (exchanged (R .slots) i p j)) (upFrom 0 nursePlaces)
   patterns-step =
-      set-below (λ j. patternOf (R .slots j)) 0 48 i p l
-      ∙ ap (λ (f : ℕ → ℕ). map f (upFrom 0 48)) (fun-ext (λ j. cond-pattern (eqb j i) p (R .slots j)))
+      set-below (λ j. patternOf (R .slots j)) 0 nursePlaces i p l
+      ∙ ap (λ (f : ℕ → ℕ). map f (upFrom 0 nursePlaces)) (fun-ext (λ j. cond-pattern (eqb j i) p (R .slots j)))
 
-  placed-step : set (map (λ j. flagOf (R .slots j)) (upFrom 0 48)) i true ≡ map (λ j. flagOf (exchanged (R .slots) i p j)) (upFrom 0 48)
+  placed-step : set (map (λ j. flagOf (R .slots j)) (upFrom 0 nursePlaces)) i true ≡ map (λ j. flagOf (exchanged (R .slots) i p j)) (upFrom 0 nursePlaces)
   placed-step =
-      set-below (λ j. flagOf (R .slots j)) false 48 i true l
-      ∙ ap (λ (f : ℕ → Bool). map f (upFrom 0 48)) (fun-ext (λ j. cond-flag (eqb j i) p (R .slots j)))
+      set-below (λ j. flagOf (R .slots j)) false nursePlaces i true l
+      ∙ ap (λ (f : ℕ → Bool). map f (upFrom 0 nursePlaces)) (fun-ext (λ j. cond-flag (eqb j i) p (R .slots j)))
 
-  removals-step : pushed tl (R .steps) (removalBy (store R) i) (padded 64 noRemoval (map storedRemoval (R .removals)))
-      ≡ padded 64 noRemoval (map storedRemoval (take tl (removal ∷ R .removals)))
+  removals-step : pushed tl (R .steps) (removalBy (store R) i) (padded removalPlaces noRemoval (map storedRemoval (R .removals)))
+      ≡ padded removalPlaces noRemoval (map storedRemoval (take tl (removal ∷ R .removals)))
   removals-step =
-      ap (λ (s : Slot). pushed tl (R .steps) (storedRemoval (record { nurse = suc i; pattern = s })) (padded 64 noRemoval (map storedRemoval (R .removals)))) (store-slot m tl R h i l)
-      ∙ push-padded 64 noRemoval (storedRemoval removal) (map storedRemoval (R .removals)) (R .steps) tl (length-map (R .removals) storedRemoval ∙ h .count) room
-      ∙ ap (padded 64 noRemoval) (sym (map-take storedRemoval tl (removal ∷ R .removals)))
+      ap (λ (s : Slot). pushed tl (R .steps) (storedRemoval (record { nurse = suc i; pattern = s })) (padded removalPlaces noRemoval (map storedRemoval (R .removals)))) (store-slot m tl R h i l)
+      ∙ push-padded removalPlaces noRemoval (storedRemoval removal) (map storedRemoval (R .removals)) (R .steps) tl (length-map (R .removals) storedRemoval ∙ h .count) room
+      ∙ ap (padded removalPlaces noRemoval) (sym (map-take storedRemoval tl (removal ∷ R .removals)))
 
   pub exchanged-store : exchangedIn tl (store R) i p ≡ store (stepped tl took R)
   unfolding exchangedIn store stepped
@@ -380,16 +381,16 @@ pub record Whole (m tl : ℕ) (r : Stored) : Type 0 where
   pub sized : Sized r
   pub unused : unusedZero m tl r ≡ true
 
-pub whole-store : (m tl : ℕ) (R : Record) → Held m tl R → tl ≤ 64 → Whole m tl (store R)
+pub whole-store : (m tl : ℕ) (R : Record) → Held m tl R → tl ≤ tabuMost → Whole m tl (store R)
 whole-store m tl R h l = record { sized = store-sized R (omega (arith, h .count)); unused = unused-store m tl R h }
 
-pub fresh-whole : (m tl : ℕ) → tl ≤ 64 → Whole m tl allZero
+pub fresh-whole : (m tl : ℕ) → tl ≤ tabuMost → Whole m tl allZero
 fresh-whole m tl l = subst (Whole m tl) store-fresh (whole-store m tl fresh (fresh-held m tl) l)
 
-pub view-fresh : (m tl : ℕ) → m ≤ 48 → view m tl allZero ≡ fresh
+pub view-fresh : (m tl : ℕ) → m ≤ nursePlaces → view m tl allZero ≡ fresh
 view-fresh m tl n = ap (view m tl) (sym store-fresh) ∙ view-store m tl fresh (fresh-held m tl) n
 
-module _ (m tl : ℕ) (r : Stored) (w : Whole m tl r) (n : m ≤ 48) (room : tl ≤ 64) (i p : ℕ) (l : i < m) where
+module _ (m tl : ℕ) (r : Stored) (w : Whole m tl r) (n : m ≤ nursePlaces) (room : tl ≤ tabuMost) (i p : ℕ) (l : i < m) where
   abbrev takes : Step
   takes = record { nurse = i; pattern = p }
 

@@ -6,6 +6,7 @@ use mathlib.Core.List.{List, map}
 use native.Mathlib.Numerals.{add-one}
 use lib.ListN.{getD, take, set}
 use borrow.Author.Tests.{lt-ltb}
+use Rattle.fields.specs.Sizes.{nursePlaces, removalPlaces}
 use Rattle.numbers.specs.Range.{upFrom, all}
 use Rattle.history.specs.Phase.{holds}
 use Rattle.history.specs.Record.{barred, mayTake}
@@ -45,11 +46,11 @@ exchanged-is tl r i p e f = rw (f, e)
 
 -- ---- unused fields
 
-pub unused-both : (m tl : ℕ) (r : Stored) {k : ℕ} {a b : Bool} → k ≡ min (r .steps) tl → a ≡ all (slotZero m (r .placed) (r .patterns)) (upFrom 0 48) → a ≡ true
-    → b ≡ all (removalZero k (r .removals)) (upFrom 0 64) → b ≡ unusedZero m tl r
+pub unused-both : (m tl : ℕ) (r : Stored) {k : ℕ} {a b : Bool} → k ≡ min (r .steps) tl → a ≡ all (slotZero m (r .placed) (r .patterns)) (upFrom 0 nursePlaces) → a ≡ true
+    → b ≡ all (removalZero k (r .removals)) (upFrom 0 removalPlaces) → b ≡ unusedZero m tl r
 unfolding unusedZero
 unused-both m tl r q e t f = rw (← e, t, f, q)
 
-pub unused-slots : (m tl : ℕ) (r : Stored) {a : Bool} → a ≡ all (slotZero m (r .placed) (r .patterns)) (upFrom 0 48) → a ≡ false → a ≡ unusedZero m tl r
+pub unused-slots : (m tl : ℕ) (r : Stored) {a : Bool} → a ≡ all (slotZero m (r .placed) (r .patterns)) (upFrom 0 nursePlaces) → a ≡ false → a ≡ unusedZero m tl r
 unfolding unusedZero
 unused-slots m tl r e t = rw (← e, t)

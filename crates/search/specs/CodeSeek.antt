@@ -4,6 +4,7 @@ use mathlib.Core.Path.{_≡_}
 use mathlib.Core.Bool.{true, false, not}
 use mathlib.Core.List.{List, []}
 use lib.ListN.{length, getD, take, drop}
+use Rattle.fields.specs.Sizes.{nursePlaces, tabuMost}
 use Rattle.numbers.specs.Range.{keep, Ascending}
 use Rattle.numbers.specs.Sum.{countTo, Is}
 use Rattle.fields.specs.Fields.{Accepted, nurses, days, tabu, block}
@@ -60,7 +61,7 @@ pub record NurseNeeds (which : Search) (w lists ends : List ℕ) (cols : Columns
   pub ward : Accepted w
   pub nurse : i < nurses w
   pub listed : Lists which w lists ends
-  pub counted : Is unplaced (countTo (nurses w) (λ j. not (getD (r .placed) j false))) 48
+  pub counted : Is unplaced (countTo (nurses w) (λ j. not (getD (r .placed) j false))) nursePlaces
   pub shown : (slots : ℕ → Slot) → Agree w r slots → Shows which w slots cols
 
 -- what the loop over the common list asks: nurse i's masks and her table
@@ -71,8 +72,8 @@ pub record NightsNeeds (w list : List ℕ) (masks : Masks) (t : List ℕ) (other
   pub masked : Masked masks
   pub masks-are : masks ≡ masksOf (rulesOf w) (days w) (block w i)
   pub small : ChunksSmall t
-  pub others-most : others ≤ 48
-  pub tabu-most : tl ≤ 64
+  pub others-most : others ≤ nursePlaces
+  pub tabu-most : tl ≤ tabuMost
 
 -- a phase that the search over these lists serves
 pub record Seeks (which : Search) (w lists ends : List ℕ) (P : Phase) : Type 0 where

@@ -4,6 +4,7 @@ use mathlib.Core.Path.{_≡_}
 use mathlib.Core.Bool.{true, false}
 use mathlib.Core.List.{List·Memᴰ}
 use lib.ListN.{getD}
+use Rattle.fields.specs.Sizes.{nursePlaces, removalPlaces}
 use Rattle.history.specs.Phase.{Phase}
 use Rattle.removals.specs.Removals.{noRemoval}
 use Rattle.removals.specs.declared.Removal.{Removal as StoredRemoval}
@@ -23,7 +24,7 @@ pub record Sound (P : Phase) (r : Stored) : Type 0 where
   pub placed : (i : ℕ) → i < P .nurses → getD (r .placed) i false ≡ true → List·Memᴰ (getD (r .patterns) i 0) (P .patterns i)
   pub unplaced : (i : ℕ) → i < P .nurses → getD (r .placed) i false ≡ false → getD (r .patterns) i 0 ≡ 0
   -- past the last nurse nothing is used
-  pub past : (i : ℕ) → P .nurses ≤ i → i < 48 → (getD (r .placed) i false ≡ false) × (getD (r .patterns) i 0 ≡ 0)
+  pub past : (i : ℕ) → P .nurses ≤ i → i < nursePlaces → (getD (r .placed) i false ≡ false) × (getD (r .patterns) i 0 ≡ 0)
   -- there are as many removals as steps so far but not above TL, and all after them is 0
   pub named : (j : ℕ) → j < held (P .tabu) r → Names P (getD (r .removals) j noRemoval)
-  pub past-held : (j : ℕ) → held (P .tabu) r ≤ j → j < 64 → getD (r .removals) j noRemoval ≡ noRemoval
+  pub past-held : (j : ℕ) → held (P .tabu) r ≤ j → j < removalPlaces → getD (r .removals) j noRemoval ≡ noRemoval

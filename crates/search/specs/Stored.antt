@@ -6,6 +6,7 @@ use mathlib.Core.List.{List, _++_, map}
 use mathlib.Core.Option.{Option, none, some}
 use lib.Dec.{ltb}
 use lib.ListN.{length, getD, take, replicate}
+use Rattle.fields.specs.Sizes.{nursePlaces, removalPlaces}
 use Rattle.numbers.specs.Range.{upFrom, all}
 use Rattle.history.specs.Slot.{Slot}
 use Rattle.history.specs.Phase.{Phase, Call, Answer, refused, refusal}
@@ -44,21 +45,21 @@ padded n d xs = xs ++ replicate (n - length xs) d
 unfoldable pub store : Record → Stored
 store r =
     record {
-      patterns = map (λ i. patternOf (r .slots i)) (upFrom 0 48);
-      placed = map (λ i. flagOf (r .slots i)) (upFrom 0 48);
-      removals = padded 64 noRemoval (map storedRemoval (r .removals));
+      patterns = map (λ i. patternOf (r .slots i)) (upFrom 0 nursePlaces);
+      placed = map (λ i. flagOf (r .slots i)) (upFrom 0 nursePlaces);
+      removals = padded removalPlaces noRemoval (map storedRemoval (r .removals));
       steps = r .steps;
     }
 
 -- fresh
 abbrev pub allZero : Stored
-allZero = record { patterns = replicate 48 0; placed = replicate 48 false; removals = replicate 64 noRemoval; steps = 0 }
+allZero = record { patterns = replicate nursePlaces 0; placed = replicate nursePlaces false; removals = replicate removalPlaces noRemoval; steps = 0 }
 
 -- ---- unused fields
 
 -- is every unused field 0?
 unfoldable pub unusedZero : ℕ → ℕ → Stored → Bool
-unusedZero m tl r = all (slotZero m (r .placed) (r .patterns)) (upFrom 0 48) && all (removalZero (held tl r) (r .removals)) (upFrom 0 64)
+unusedZero m tl r = all (slotZero m (r .placed) (r .patterns)) (upFrom 0 nursePlaces) && all (removalZero (held tl r) (r .removals)) (upFrom 0 removalPlaces)
 
 -- ---- advances
 
@@ -90,6 +91,6 @@ advanceStored P c r = elim (refusalStored P c r) [ some n ↦ (refused n, r) | n
 
 -- a record's arrays, as long as they are declared
 pub record Sized (r : Stored) : Type 0 where
-  pub patterns-long : length (r .patterns) ≡ 48
-  pub placed-long : length (r .placed) ≡ 48
-  pub removals-long : length (r .removals) ≡ 64
+  pub patterns-long : length (r .patterns) ≡ nursePlaces
+  pub placed-long : length (r .placed) ≡ nursePlaces
+  pub removals-long : length (r .removals) ≡ removalPlaces

@@ -3,11 +3,14 @@ pub mod slots;
 pub mod tries;
 
 use best::Best;
+use fields::sizes::NURSES;
+use fields::sizes::REMOVALS;
 use removals::Removal;
 use tries::Stretches;
 ghost use mathlib.Core.Path.{_≡_};
 ghost use mathlib.Core.Bool.{true};
 ghost use Prim.Native.Nat.{ℕ, _+_, _<_, _≤_};
+ghost use Rattle.fields.specs.Sizes.{nursePlaces, tabuMost};
 ghost use Rattle.fields.specs.Fields.{Accepted};
 ghost use Rattle.history.specs.Phase.{Phase};
 ghost use Rattle.search.specs.CodeSeek.{Lists, Seeks, Served, ServedSound, answerOf};
@@ -18,9 +21,9 @@ ghost use Rattle.search.specs.CodeSteps.{removalBy, exchangedIn, stepped
 // Everyone's pattern or none, the last TL removals, the last one first, and all steps so far.
 // The removals in use are as many as the steps, but not above TL.
 pub struct Record {
-    pub patterns: [u32; 48],
-    pub placed: [bool; 48],
-    pub removals: [Removal; 64],
+    pub patterns: [u32; NURSES],
+    pub placed: [bool; NURSES],
+    pub removals: [Removal; REMOVALS],
     pub steps: u32,
 }
 
@@ -50,20 +53,20 @@ impl Record {
         ensures { λ r. ⌜ r ≡ allZero ⌝ }
     {
         Record {
-            patterns: [0; 48],
-            placed: [false; 48],
+            patterns: [0; NURSES],
+            placed: [false; NURSES],
             removals: [Removal {
                 nurse: 0,
                 has: false,
                 pattern: 0,
-            }; 64],
+            }; REMOVALS],
             steps: 0,
         }
     }
 
     // Whether the pattern is neither in use by the nurse nor given up by her in the last TL steps.
     pub(crate) fn may_take(self, tl: usize, nurse: usize, pattern: u32) -> bool
-        requires { ⌜ (tl ≤ 64) × (nurse < 48) ⌝ }
+        requires { ⌜ (tl ≤ tabuMost) × (nurse < nursePlaces) ⌝ }
         ensures { λ r. ⌜ ((m : ℕ) → nurse < m → r ≡ mayTake (view m tl self) nurse pattern) ⌝ }
     {
         if self.placed[nurse] {
@@ -78,7 +81,7 @@ impl Record {
 
     // What a step of the nurse takes away.
     fn removal_by(self, nurse: usize) -> Removal
-        requires { ⌜ nurse < 48 ⌝ }
+        requires { ⌜ nurse < nursePlaces ⌝ }
         ensures { λ r. ⌜ r ≡ removalBy self nurse ⌝ }
     {
         if self.placed[nurse] {
@@ -97,7 +100,7 @@ impl Record {
 
     // The record after a step that gives the nurse the pattern.
     pub(crate) fn exchanged(self, tl: usize, nurse: usize, pattern: u32) -> Record
-        requires { ⌜ (tl ≤ 64) × (nurse < 48) × (self .steps < 1000000) ⌝ }
+        requires { ⌜ (tl ≤ tabuMost) × (nurse < nursePlaces) × (self .steps < 1000000) ⌝ }
         ensures { λ r. ⌜ r ≡ exchangedIn tl self nurse pattern ⌝ }
     {
         let removal = self.removal_by(nurse);

@@ -8,6 +8,7 @@ ghost use mathlib.Core.Bool.{false, not};
 ghost use Prim.Native.Nat.{ℕ, suc, _+_, _≤_, _<_};
 ghost use lib.Dec.{eqb};
 ghost use lib.ListN.{getD};
+ghost use Rattle.fields.specs.Sizes.{nursePlaces};
 ghost use Rattle.numbers.specs.Sum.{countTo, Is};
 ghost use Rattle.numbers.specs.Digits.{numberOf};
 ghost use Rattle.fields.specs.Fields.{Accepted, Block, nurses, markOn};
@@ -82,8 +83,8 @@ pub(crate) fn columns(w: &[u64], rec: Record, search: Search) -> Columns
 
 // How many of the first m nurses are unplaced.
 pub(crate) fn unplaced(rec: Record, m: usize) -> u64
-    requires { ⌜ m ≤ 48 ⌝ }
-    ensures { λ r. ⌜ Is r (countTo m (λ i. not (getD (rec .placed) i false))) 48 ⌝ }
+    requires { ⌜ m ≤ nursePlaces ⌝ }
+    ensures { λ r. ⌜ Is r (countTo m (λ i. not (getD (rec .placed) i false))) nursePlaces ⌝ }
 {
     let mut count: u64 = 0;
     for i in 0..m {

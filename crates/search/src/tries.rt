@@ -2,6 +2,7 @@
 use crate::Record;
 use crate::slots;
 use best::Best;
+use fields::sizes::ENDS;
 use history::Search;
 use own::masks::Masks;
 use penalty::Penalty;
@@ -10,6 +11,7 @@ ghost use mathlib.Core.Path.{_≡_};
 ghost use mathlib.Core.Bool.{false, not, _&&_};
 ghost use Prim.Native.Nat.{ℕ, _+_, _*_, _≤_, _<_};
 ghost use lib.ListN.{getD};
+ghost use Rattle.fields.specs.Sizes.{nursePlaces, tabuMost};
 ghost use Rattle.numbers.specs.Sum.{oneIf};
 ghost use Rattle.fields.specs.Fields.{Accepted};
 ghost use Rattle.nights.specs.Hers.{hersOf};
@@ -24,13 +26,13 @@ ghost use Rattle.search.specs.CodeSeek.{Lists, NurseNeeds, NightsNeeds, 
 // Which search it is, and by day where each nurse's stretch of the lists ends.
 pub struct Stretches {
     pub search: Search,
-    pub ends: [usize; 49],
+    pub ends: [usize; ENDS],
 }
 
 // The best with one exchange more, which counts if the nurse may take the pattern.
 // A loop asks `improves` first: few exchanges pass that, and only for those the removals are looked through.
 fn consider(best: Best, rec: Record, tl: usize, nurse: usize, pattern: u32, cost: u64) -> Best
-    requires { ⌜ (tl ≤ 64) × (nurse < 48) ⌝ }
+    requires { ⌜ (tl ≤ tabuMost) × (nurse < nursePlaces) ⌝ }
     ensures { λ r. ⌜ ((m : ℕ) → nurse < m → r ≡ considered (mayTake (view m tl rec) nurse) (λ q. cost) nurse best pattern) ⌝ }
 {
     if !rec.may_take(tl, nurse, pattern) {
@@ -56,7 +58,7 @@ fn over_days(
     i: usize,
     held: Best,
 ) -> Best
-    requires { ⌜ ChunksSmall (now t) × (others ≤ 48) × (tl ≤ 64) × (i < 48) ⌝ }
+    requires { ⌜ ChunksSmall (now t) × (others ≤ nursePlaces) × (tl ≤ tabuMost) × (i < nursePlaces) ⌝ }
     ensures { λ r. ⌜ ((m : ℕ) (cost : ℕ → ℕ) → i < m → DayTrials (now (t .entry)) cost → r ≡ overList (mayTake (view m tl rec) i) (λ q. cost q + 10000000 * others) i held (now (part .entry))) ⌝ }
 {
     let mut best = held;
@@ -101,7 +103,7 @@ fn over_nights(
 
 // The unplaced nurses besides nurse i.
 fn others_than(rec: Record, unplaced: u64, i: usize) -> u64
-    requires { ⌜ i < 48 ⌝ }
+    requires { ⌜ i < nursePlaces ⌝ }
     ensures is { λ r. ⌜ ((a : ℕ) → unplaced ≡ a + oneIf (not (getD (rec .placed) i false)) → r ≡ a) ⌝ }
     ensures most { λ r. ⌜ r ≤ unplaced ⌝ }
 {

@@ -8,6 +8,7 @@ use borrow.Author.Tests.{le-ltb}
 use lib.Dec.{ltb}
 use lib.ListN.{length, take, drop, replicate}
 use lib.Seq.{take-at}
+use Rattle.fields.specs.Sizes.{numberPlaces}
 use Rattle.ward.specs.declared.Writing.{Writing}
 use Rattle.refusals.specs.declared.Answer.the-variants.{Yes, No}
 use Rattle.refusals.specs.declared.Refusal.{Refusal}
@@ -24,7 +25,7 @@ use Rattle.ward.proofs.RoundTrip.{ward-out, ward-back}
 
 pub counted-read : (ws : List ℕ) → counted (readingOf (good ws) .ward) ≡ ws
 unfolding counted readingOf
-counted-read ws = rw append-assoc (take-at ws (replicate (4094 - length ws) 0 ++ replicate (length ws - 4094) 0) (length ws) refl)
+counted-read ws = rw append-assoc (take-at ws (replicate (numberPlaces - length ws) 0 ++ replicate (length ws - numberPlaces) 0) (length ws) refl)
 
 no-yes : (n : Refusal) → No n ≡ Yes → ⊥
 no-yes n e = let z : _≡_ {A = ℕ} 0 1 = cc in omega arith
@@ -32,7 +33,7 @@ no-yes n e = let z : _≡_ {A = ℕ} 0 1 = cc in omega arith
 -- the numbers that are let through are those that were asked
 same-numbers : (ws vs : List ℕ) → checkWard ws ≡ good vs → vs ≡ ws
 unfolding checkWard
-same-numbers ws vs e = accepted ward 4094 0 ws vs within-ward e .same
+same-numbers ws vs e = accepted ward numberPlaces 0 ws vs within-ward e .same
 
 fits-in : (m : ℕ) (w : List ℕ) → writingOf m (good w) .answer ≡ Yes → (writingOf m (good w) .bytes ≡ length (bytesOf w)) × (ltb m (length (bytesOf w)) ≡ false)
 unfolding writingOf

@@ -3,6 +3,7 @@ use Prim.Native.Nat.{ℕ, _+_}
 use mathlib.Core.Path.{_≡_, ap, _∙_, subst}
 use mathlib.Core.List.{List}
 use native.Mathlib.Omega.{arith}
+use Rattle.fields.specs.Sizes.{numberPlaces}
 use Rattle.refusals.specs.Refusals.{numbered}
 use Rattle.codec.proofs.NumberLaws.{AllBytes}
 use Rattle.fields.specs.Fields.{Accepted}
@@ -27,7 +28,7 @@ module _ (file : List ℕ) where
 
   pub fault-file : (q p : ℕ) → FileFault ward file q p → readWard file ≡ bad (numbered q p)
   unfolding readWard
-  fault-file q p f = fault-read 4094 ward within-ward 0 file q p f ∙ let z : 0 + p ≡ p = omega arith in ap (λ (x : ℕ). bad (numbered q x)) z
+  fault-file q p f = fault-read numberPlaces ward within-ward 0 file q p f ∙ let z : 0 + p ≡ p = omega arith in ap (λ (x : ℕ). bad (numbered q x)) z
 
   pub file-good : (w : List ℕ) → AllBytes file → readWard file ≡ good w → FileGood ward file w
   unfolding readWard
@@ -35,7 +36,7 @@ module _ (file : List ℕ) where
 
   pub good-file : (w : List ℕ) → FileGood ward file w → readWard file ≡ good w
   unfolding readWard
-  good-file w g = takes-read 4094 ward within-ward 0 file w g
+  good-file w g = takes-read numberPlaces ward within-ward 0 file w g
 
 -- ---- a list of numbers
 

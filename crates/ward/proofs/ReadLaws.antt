@@ -6,6 +6,7 @@ use native.Mathlib.Numerals.{add-one}
 use native.Mathlib.Omega.{arith}
 use lib.ListN.{length, take, drop, set, replicate, length-drop, length-set, length-replicate, take-append-drop}
 use lib.Seq.{take-suc-set, drop-set-lt, drop-drop, length-take-le}
+use Rattle.fields.specs.Sizes.{numberPlaces}
 use Rattle.refusals.specs.Refusals.{numbered}
 use Rattle.refusals.specs.Questions as question
 use Rattle.layout.specs.declared.Field.{Field}
@@ -23,17 +24,17 @@ use Rattle.layout.proofs.WithinLaws.{within-ward}
 
 -- `count` numbers are read and stand at the array's front, zeros after them; the grammar g is left to read at the offset `at`
 pub record So (file numbers : List ℕ) (count at : ℕ) (g : Grammar) : Type 0 where
-  pub long : length numbers ≡ 4094
-  pub counted : count ≤ 4094
-  pub zeros : drop count numbers ≡ replicate (4094 - count) 0
-  pub room : Within (4094 - count) g
+  pub long : length numbers ≡ numberPlaces
+  pub counted : count ≤ numberPlaces
+  pub zeros : drop count numbers ≡ replicate (numberPlaces - count) 0
+  pub room : Within (numberPlaces - count) g
   pub inFile : at ≤ length file
   pub same : readWard file ≡ prepend (take count numbers) (read g at (drop at file))
 
-pub begin : (file : List ℕ) → So file (replicate 4094 0) 0 0 ward
+pub begin : (file : List ℕ) → So file (replicate numberPlaces 0) 0 0 ward
 unfolding readWard
 begin file = record {
-  long = length-replicate {A = ℕ} 4094 0;
+  long = length-replicate {A = ℕ} numberPlaces 0;
   counted = omega arith;
   zeros = refl;
   room = within-ward;
@@ -60,28 +61,28 @@ module _ (file numbers : List ℕ) (count at : ℕ) (g : Grammar) (so : So file 
       failed n = sym (ap readingOf (so .same ∙ ap (prepend (take count numbers)) (read-failed g f at (drop at file) e v used d n)))
 
       module _ (a : asked f v ≡ 0) where
-        pub space : count < 4094
-        space = let s = within-step (4094 - count) g f v (so .room) e a .0 in omega arith
+        pub space : count < numberPlaces
+        space = let s = within-step (numberPlaces - count) g f v (so .room) e a .0 in omega arith
 
         pub turn : So file (set numbers count v) (count + 1) (at + used) (after g v)
         turn = record {
           long = length-set numbers count v ∙ so .long;
           counted = omega (arith, space);
           zeros = more-zeros;
-          room = subst (λ (n : ℕ). Within n (after g v)) fewer (within-step (4094 - count) g f v (so .room) e a .1);
+          room = subst (λ (n : ℕ). Within n (after g v)) fewer (within-step (numberPlaces - count) g f v (so .room) e a .1);
           inFile = past-end;
           same = so .same ∙ ap (prepend (take count numbers)) (read-good g f at (drop at file) e v used d a) ∙ prepend-more (take count numbers) (v ∷ []) (read (after g v) (at + used) (drop used (drop at file))) ∙ onward;
         }
           where
-            fewer : 4094 - count - 1 ≡ 4094 - (count + 1)
+            fewer : numberPlaces - count - 1 ≡ numberPlaces - (count + 1)
             fewer = omega arith
 
-            more-zeros : drop (count + 1) (set numbers count v) ≡ replicate (4094 - (count + 1)) 0
+            more-zeros : drop (count + 1) (set numbers count v) ≡ replicate (numberPlaces - (count + 1)) 0
             more-zeros =
                 drop-set-lt (count + 1) numbers count v (omega arith)
                 ∙ sym (drop-drop 1 count numbers)
                 ∙ ap (drop 1) (so .zeros)
-                ∙ replicate-drop (4094 - count) (omega (arith, space))
+                ∙ replicate-drop (numberPlaces - count) (omega (arith, space))
                 ∙ ap (λ (n : ℕ). replicate n 0) fewer
 
             onward :
@@ -115,5 +116,5 @@ module _ (file numbers : List ℕ) (count at : ℕ) (g : Grammar) (so : So file 
         sized : length (take count numbers) ≡ count
         sized = length-take-le count numbers (omega (arith, so .long, so .counted))
 
-        filled : take count numbers ++ replicate (4094 - length (take count numbers)) 0 ≡ numbers
+        filled : take count numbers ++ replicate (numberPlaces - length (take count numbers)) 0 ≡ numbers
         filled = rw (sized, ← so .zeros) (take-append-drop count numbers)

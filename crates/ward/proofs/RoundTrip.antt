@@ -2,6 +2,7 @@
 use mathlib.Core.Path.{_≡_, refl, sym}
 use mathlib.Core.List.{List}
 use Prim.Native.Nat.{ℕ}
+use Rattle.fields.specs.Sizes.{numberPlaces}
 use Rattle.codec.proofs.NumberLaws.{AllBytes}
 use Rattle.layout.specs.Grammar.{good, bytesOf}
 use Rattle.layout.specs.Layout.{ward}
@@ -12,7 +13,7 @@ use Rattle.ward.specs.Answers.{readWard, checkWard}
 
 pub ward-out : (ws : List ℕ) → checkWard ws ≡ good ws → readWard (bytesOf ws) ≡ good ws
 unfolding checkWard readWard
-ward-out ws e = takes-read 4094 ward within-ward 0 (bytesOf ws) ws (record { bytes = refl; takes = check-takes ward 0 ws ws e .1 })
+ward-out ws e = takes-read numberPlaces ward within-ward 0 (bytesOf ws) ws (record { bytes = refl; takes = check-takes ward 0 ws ws e .1 })
 
 pub ward-back : (file ws : List ℕ) → AllBytes file → readWard file ≡ good ws → (bytesOf ws ≡ file) × (checkWard ws ≡ good ws)
 unfolding checkWard readWard

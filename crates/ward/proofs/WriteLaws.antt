@@ -6,6 +6,7 @@ use native.Mathlib.Numerals.{add-one}
 use native.Mathlib.Omega.{arith}
 use lib.ListN.{length, take, drop, getD, length-append, length-take, length-replicate, drop-of-length-le, List·getD-append}
 use lib.Seq.{drop-cons, take-suc, getD-take, take-all}
+use Rattle.fields.specs.Sizes.{numberPlaces}
 use Rattle.refusals.specs.declared.Refusal.{Refusal}
 use Rattle.refusals.specs.Refusals.{numbered}
 use Rattle.refusals.specs.Questions as question
@@ -26,23 +27,23 @@ use Rattle.codec.proofs.EncodeLaws.{encode-most}
 
 -- ---- the counted numbers
 
-module _ (w : Ward) (long : length (w .numbers) ≡ 4094) where
+module _ (w : Ward) (long : length (w .numbers) ≡ numberPlaces) where
   pub counted-length : length (counted w) ≡ w .count
   unfolding counted
   counted-length =
       simp (length-take, length-append, length-replicate) (omega (arith, long))
 
-  pub counted-at : (i : ℕ) → i < w .count → i < 4094 → getD (counted w) i 0 ≡ getD (w .numbers) i 0
+  pub counted-at : (i : ℕ) → i < w .count → i < numberPlaces → getD (counted w) i 0 ≡ getD (w .numbers) i 0
   unfolding counted
   counted-at i h m =
       getD-take (w .count) _ i 0 h ∙ List·getD-append (w .numbers) _ 0 i (subst (λ (n : ℕ). i < n) (sym long) m)
 
-  pub counted-next : (i : ℕ) → i < w .count → i < 4094 → drop i (counted w) ≡ getD (w .numbers) i 0 ∷ drop (i + 1) (counted w)
+  pub counted-next : (i : ℕ) → i < w .count → i < numberPlaces → drop i (counted w) ≡ getD (w .numbers) i 0 ∷ drop (i + 1) (counted w)
   counted-next i h m =
       drop-cons (counted w) i 0 (subst (λ (n : ℕ). i < n) (sym counted-length) h)
       ∙ rw (counted-at i h m, add-one i)
 
-  pub counted-front : (i : ℕ) → i < w .count → i < 4094 → take (i + 1) (counted w) ≡ take i (counted w) ++ (getD (w .numbers) i 0 ∷ [])
+  pub counted-front : (i : ℕ) → i < w .count → i < numberPlaces → take (i + 1) (counted w) ≡ take i (counted w) ++ (getD (w .numbers) i 0 ∷ [])
   counted-front i h m =
       rw (add-one i, take-suc (counted w) i 0 (subst (λ (n : ℕ). i < n) (sym counted-length) h), counted-at i h m)
 
@@ -66,15 +67,15 @@ bytes-one x = append-nil (encode x)
 -- ---- the loop
 
 pub record Walked (w : Ward) (i bytes : ℕ) (g : Grammar) : Type 0 where
-  pub long : length (w .numbers) ≡ 4094
+  pub long : length (w .numbers) ≡ numberPlaces
   pub counts : i ≤ w .count
-  pub most : i ≤ 4094
+  pub most : i ≤ numberPlaces
   pub few : bytes ≤ 7 * i
-  pub room : Within (4094 - i) g
+  pub room : Within (numberPlaces - i) g
   pub sum : bytes ≡ length (bytesOf (take i (counted w)))
   pub same : checkWard (counted w) ≡ prepend (take i (counted w)) (check g i (drop i (counted w)))
 
-pub begin : (w : Ward) → length (w .numbers) ≡ 4094 → Walked w 0 0 ward
+pub begin : (w : Ward) → length (w .numbers) ≡ numberPlaces → Walked w 0 0 ward
 unfolding checkWard bytesOf
 begin w l = record {
   long = l;
@@ -95,8 +96,8 @@ module _ (w : Ward) (i bytes : ℕ) (g : Grammar) (so : Walked w i bytes g) wher
     pub missing : w .count ≤ i → unwritten (numbered question.whole i) ≡ checkedOf (checkWard (counted w))
     missing h = ended-with (numbered question.whole i) (ap (check g i) (counted-none w (so .long) i h) ∙ check-missing g f i e)
 
-    pub room-here : i < 4094
-    room-here = let s = within-some (4094 - i) g (so .room) e in omega arith
+    pub room-here : i < numberPlaces
+    room-here = let s = within-some (numberPlaces - i) g (so .room) e in omega arith
 
     module _ (h : i < w .count) where
       pub failed :
@@ -108,7 +109,7 @@ module _ (w : Ward) (i bytes : ℕ) (g : Grammar) (so : Walked w i bytes g) wher
         pub below : getD (w .numbers) i 0 < 2 ^ 49
         below =
             let r = in-range f _ a in
-            let s : f .most < 2 ^ 49 = subst Small e (small (4094 - i) g (so .room)) in
+            let s : f .most < 2 ^ 49 = subst Small e (small (numberPlaces - i) g (so .room)) in
             omega arith
 
         pub turn : Walked w (i + 1) (bytes + length (encode (getD (w .numbers) i 0))) (after g (getD (w .numbers) i 0))
@@ -117,12 +118,12 @@ module _ (w : Ward) (i bytes : ℕ) (g : Grammar) (so : Walked w i bytes g) wher
           counts = omega arith;
           most = omega (arith, room-here);
           few = omega (arith, so .few, encode-most (getD (w .numbers) i 0));
-          room = subst (λ (n : ℕ). Within n (after g (getD (w .numbers) i 0))) fewer (within-step (4094 - i) g f _ (so .room) e a .1);
+          room = subst (λ (n : ℕ). Within n (after g (getD (w .numbers) i 0))) fewer (within-step (numberPlaces - i) g f _ (so .room) e a .1);
           sum = summed;
           same = so .same ∙ ap (prepend (take i (counted w))) (ap (check g i) (counted-next w (so .long) i h room-here) ∙ check-good g f i e _ _ a) ∙ onward;
         }
           where
-            fewer : 4094 - i - 1 ≡ 4094 - (i + 1)
+            fewer : numberPlaces - i - 1 ≡ numberPlaces - (i + 1)
             fewer = omega arith
 
             front : take (i + 1) (counted w) ≡ take i (counted w) ++ (getD (w .numbers) i 0 ∷ [])

@@ -4,6 +4,7 @@ use mathlib.Core.Bool.{cond}
 use mathlib.Core.List.{List, _++_}
 use lib.ListN.{length, take, drop, replicate}
 use lib.Dec.{ltb}
+use Rattle.fields.specs.Sizes.{numberPlaces}
 use Rattle.refusals.specs.declared.Refusal.{Refusal}
 use Rattle.refusals.specs.declared.Answer.the-variants.{Yes, No}
 use Rattle.refusals.specs.Refusals.{numbered}
@@ -15,13 +16,13 @@ use Rattle.layout.specs.Grammar.{Read, good, bad, read, check, bytesOf}
 use Rattle.layout.specs.Layout.{ward}
 
 unfoldable pub refusedOf : Refusal → Reading
-refusedOf n = record { answer = No n; ward = record { numbers = replicate 4094 0; count = 0 } }
+refusedOf n = record { answer = No n; ward = record { numbers = replicate numberPlaces 0; count = 0 } }
 
 -- the numbers in file order, 0 in the places after them
 unfoldable pub readingOf : Read → Reading
 unfolding refusedOf
 readingOf (good ws) =
-    record { answer = Yes; ward = record { numbers = ws ++ replicate (4094 - length ws) 0; count = length ws } }
+    record { answer = Yes; ward = record { numbers = ws ++ replicate (numberPlaces - length ws) 0; count = length ws } }
 readingOf (bad n) = refusedOf n
 
 unfoldable pub readWard : List ℕ → Read
@@ -32,7 +33,7 @@ readWard file = read ward 0 file
 
 -- the counted numbers, of which those past the array's end are 0
 unfoldable pub counted : Ward → List ℕ
-counted w = take (w .count) (w .numbers ++ replicate (w .count - 4094) 0)
+counted w = take (w .count) (w .numbers ++ replicate (w .count - numberPlaces) 0)
 
 unfoldable pub checkWard : List ℕ → Read
 unfolding check ward

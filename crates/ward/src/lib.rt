@@ -1,6 +1,7 @@
 // The ward file: its reader and its writer.
 
 use codec::Number;
+use fields::sizes::NUMBERS;
 use layout::Want;
 use refusals::Answer;
 use refusals::Refusal;
@@ -12,7 +13,7 @@ ghost use Rattle.ward.specs.Answers.{refusedOf, readingOf, readWard, cou
 ghost use Rattle.ward.specs.CodeChecked.{checkedOf};
 
 pub struct Ward {
-    pub numbers: [u64; 4094],
+    pub numbers: [u64; NUMBERS],
     pub count: usize,
 }
 
@@ -27,7 +28,7 @@ fn refused(question: u32, place: usize) -> Reading
     Reading {
         answer: Answer::No(Refusal { question, place }),
         ward: Ward {
-            numbers: [0; 4094],
+            numbers: [0; NUMBERS],
             count: 0,
         },
     }
@@ -37,7 +38,7 @@ fn refused(question: u32, place: usize) -> Reading
 pub fn read(file: &[u8]) -> Reading
     ensures { λ r. ⌜ r ≡ readingOf (readWard (now (file .entry))) ⌝ }
 {
-    let mut numbers = [0u64; 4094];
+    let mut numbers = [0u64; NUMBERS];
     let mut count: usize = 0;
     let mut at: usize = 0;
     let mut c = layout::start();

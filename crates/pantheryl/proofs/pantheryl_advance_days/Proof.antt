@@ -3,6 +3,7 @@ use Prim.Native.Nat.{ℕ}
 use mathlib.Core.Path.{_≡_}
 use mathlib.Core.List.{List}
 use lib.ListN.{length, length-map}
+use Rattle.fields.specs.Sizes.{letterPlaces}
 use Rattle.search.specs.declared.Record.{Record as Stored}
 use borrow.Author.Tests.{not-true, not-false}
 use Rattle.history.specs.Phase.{Answer}
@@ -26,7 +27,7 @@ outcome-words-requires c κs = search needs
 put-letters-requires : tie.Need-put-letters-requires
 put-letters-requires c κs =
     let advanced : tie.After-advance-days = search in
-    let long : length (advanced .advance-days .result .roster .letters) ≡ 1488 = simp length-map at (advanced .advance-days .ok .1 .1 .1 .1 .1 .1 .0 .1 .1 .0 .1 .0 .1) in
+    let long : length (advanced .advance-days .result .roster .letters) ≡ letterPlaces = simp length-map at (advanced .advance-days .ok .1 .1 .1 .1 .1 .1 .0 .1 .1 .0 .1 .0 .1) in
     count-fits _ (advanced .advance-days .ensures .0) long
 
 is-refused-requires : tie.Need-is-refused-requires

@@ -5,6 +5,7 @@ use mathlib.Core.Bool.{false}
 use mathlib.Core.List.{map}
 use native.Mathlib.Omega.{arith}
 use lib.ListN.{length, take}
+use Rattle.fields.specs.Sizes.{removalPlaces}
 use Rattle.history.specs.Record.{barred}
 use Rattle.removals.specs.Removals.{removalOf}
 use Rattle.removals.proofs.RemovalLaws.{barred-turn, barred-found}
@@ -32,7 +33,7 @@ bars-requires c κs = search needs
 
 returns : tie.Need-returns Inv-loop μ-loop
 returns c =
-    let long : length (c .before .before .before .before .before .args .t1) ≡ 64 = search needs in
+    let long : length (c .before .before .before .before .before .args .t1) ≡ removalPlaces = search needs in
     barred-found (c .before .before .before .before .before .args .nurse) (c .before .before .before .before .before .args .pattern) (c .before .before .before .before .before .args .t1) (c .before .before .before .before .loop .k) (c .before .before .before .before .before .args .held) _ (c .before .before .before .loop-test .taken) (omega arith) (c .before .bars .ensures) (c .if1 .taken)
 
 add-k : tie.Need-add-k Inv-loop μ-loop
@@ -43,7 +44,7 @@ loop-less c = search needs
 
 loop-again : tie.Need-loop-again Inv-loop μ-loop
 loop-again c =
-    let long : length (c .before .before .before .before .before .args .t1) ≡ 64 = search needs in
+    let long : length (c .before .before .before .before .before .args .t1) ≡ removalPlaces = search needs in
     (omega arith, barred-turn (c .before .before .before .before .before .args .nurse) (c .before .before .before .before .before .args .pattern) (c .before .before .before .before .before .args .t1) (c .before .before .before .before .loop .k) _ (omega arith) (c .before .before .before .before .loop .inv .1) (c .before .bars .ensures) (c .if1 .left))
 
 returns-2 : tie.Need-returns-2 Inv-loop μ-loop

@@ -2,6 +2,7 @@
 use mathlib.Core.Path.{_≡_, sym, _∙_, ap, subst}
 use native.Mathlib.Omega.{arith}
 use lib.ListN.{length, getD}
+use Rattle.fields.specs.Sizes.{numberPlaces}
 use Rattle.refusals.specs.Refusals.{numbered}
 use Rattle.layout.specs.declared.Want.the-variants.{Next}
 use Rattle.layout.specs.CodeWant.{wanted}
@@ -27,7 +28,7 @@ abbrev Inv-loop : tie.InvT-loop
 Inv-loop ward count i₀ bytes₀ c₀ i bytes c = Walked ward i bytes (tree c)
 
 abbrev μ-loop : tie.MeasureT-loop
-μ-loop ward count i₀ bytes₀ c₀ i bytes c = 4094 - i
+μ-loop ward count i₀ bytes₀ c₀ i bytes c = numberPlaces - i
 
 -- ---- the places of a turn, each from the next
 
@@ -62,7 +63,7 @@ at-ask c = c .before .before
 wants : (c : tie.After-f Inv-loop μ-loop) → wanted (tree (in-turn c .loop .c)) ≡ Next (c .f .given .0 .0)
 wants c = sym (at-wanted c .wanted-at .ensures) ∙ c .f .given .1
 
-space-at : (c : tie.Else2 Inv-loop μ-loop) → of-number c .loop .i < 4094
+space-at : (c : tie.Else2 Inv-loop μ-loop) → of-number c .loop .i < numberPlaces
 space-at c = room-here _ _ _ _ (of-number c .loop .inv) _ (wants (at-field c))
 
 start-requires : tie.Need-start-requires Inv-loop μ-loop
@@ -70,11 +71,11 @@ start-requires c κs = search needs
 
 loop-holds : tie.Need-loop-holds Inv-loop μ-loop
 loop-holds c =
-    let l : length (c .before .args .t1 .numbers) ≡ 4094 = search needs in
+    let l : length (c .before .args .t1 .numbers) ≡ numberPlaces = search needs in
     subst (Walked _ 0 0) (sym (c .start .ensures)) (begin _ l)
 
 wanted-at-requires : tie.Need-wanted-at-requires Inv-loop μ-loop
-wanted-at-requires c κs = small (4094 - c .loop .i) (tree (c .loop .c)) (c .loop .inv .room)
+wanted-at-requires c κs = small (numberPlaces - c .loop .i) (tree (c .loop .c)) (c .loop .inv .room)
 
 enum-told : tie.Need-enum-told Inv-loop μ-loop
 enum-told c = search needs

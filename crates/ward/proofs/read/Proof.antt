@@ -4,6 +4,7 @@ use Prim.Native.Nat.{_-_, _<_}
 use native.Mathlib.Omega.{arith}
 use borrow.Author.Needs.{needs}
 use lib.ListN.{length, drop}
+use Rattle.fields.specs.Sizes.{numberPlaces}
 use Rattle.refusals.specs.Refusals.{numbered}
 use Rattle.codec.specs.declared.Number.the-variants.{Value}
 use Rattle.codec.specs.Groups.{decode}
@@ -78,7 +79,7 @@ loop-holds : tie.Need-loop-holds Inv-loop μ-loop
 loop-holds c = subst (So _ _ 0 0) (sym (c .start .ensures)) (begin _)
 
 wanted-at-requires : tie.Need-wanted-at-requires Inv-loop μ-loop
-wanted-at-requires c κs = small (4094 - c .loop .count) (tree (c .loop .c)) (c .loop .inv .room)
+wanted-at-requires c κs = small (numberPlaces - c .loop .count) (tree (c .loop .c)) (c .loop .inv .room)
 
 enum-told : tie.Need-enum-told Inv-loop μ-loop
 enum-told c = search needs
@@ -148,7 +149,7 @@ returns-5 c =
 
 -- the number is stored, and the offset moves past it
 
-space-at : (c : tie.After-ask Inv-loop μ-loop) → c .ask .result ≡ 0 → of-value (at-value c) .loop .count < 4094
+space-at : (c : tie.After-ask Inv-loop μ-loop) → c .ask .result ≡ 0 → of-value (at-value c) .loop .count < numberPlaces
 space-at c none =
     let value = at-value c in
     space _ _ _ _ _ (of-value value .loop .inv) _ (value-wanted value) _ _ (stands value) (sym (c .ask .ensures) ∙ none)

@@ -4,6 +4,7 @@ use mathlib.Core.Path.{_≡_, _∙_}
 use native.Mathlib.Omega.{arith}
 use borrow.Author.Needs.{needs}
 use lib.ListN.{length}
+use Rattle.fields.specs.Sizes.{numberPlaces}
 use Rattle.ward.proofs.BufLaws.{Wrote, begin, refused, short, number-small, number-fits, turn, whole}
 use Rattle.ward.proofs.write.Statement.{statement}
 use Rattle.ward.proofs.write.Tie as tie
@@ -54,7 +55,7 @@ loop-holds : tie.Need-loop-holds Inv-loop μ-loop
 loop-holds c =
     let told = c .before in
     let asked = at-questions told in
-    let l : length (at-start asked .args .t1 .numbers) ≡ 4094 = search needs in
+    let l : length (at-start asked .args .t1 .numbers) ≡ numberPlaces = search needs in
     begin _ _ _ l (asked .questions .ensures) (told .enum-told2 .given .1) (c .if1 .left)
 
 mul-v : tie.Need-mul-v Inv-loop μ-loop

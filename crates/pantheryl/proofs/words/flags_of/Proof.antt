@@ -4,6 +4,7 @@ use mathlib.Core.Bool.{false}
 use mathlib.Core.List.{map}
 use native.Mathlib.Omega.{arith}
 use lib.ListN.{take, drop}
+use Rattle.fields.specs.Sizes.{nursePlaces}
 use Rattle.pantheryl.specs.Words.{flagOf}
 use Rattle.pantheryl.proofs.CopyLaws.{Copied, copied-start, copied-turn, copied-end}
 use Rattle.pantheryl.proofs.WordLaws.{flags-long, flag-read}
@@ -12,10 +13,10 @@ use Rattle.pantheryl.proofs.words.flags_of.Statement.{statement}
 use Rattle.pantheryl.proofs.words.flags_of.Tie as tie
 
 abbrev Inv-loop : tie.InvT-loop
-Inv-loop words flags₀ i₀ flags i = Copied flags₀ (map flagOf (take 48 (drop 48 words))) 48 flags i
+Inv-loop words flags₀ i₀ flags i = Copied flags₀ (map flagOf (take nursePlaces (drop nursePlaces words))) nursePlaces flags i
 
 abbrev μ-loop : tie.MeasureT-loop
-μ-loop words flags₀ i₀ flags i = 48 - i
+μ-loop words flags₀ i₀ flags i = nursePlaces - i
 
 loop-holds : tie.Need-loop-holds Inv-loop μ-loop
 loop-holds c = let l = flags-long (c .args .t1) (search needs) in copied-start _ _ _ (search needs) (omega arith)

@@ -2,6 +2,7 @@
 use Prim.Native.Nat.{_-_}
 use native.Mathlib.Omega.{arith}
 use lib.ListN.{take}
+use Rattle.fields.specs.Sizes.{nursePlaces}
 use Rattle.pantheryl.proofs.CopyLaws.{Copied, copied-start, copied-turn, copied-end}
 use Rattle.pantheryl.proofs.WordLaws.{patterns-long, pattern-read}
 use borrow.Author.Needs.{needs}
@@ -9,10 +10,10 @@ use Rattle.pantheryl.proofs.words.patterns_of.Statement.{statement}
 use Rattle.pantheryl.proofs.words.patterns_of.Tie as tie
 
 abbrev Inv-loop : tie.InvT-loop
-Inv-loop words patterns₀ i₀ patterns i = Copied patterns₀ (take 48 words) 48 patterns i
+Inv-loop words patterns₀ i₀ patterns i = Copied patterns₀ (take nursePlaces words) nursePlaces patterns i
 
 abbrev μ-loop : tie.MeasureT-loop
-μ-loop words patterns₀ i₀ patterns i = 48 - i
+μ-loop words patterns₀ i₀ patterns i = nursePlaces - i
 
 loop-holds : tie.Need-loop-holds Inv-loop μ-loop
 loop-holds c = let l = patterns-long (c .args .t1) (search needs) in copied-start _ _ _ (search needs) (omega arith)

@@ -2,6 +2,7 @@
 use Prim.Native.Nat.{_-_}
 use mathlib.Core.List.{map}
 use native.Mathlib.Omega.{arith}
+use Rattle.fields.specs.Sizes.{removalPlaces}
 use Rattle.numbers.specs.Range.{upFrom}
 use Rattle.pantheryl.specs.Words.{removalAt}
 use Rattle.pantheryl.proofs.CopyLaws.{Copied, copied-start, copied-turn, copied-end}
@@ -11,10 +12,10 @@ use Rattle.pantheryl.proofs.words.removals_of.Statement.{statement}
 use Rattle.pantheryl.proofs.words.removals_of.Tie as tie
 
 abbrev Inv-loop : tie.InvT-loop
-Inv-loop words removals₀ j₀ removals j = Copied removals₀ (map (removalAt words) (upFrom 0 64)) 64 removals j
+Inv-loop words removals₀ j₀ removals j = Copied removals₀ (map (removalAt words) (upFrom 0 removalPlaces)) removalPlaces removals j
 
 abbrev μ-loop : tie.MeasureT-loop
-μ-loop words removals₀ j₀ removals j = 64 - j
+μ-loop words removals₀ j₀ removals j = removalPlaces - j
 
 loop-holds : tie.Need-loop-holds Inv-loop μ-loop
 loop-holds c = let l = removals-long (c .args .words) (search needs) in copied-start _ _ _ (search needs) (omega arith)

@@ -3,7 +3,7 @@ use Prim.Native.Nat.{_-_}
 use native.Mathlib.Omega.{arith}
 use lib.ListN.{length-map}
 use Rattle.search.specs.Stored.{Sized}
-use Rattle.pantheryl.specs.Words.{wordsOfRecord}
+use Rattle.pantheryl.specs.Words.{recordWords, wordsOfRecord}
 use Rattle.pantheryl.proofs.CopyLaws.{Copied, copied-start, copied-turn, copied-end}
 use Rattle.pantheryl.proofs.WordLaws.{words-long}
 use borrow.Author.Needs.{needs}
@@ -11,10 +11,10 @@ use Rattle.pantheryl.proofs.words.words_of.Statement.{statement}
 use Rattle.pantheryl.proofs.words.words_of.Tie as tie
 
 abbrev Inv-loop : tie.InvT-loop
-Inv-loop rec words₀ i₀ words i = Copied words₀ (wordsOfRecord rec) 289 words i
+Inv-loop rec words₀ i₀ words i = Copied words₀ (wordsOfRecord rec) recordWords words i
 
 abbrev μ-loop : tie.MeasureT-loop
-μ-loop rec words₀ i₀ words i = 289 - i
+μ-loop rec words₀ i₀ words i = recordWords - i
 
 sized : (c : tie.Start Inv-loop μ-loop) → Sized (c .args .rec)
 sized c = record { patterns-long = search needs; placed-long = search needs; removals-long = simp length-map at (c .good .0 .1 .1 .1 .1 .0 .1 .0 .1) }

@@ -4,6 +4,7 @@ use mathlib.Core.Path.{_≡_, sym, _∙_}
 use mathlib.Core.Bool.{true}
 use borrow.Author.Tests.{not-true, not-false}
 use native.Mathlib.Omega.{arith}
+use Rattle.fields.specs.Sizes.{removalPlaces}
 use Rattle.numbers.specs.Range.{upFrom, all}
 use Rattle.numbers.proofs.AllLaws.{all-none, all-turn, all-stop}
 use Rattle.removals.specs.Removals.{removalZero}
@@ -12,10 +13,10 @@ use Rattle.removals.proofs.unused.removals_zero.Statement.{statement}
 use Rattle.removals.proofs.unused.removals_zero.Tie as tie
 
 abbrev Inv-loop : tie.InvT-loop
-Inv-loop held list k₀ k = (k ≤ 64) × (all (removalZero held list) (upFrom 0 k) ≡ true)
+Inv-loop held list k₀ k = (k ≤ removalPlaces) × (all (removalZero held list) (upFrom 0 k) ≡ true)
 
 abbrev μ-loop : tie.MeasureT-loop
-μ-loop held list k₀ k = 64 - k
+μ-loop held list k₀ k = removalPlaces - k
 
 loop-holds : tie.Need-loop-holds Inv-loop μ-loop
 loop-holds c = (search needs, all-none _)
@@ -30,7 +31,7 @@ removal-zero-requires : tie.Need-removal-zero-requires Inv-loop μ-loop
 removal-zero-requires c κs = search needs
 
 returns : tie.Need-returns Inv-loop μ-loop
-returns c = sym (all-stop (removalZero (c .before .before .before .before .before .args .held) (c .before .before .before .before .before .args .t1)) 64 (c .before .before .before .before .loop .k) (c .before .before .before .loop-test .taken) (sym (c .before .removal-zero .ensures) ∙ not-true _ (c .if1 .taken)))
+returns c = sym (all-stop (removalZero (c .before .before .before .before .before .args .held) (c .before .before .before .before .before .args .t1)) removalPlaces (c .before .before .before .before .loop .k) (c .before .before .before .loop-test .taken) (sym (c .before .removal-zero .ensures) ∙ not-true _ (c .if1 .taken)))
 
 add-k : tie.Need-add-k Inv-loop μ-loop
 add-k c = search needs
@@ -43,7 +44,7 @@ loop-again c = (search needs, all-turn (removalZero (c .before .before .before .
 
 returns-2 : tie.Need-returns-2 Inv-loop μ-loop
 returns-2 c =
-    let e : c .before .loop .k ≡ 64 = omega arith in
+    let e : c .before .loop .k ≡ removalPlaces = omega arith in
     rw (← e) (sym (c .before .loop .inv .1))
 
 pub removals-zero-spec : {M : Type 1} → statement M

@@ -4,6 +4,7 @@ use mathlib.Core.Path.{_≡_, sym, _∙_}
 use mathlib.Core.Bool.{true}
 use borrow.Author.Tests.{not-true, not-false}
 use native.Mathlib.Omega.{arith}
+use Rattle.fields.specs.Sizes.{nursePlaces}
 use Rattle.numbers.specs.Range.{upFrom, all}
 use Rattle.numbers.proofs.AllLaws.{all-none, all-turn, all-stop}
 use Rattle.removals.specs.Removals.{slotZero}
@@ -12,10 +13,10 @@ use Rattle.removals.proofs.unused.slots_zero.Statement.{statement}
 use Rattle.removals.proofs.unused.slots_zero.Tie as tie
 
 abbrev Inv-loop : tie.InvT-loop
-Inv-loop m placed patterns i₀ i = (i ≤ 48) × (all (slotZero m placed patterns) (upFrom 0 i) ≡ true)
+Inv-loop m placed patterns i₀ i = (i ≤ nursePlaces) × (all (slotZero m placed patterns) (upFrom 0 i) ≡ true)
 
 abbrev μ-loop : tie.MeasureT-loop
-μ-loop m placed patterns i₀ i = 48 - i
+μ-loop m placed patterns i₀ i = nursePlaces - i
 
 loop-holds : tie.Need-loop-holds Inv-loop μ-loop
 loop-holds c = (search needs, all-none _)
@@ -33,7 +34,7 @@ slot-zero-requires : tie.Need-slot-zero-requires Inv-loop μ-loop
 slot-zero-requires c κs = search needs
 
 returns : tie.Need-returns Inv-loop μ-loop
-returns c = sym (all-stop (slotZero (c .before .before .before .before .args .m) (c .before .before .before .before .args .t1) (c .before .before .before .before .args .t2)) 48 (c .before .before .before .loop .i) (c .before .before .loop-test .taken) (sym (c .before .slot-zero .ensures) ∙ not-true _ (c .if1 .taken)))
+returns c = sym (all-stop (slotZero (c .before .before .before .before .args .m) (c .before .before .before .before .args .t1) (c .before .before .before .before .args .t2)) nursePlaces (c .before .before .before .loop .i) (c .before .before .loop-test .taken) (sym (c .before .slot-zero .ensures) ∙ not-true _ (c .if1 .taken)))
 
 add-i : tie.Need-add-i Inv-loop μ-loop
 add-i c = search needs
@@ -46,7 +47,7 @@ loop-again c = (search needs, all-turn (slotZero (c .before .before .before .bef
 
 returns-2 : tie.Need-returns-2 Inv-loop μ-loop
 returns-2 c =
-    let e : c .before .loop .i ≡ 48 = omega arith in
+    let e : c .before .loop .i ≡ nursePlaces = omega arith in
     rw (← e) (sym (c .before .loop .inv .1))
 
 pub slots-zero-spec : {M : Type 1} → statement M

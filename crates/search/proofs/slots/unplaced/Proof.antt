@@ -5,6 +5,7 @@ use mathlib.Core.Bool.{false, not}
 use mathlib.Core.Path.{refl}
 use native.Mathlib.Omega.{arith}
 use lib.ListN.{getD}
+use Rattle.fields.specs.Sizes.{nursePlaces}
 use Rattle.numbers.specs.Sum.{sumTo, oneIf, Is}
 use Rattle.numbers.proofs.SumLaws.{loop-start, loop-turn, loop-end0}
 use Rattle.search.proofs.slots.unplaced.Statement.{statement}
@@ -45,7 +46,7 @@ loop-again c = let loop = c .before .before .before in
 returns : tie.Need-returns Inv-loop μ-loop
 returns c = let loop = c .before in
     let a = loop .before .args in
-    loop-end0 1 (λ j. oneIf (not (getD (a .t1 .placed) j false))) (a .m) 48 (loop .loop .inv .1) (omega arith) (omega arith)
+    loop-end0 1 (λ j. oneIf (not (getD (a .t1 .placed) j false))) (a .m) nursePlaces (loop .loop .inv .1) (omega arith) (omega arith)
 
 pub unplaced-spec : {M : Type 1} → statement M
 unplaced-spec =

@@ -1,0 +1,26 @@
+-- How many a ward's arrays hold, each said once here and once in src/sizes.rt.
+use Prim.Native.Nat.{ℕ}
+
+-- the nurses of a ward at most
+abbrev pub nursePlaces : ℕ
+nursePlaces = 48
+
+-- the days of a month at most
+abbrev pub dayPlaces : ℕ
+dayPlaces = 31
+
+-- TL at most
+abbrev pub tabuMost : ℕ
+tabuMost = 64
+
+-- the removals that a record keeps
+abbrev pub removalPlaces : ℕ
+removalPlaces = 64
+
+-- the numbers of a ward at most
+abbrev pub numberPlaces : ℕ
+numberPlaces = 4094
+
+-- the letters of a roster at most: those of 48 nurses and 31 days
+abbrev pub letterPlaces : ℕ
+letterPlaces = 1488

@@ -1,0 +1,14 @@
+// How many a ward's arrays hold, each said once here and once in specs/Sizes.antt.
+
+// The nurses of a ward at most.
+pub const NURSES: usize = 48;
+// The days of a month at most.
+pub const DAYS: usize = 31;
+// The removals that a record keeps.
+pub const REMOVALS: usize = 64;
+// The numbers of a ward at most.
+pub const NUMBERS: usize = 4094;
+// The letters of a roster at most: those of 48 nurses and 31 days.
+pub const LETTERS: usize = 1488;
+// Where the lists of the nurses end, and where the first begins.
+pub const ENDS: usize = 49;
