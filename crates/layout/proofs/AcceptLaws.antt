@@ -4,7 +4,7 @@ use mathlib.Core.Path.{_≡_, refl, ap, _∙_}
 use mathlib.Core.List.{List, [], _∷_}
 use native.Mathlib.Omega.{arith}
 use lib.ListN.{length, getD}
-use Rattle.layout.specs.Grammar.{Grammar, done, number, asked, Read, good, bad, prepend, unless, check}
+use Rattle.layout.specs.Grammar.{Grammar, done, number, failedBy, Read, good, bad, prepend, onPass, check}
 use Rattle.layout.specs.CodeWant.{Within}
 use Rattle.layout.proofs.GrammarLaws.{in-range}
 
@@ -19,7 +19,7 @@ small-at (w ∷ ws) zero h l = h .0
 small-at (w ∷ ws) (suc i) h l = small-at ws i (h .1) (omega arith)
 
 -- what a number's questions let through
-pub let-through : (q at v : ℕ) (r : Read) (vs : List ℕ) → unless q at (prepend (v ∷ []) r) ≡ good vs → (q ≡ 0) × ((us : List ℕ) × (r ≡ good us) × (vs ≡ v ∷ us))
+pub let-through : (q at v : ℕ) (r : Read) (vs : List ℕ) → onPass q at (prepend (v ∷ []) r) ≡ good vs → (q ≡ 0) × ((us : List ℕ) × (r ≡ good us) × (vs ≡ v ∷ us))
 let-through zero at v (good us) vs e = (refl, (us, refl, (cc)))
 let-through zero at v (bad n) vs e = let z : _≡_ {A = ℕ} 0 1 = cc in absurd (omega arith)
 let-through (suc q) at v r vs e = let z : _≡_ {A = ℕ} 0 1 = cc in absurd (omega arith)
@@ -36,7 +36,7 @@ accepted done n i (w ∷ ws) vs h e = let z : _≡_ {A = ℕ} 0 1 = cc in absurd
 accepted (number f k) n i [] vs h e = let z : _≡_ {A = ℕ} 0 1 = cc in absurd (omega arith)
 accepted (number f k) zero i (w ∷ ws) vs h e = absurd h
 accepted (number f k) (suc n) i (w ∷ ws) vs h e =
-    let t = let-through (asked f w) i w (check (k w) (i + 1) ws) vs e in
+    let t = let-through (failedBy f w) i w (check (k w) (i + 1) ws) vs e in
     let r = in-range f w (t .0) in
     let a = accepted (k w) n (i + 1) ws (t .1 .0) (h .1 w (r .0) (r .1)) (t .1 .1) in
     record {

@@ -5,7 +5,7 @@ use mathlib.Core.List.{List, [], _∷_}
 use native.Mathlib.Omega.{arith}
 use lib.ListN.{length, getD, drop}
 use Rattle.layout.specs.declared.Field.{Field}
-use Rattle.layout.specs.Grammar.{Grammar, done, number, asked, good, check}
+use Rattle.layout.specs.Grammar.{Grammar, done, number, failedBy, good, check}
 use Rattle.layout.specs.Layout.{range, one, pair, repeat, duties, bounds, day, group, mark, nurse}
 use Rattle.layout.proofs.GrammarLaws.{in-range}
 use Rattle.layout.proofs.AcceptLaws.{let-through}
@@ -40,7 +40,7 @@ reached g zero i ws vs Q q e = (i, record { here = g; holds = q; inside = omega 
 reached done (suc j) i ws vs Q q e = absurd q
 reached (number f k) (suc j) i [] vs Q q e = let z : _≡_ {A = ℕ} 0 1 = cc in absurd (omega arith)
 reached (number f k) (suc j) i (w ∷ ws) vs Q q e =
-    let t = let-through (asked f w) i w (check (k w) (i + 1) ws) vs e in
+    let t = let-through (failedBy f w) i w (check (k w) (i + 1) ws) vs e in
     let r = in-range f w (t .0) in
     let a = reached (k w) j (i + 1) ws (t .1 .0) Q (q w (r .0) (r .1)) (t .1 .1) in
     (a .0, record { here = a .1 .here; holds = a .1 .holds; inside = omega (arith, a .1 .inside); rest = a .1 .rest; left = a .1 .left })
@@ -53,7 +53,7 @@ first-of (number f k) P i j ws vs p e = go (drop j ws) e
     go : (us : List ℕ) → check (number f k) i us ≡ good vs → P (getD us 0 0)
     go [] e′ = let z : _≡_ {A = ℕ} 0 1 = cc in absurd (omega arith)
     go (u ∷ us) e′ =
-        let t = let-through (asked f u) i u (check (k u) (i + 1) us) vs e′ in
+        let t = let-through (failedBy f u) i u (check (k u) (i + 1) us) vs e′ in
         let r = in-range f u (t .0) in
         p u (r .0) (r .1)
 
@@ -78,7 +78,7 @@ both-of (number f k) P i j ws vs p e = go (drop j ws) e
     go : (us : List ℕ) → check (number f k) i us ≡ good vs → P (getD us 0 0) (getD us 1 0)
     go [] e′ = let z : _≡_ {A = ℕ} 0 1 = cc in absurd (omega arith)
     go (u ∷ us) e′ =
-        let t = let-through (asked f u) i u (check (k u) (i + 1) us) vs e′ in
+        let t = let-through (failedBy f u) i u (check (k u) (i + 1) us) vs e′ in
         let r = in-range f u (t .0) in
         first-of (k u) (P u) (i + 1) 0 us (t .1 .0) (p u (r .0) (r .1)) (t .1 .1)
 

@@ -1,4 +1,4 @@
--- What `asked` says of a number, in the words of specs/Faults.
+-- What `failedBy` says of a number, in the words of specs/Faults.
 use Prim.Native.Nat.{ℕ, suc}
 use mathlib.Core.Path.{_≡_, refl, sym, _∙_, subst}
 use mathlib.Core.Logic.{_↔_, inl, inr}
@@ -9,7 +9,7 @@ use lib.Dec.{ltb, eqb}
 use Rattle.layout.specs.declared.Rule.{Rule}
 use Rattle.layout.specs.declared.Rule.the-variants.{Any, After}
 use Rattle.layout.specs.declared.Field.{Field}
-use Rattle.layout.specs.Grammar.{asked, fits}
+use Rattle.layout.specs.Grammar.{failedBy, fits}
 use Rattle.layout.specs.Faults.{InRange, FitsBefore, NumberFault, out-of-range, unfit}
 use Rattle.layout.proofs.GrammarLaws.{in-range}
 
@@ -33,12 +33,12 @@ before-fits (After d) v h = go (eqb d 2) (eqb v 3) refl refl
     go false true p q = absurd (eqb-false d 2 p (h .1 (eqb-true v 3 q)))
     go false false p q = refl
 
--- a number in its range is asked only what its rule asks
-in-its-range : (f : Field) (v : ℕ) → InRange f v → asked f v ≡ cond (fits (f .rule) v) 0 4
-unfolding asked
+-- a number in its range is failedBy only what its rule asks
+in-its-range : (f : Field) (v : ℕ) → InRange f v → failedBy f v ≡ cond (fits (f .rule) v) 0 4
+unfolding failedBy
 in-its-range f v r = simp (le-ltb v (f .least) (r .0), le-ltb (f .most) v (r .1))
 
-pub asked-none : (f : Field) (v : ℕ) → asked f v ≡ 0 → InRange f v × FitsBefore (f .rule) v
+pub asked-none : (f : Field) (v : ℕ) → failedBy f v ≡ 0 → InRange f v × FitsBefore (f .rule) v
 asked-none f v e =
     let r = in-range f v e in
     (r, fits-before (f .rule) v (go (fits (f .rule) v) (sym (in-its-range f v r) ∙ e)))
@@ -47,11 +47,11 @@ asked-none f v e =
     go true h = refl
     go false h = absurd (omega arith)
 
-pub none-asked : (f : Field) (v : ℕ) → InRange f v → FitsBefore (f .rule) v → asked f v ≡ 0
+pub none-asked : (f : Field) (v : ℕ) → InRange f v → FitsBefore (f .rule) v → failedBy f v ≡ 0
 none-asked f v r h = in-its-range f v r ∙ simp (before-fits (f .rule) v h)
 
-pub asked-fault : (f : Field) (v q : ℕ) → asked f v ≡ suc q → NumberFault f v (suc q)
-unfolding asked
+pub asked-fault : (f : Field) (v q : ℕ) → failedBy f v ≡ suc q → NumberFault f v (suc q)
+unfolding failedBy
 asked-fault f v q e = go (ltb v (f .least)) (ltb (f .most) v) (fits (f .rule) v) refl refl refl e
   where
     go : (a b c : Bool) → ltb v (f .least) ≡ a → ltb (f .most) v ≡ b → fits (f .rule) v ≡ c
@@ -63,8 +63,8 @@ asked-fault f v q e = go (ltb v (f .least)) (ltb (f .most) v) (fits (f .rule) v)
         subst (NumberFault f v) h
         (unfit (ltb-false _ _ p, ltb-false _ _ r) (λ t. let z : _≡_ {A = ℕ} 0 1 = let y : false ≡ true = sym s ∙ before-fits (f .rule) v t in cc in absurd (omega arith)))
 
-pub fault-asked : (f : Field) (v q : ℕ) → NumberFault f v q → asked f v ≡ q
-unfolding asked
+pub fault-asked : (f : Field) (v q : ℕ) → NumberFault f v q → failedBy f v ≡ q
+unfolding failedBy
 fault-asked f v q (out-of-range (inl h)) = simp (lt-ltb v (f .least) h)
 fault-asked f v q (out-of-range (inr h)) = simp (lt-ltb (f .most) v h) (same (ltb v (f .least)))
   where

@@ -13,12 +13,12 @@ use Rattle.codec.specs.declared.Number.{Number}
 use Rattle.codec.specs.declared.Number.the-variants.{Value, Ended, Long}
 use Rattle.layout.specs.declared.Want.the-variants.{Next, Nothing}
 use Rattle.codec.specs.Groups.{decode, decodeGroups, final, under}
-use Rattle.layout.specs.Grammar.{Grammar, done, number, asked, fits, Read, good, bad, prepend, unless, heard, read, check}
+use Rattle.layout.specs.Grammar.{Grammar, done, number, failedBy, fits, Read, good, bad, prepend, onPass, onNumber, read, check}
 use Rattle.layout.specs.CodeWant.{wanted, after, Within, Small}
 
--- a number that is asked nothing more is in its range
-pub in-range : (f : Field) (v : ℕ) → asked f v ≡ 0 → (f .least ≤ v) × (v ≤ f .most)
-unfolding asked
+-- a number that is failedBy nothing more is in its range
+pub in-range : (f : Field) (v : ℕ) → failedBy f v ≡ 0 → (f .least ≤ v) × (v ≤ f .most)
+unfolding failedBy
 in-range f v e = go (ltb v (f .least)) (ltb (f .most) v) refl refl e
   where
     go : (a b : Bool) → ltb v (f .least) ≡ a → ltb (f .most) v ≡ b → cond {A = ℕ} a 3 (cond b 3 (cond (fits (f .rule) v) 0 4)) ≡ 0 → (f .least ≤ v) × (v ≤ f .most)
@@ -46,7 +46,7 @@ within-some (suc n) (number f′ k) w e = omega arith
 
 -- there is room for the number, and for the rest after it
 pub within-step :
-    (n : ℕ) (g : Grammar) (f : Field) (v : ℕ) → Within n g → wanted g ≡ Next f → asked f v ≡ 0 →
+    (n : ℕ) (g : Grammar) (f : Field) (v : ℕ) → Within n g → wanted g ≡ Next f → failedBy f v ≡ 0 →
     (0 < n) × (Within (n - 1) (after g v))
 within-step n g f v h e a = go n (subst (Within n) (is-number g e) h)
   where
@@ -65,17 +65,17 @@ pub prepend-more : (us vs : List ℕ) (r : Read) → prepend us (prepend vs r) �
 prepend-more us vs (good ws) = ap good (sym (append-assoc us vs ws))
 prepend-more us vs (bad n) = refl
 
-unless-no : (q at : ℕ) (r : Read) → (q ≡ 0 → ⊥) → unless q at r ≡ bad (numbered q at)
+unless-no : (q at : ℕ) (r : Read) → (q ≡ 0 → ⊥) → onPass q at r ≡ bad (numbered q at)
 unless-no zero at r h = absurd (h refl)
 unless-no (suc q) at r h = refl
 
 module _ (g : Grammar) (f : Field) (at : ℕ) (bs : List ℕ) (e : wanted g ≡ Next f) where
-  next : read g at bs ≡ heard f at (decode bs) (λ v used. prepend (v ∷ []) (read (after g v) (at + used) (drop used bs)))
+  next : read g at bs ≡ onNumber f at (decode bs) (λ v used. prepend (v ∷ []) (read (after g v) (at + used) (drop used bs)))
   unfolding read
   next = ap (λ (x : Grammar). read x at bs) (is-number g e)
 
   pub read-good :
-      (v used : ℕ) → decode bs ≡ Value v used → asked f v ≡ 0 →
+      (v used : ℕ) → decode bs ≡ Value v used → failedBy f v ≡ 0 →
       read g at bs ≡ prepend (v ∷ []) (read (after g v) (at + used) (drop used bs))
   read-good v used d a = next ∙ simp (d, a)
 
@@ -85,8 +85,8 @@ module _ (g : Grammar) (f : Field) (at : ℕ) (bs : List ℕ) (e : wanted g ≡ 
   pub read-long : decode bs ≡ Long → read g at bs ≡ bad (numbered 2 at)
   read-long d = next ∙ simp d
 
-  pub read-failed : (v used : ℕ) → decode bs ≡ Value v used → (asked f v ≡ 0 → ⊥) → read g at bs ≡ bad (numbered (asked f v) at)
-  read-failed v used d a = next ∙ simp d (unless-no (asked f v) at _ a)
+  pub read-failed : (v used : ℕ) → decode bs ≡ Value v used → (failedBy f v ≡ 0 → ⊥) → read g at bs ≡ bad (numbered (failedBy f v) at)
+  read-failed v used d a = next ∙ simp d (unless-no (failedBy f v) at _ a)
 
 pub read-over : (g : Grammar) (at : ℕ) (bs : List ℕ) → wanted g ≡ Nothing → length bs ≤ 0 → read g at bs ≡ good []
 unfolding read
@@ -129,13 +129,13 @@ inside bs v used d = subst (Inside bs) d (inside-groups 6 0 bs)
 
 module _ (g : Grammar) (f : Field) (i : ℕ) (e : wanted g ≡ Next f) where
   pub check-good :
-      (v : ℕ) (vs : List ℕ) → asked f v ≡ 0 → check g i (v ∷ vs) ≡ prepend (v ∷ []) (check (after g v) (i + 1) vs)
+      (v : ℕ) (vs : List ℕ) → failedBy f v ≡ 0 → check g i (v ∷ vs) ≡ prepend (v ∷ []) (check (after g v) (i + 1) vs)
   unfolding check
   check-good v vs a = ap (λ (x : Grammar). check x i (v ∷ vs)) (is-number g e) ∙ simp a
 
-  pub check-failed : (v : ℕ) (vs : List ℕ) → (asked f v ≡ 0 → ⊥) → check g i (v ∷ vs) ≡ bad (numbered (asked f v) i)
+  pub check-failed : (v : ℕ) (vs : List ℕ) → (failedBy f v ≡ 0 → ⊥) → check g i (v ∷ vs) ≡ bad (numbered (failedBy f v) i)
   unfolding check
-  check-failed v vs a = ap (λ (x : Grammar). check x i (v ∷ vs)) (is-number g e) ∙ unless-no (asked f v) i _ a
+  check-failed v vs a = ap (λ (x : Grammar). check x i (v ∷ vs)) (is-number g e) ∙ unless-no (failedBy f v) i _ a
 
   pub check-missing : check g i [] ≡ bad (numbered 1 i)
   unfolding check

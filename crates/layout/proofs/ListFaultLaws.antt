@@ -8,7 +8,7 @@ use lib.ListN.{length}
 use Rattle.refusals.specs.declared.Refusal.{Refusal}
 use Rattle.refusals.specs.Refusals.{numbered}
 use Rattle.layout.specs.declared.Field.{Field}
-use Rattle.layout.specs.Grammar.{Grammar, done, number, asked, Read, good, bad, prepend, unless, check}
+use Rattle.layout.specs.Grammar.{Grammar, done, number, failedBy, Read, good, bad, prepend, onPass, check}
 use Rattle.layout.specs.Faults.{InRange, FitsBefore, Takes, none-yet, one-more, NumbersFault, missing, wrong-number, more-numbers, ListFault}
 use Rattle.layout.proofs.GrammarLaws.{prepend-nil, prepend-more, check-good, check-failed}
 use Rattle.layout.proofs.AcceptLaws.{let-through}
@@ -22,12 +22,12 @@ check-takes done i [] vs e = (cc, none-yet)
 check-takes done i (w ∷ ws) vs e = let z : _≡_ {A = ℕ} 0 1 = cc in absurd (omega arith)
 check-takes (number f k) i [] vs e = let z : _≡_ {A = ℕ} 0 1 = cc in absurd (omega arith)
 check-takes (number f k) i (w ∷ ws) vs e =
-    let t = let-through (asked f w) i w (check (k w) (i + 1) ws) vs e in
+    let t = let-through (failedBy f w) i w (check (k w) (i + 1) ws) vs e in
     let a = asked-none f w (t .0) in
     let r = check-takes (k w) (i + 1) ws (t .1 .0) (t .1 .1) in
     (t .1 .2 ∙ ap (λ (l : List ℕ). w ∷ l) (r .0), one-more (a .0) (a .1) (r .1))
 
--- after numbers that the layout takes, what is left of it is asked of the rest
+-- after numbers that the layout takes, what is left of it is failedBy of the rest
 check-on : (i : ℕ) (rest : List ℕ) {g : Grammar} {vs : List ℕ} {left : Grammar} → Takes g vs left → check g i (vs ++ rest) ≡ prepend vs (check left (i + length vs) rest)
 check-on i rest (none-yet {left}) = prepend-nil (check left i rest) ∙ ap (λ (n : ℕ). prepend [] (check left n rest)) (omega arith)
 check-on i rest (one-more {f} {k} {v} {vs} {left} r h t) =
@@ -43,7 +43,7 @@ takes-check g i ws t = rw append-nil at (check-on i [] t)
 -- ---- what it refuses
 
 -- how a list comes to be refused: by its first number, or by the numbers after it
-refused : (a at v : ℕ) (r : Read) (q x : ℕ) → unless a at (prepend (v ∷ []) r) ≡ bad (numbered q x) → ((a ≡ 0) × (r ≡ bad (numbered q x))) ⊎ ((p : ℕ) × (a ≡ suc p) × (bad (numbered (suc p) at) ≡ bad (numbered q x)))
+refused : (a at v : ℕ) (r : Read) (q x : ℕ) → onPass a at (prepend (v ∷ []) r) ≡ bad (numbered q x) → ((a ≡ 0) × (r ≡ bad (numbered q x))) ⊎ ((p : ℕ) × (a ≡ suc p) × (bad (numbered (suc p) at) ≡ bad (numbered q x)))
 refused zero at v (good us) q x e = let z : _≡_ {A = ℕ} 0 1 = cc in absurd (omega arith)
 refused zero at v (bad n) q x e = inl (refl, e)
 refused (suc p) at v r q x e = inr (p, refl, e)
@@ -82,9 +82,9 @@ unfolding check
 check-fault done i [] q x e = let z : _≡_ {A = ℕ} 0 1 = cc in absurd (omega arith)
 check-fault done i (w ∷ ws) q x e = here i x e (more-numbers (λ n. let z : _≡_ {A = ℕ} 0 1 = cc in absurd (omega arith)))
 check-fault (number f k) i [] q x e = here i x e missing
-check-fault (number f k) i (w ∷ ws) q x e = go (refused (asked f w) i w (check (k w) (i + 1) ws) q x e) (check-fault (k w) (i + 1) ws q x)
+check-fault (number f k) i (w ∷ ws) q x e = go (refused (failedBy f w) i w (check (k w) (i + 1) ws) q x e) (check-fault (k w) (i + 1) ws q x)
   where
-    go : ((asked f w ≡ 0) × (check (k w) (i + 1) ws ≡ bad (numbered q x))) ⊎ ((p : ℕ) × (asked f w ≡ suc p) × (bad (numbered (suc p) i) ≡ bad (numbered q x)))
+    go : ((failedBy f w ≡ 0) × (check (k w) (i + 1) ws ≡ bad (numbered q x))) ⊎ ((p : ℕ) × (failedBy f w ≡ suc p) × (bad (numbered (suc p) i) ≡ bad (numbered q x)))
         → (check (k w) (i + 1) ws ≡ bad (numbered q x) → (p : ℕ) × (x ≡ i + 1 + p) × ListFault (k w) ws q p)
         → (p : ℕ) × (x ≡ i + p) × ListFault (number f k) (w ∷ ws) q p
     go (inl t) on = let a = asked-none f w (t .0) in later i x (a .0) (a .1) (on (t .1))

@@ -10,7 +10,7 @@ use lib.ListN.{length, replicate, length-append}
 use lib.Dec.{ltb}
 use Rattle.codec.specs.Groups.{encode}
 use Rattle.codec.proofs.EncodeLaws.{encode-last, encode-most}
-use Rattle.layout.specs.Grammar.{Grammar, done, asked, good, check, bytesOf}
+use Rattle.layout.specs.Grammar.{Grammar, done, failedBy, good, check, bytesOf}
 use Rattle.layout.specs.Layout.{ward}
 use Rattle.layout.specs.Faults.{Takes, none-yet, one-more}
 use Rattle.layout.proofs.ListFaultLaws.{check-takes}
@@ -52,7 +52,7 @@ largest =
     ∷ (replicate 2016 0 ++ (replicate 16 (2 ^ 48 - 1) ++ replicate 2046 0))
 
 largest-checked : check ward 0 largest ≡ good largest
-unfolding check asked ward
+unfolding check failedBy ward
 largest-checked = refl
 
 largest-long : length (bytesOf largest) ≡ 4190

@@ -12,7 +12,7 @@ use Rattle.codec.specs.Groups.{encode, decode}
 use Rattle.codec.proofs.NumberLaws.{AllBytes, all-drop, number-read}
 use Rattle.codec.proofs.BytesLaws.{cut-off-when, too-long-when, stands-value, value-stands, value-used}
 use Rattle.layout.specs.declared.Field.{Field}
-use Rattle.layout.specs.Grammar.{Grammar, done, number, asked, Read, good, bad, prepend, unless, heard, read, bytesOf}
+use Rattle.layout.specs.Grammar.{Grammar, done, number, failedBy, Read, good, bad, prepend, onPass, onNumber, read, bytesOf}
 use Rattle.layout.specs.CodeWant.{Within}
 use Rattle.layout.specs.Faults.{Takes, none-yet, one-more, BytesFault, cut-off, too-long, more-bytes, FileFault, FileGood}
 use Rattle.layout.proofs.GrammarLaws.{prepend-nil, prepend-more, read-good, read-ended, read-long, read-failed}
@@ -30,8 +30,8 @@ unfolding bytesOf
 here {g} {bs} at h = (0, omega arith, record { taken = []; left = g; rest = bs; bytes = refl; place = refl; takes = none-yet; fault = h })
 
 module _ (f : Field) (k : ℕ → Grammar) (at : ℕ) (bs : List ℕ) (a : AllBytes bs) where
-  value-told : (v used : ℕ) → decode bs ≡ Value v used → (q : ℕ) → asked f v ≡ q → (r : Read) → Told (k v) (at + used) (drop used bs) r
-      → Told (number f k) at bs (unless q at (prepend (v ∷ []) r))
+  value-told : (v used : ℕ) → decode bs ≡ Value v used → (q : ℕ) → failedBy f v ≡ q → (r : Read) → Told (k v) (at + used) (drop used bs) r
+      → Told (number f k) at bs (onPass q at (prepend (v ∷ []) r))
   unfolding bytesOf
   value-told v used d zero e (good ws) t =
       let o = asked-none f v e in
@@ -59,8 +59,8 @@ module _ (f : Field) (k : ℕ → Grammar) (at : ℕ) (bs : List ℕ) (a : AllBy
   value-told v used d (suc q) e r t = here at (BytesFault.wrong-number (value-stands bs v used a d) (asked-fault f v q e))
 
   number-told : (n : Number) → decode bs ≡ n → ((v used : ℕ) → Told (k v) (at + used) (drop used bs) (read (k v) (at + used) (drop used bs)))
-      → Told (number f k) at bs (heard f at n (λ v used. prepend (v ∷ []) (read (k v) (at + used) (drop used bs))))
-  number-told (Value v used) d on = value-told v used d (asked f v) refl (read (k v) (at + used) (drop used bs)) (on v used)
+      → Told (number f k) at bs (onNumber f at n (λ v used. prepend (v ∷ []) (read (k v) (at + used) (drop used bs))))
+  number-told (Value v used) d on = value-told v used d (failedBy f v) refl (read (k v) (at + used) (drop used bs)) (on v used)
   number-told Ended d on = here at (cut-off (cut-off-when bs .0 d))
   number-told Long d on = here at (too-long (too-long-when bs .0 d))
 

@@ -2,7 +2,7 @@
 use refusals::question;
 ghost use mathlib.Core.Path.{_≡_};
 ghost use Prim.Native.Nat.{_-_, _^_, _<_};
-ghost use Rattle.layout.specs.Grammar.{asked};
+ghost use Rattle.layout.specs.Grammar.{failedBy};
 ghost use Rattle.layout.specs.CodeWant.{wanted, after, Small};
 ghost use Rattle.layout.specs.Layout;
 ghost use Rattle.layout.specs.CodePlace.{tree, moved, innerLeft, outerLeft, turn};
@@ -79,7 +79,7 @@ pub struct Cursor {
 
 // 0, or the first question of 3 and 4 that v fails.
 pub fn ask(f: Field, v: u64) -> u32
-    ensures { λ r. ⌜ r ≡ asked f v ⌝ }
+    ensures { λ r. ⌜ r ≡ failedBy f v ⌝ }
 {
     if v < f.least {
         return question::RANGE;

@@ -9,7 +9,7 @@ use Rattle.numbers.specs.Range.{upFrom, keep, all}
 use Rattle.numbers.specs.Sum.{sumTo}
 use Rattle.numbers.specs.Digits.{numberOf}
 use Rattle.codec.specs.Groups.{encode, decode}
-use Rattle.layout.specs.Grammar.{good, bad, read, check, asked, bytesOf}
+use Rattle.layout.specs.Grammar.{good, bad, read, check, failedBy, bytesOf}
 use Rattle.ward.specs.Answers.{readWard, checkWard}
 use Rattle.fields.specs.Fields.{blockAt, block, groupsAt, memberSets, needsAt, needs}
 use Rattle.fields.specs.Worked.{worked, second}
@@ -74,7 +74,7 @@ pub record WorkedThrough : Type 0 where
   -- by night: from 20,000,001, nurse 1 takes 1, 10,000,000; nurse 2 takes 0, and the penalty is 0
   pub night-first : next (nightPhase worked) [] ≡ some (did 0 1)
   pub night-second : next (nightPhase worked) (did 0 1 ∷ []) ≡ some (did 1 0)
-  -- no step asked, one, too many asked, no room for the common list, as many as there are, and zero as before
+  -- no step failedBy, one, too many failedBy, no room for the common list, as many as there are, and zero as before
   pub night-answers : answers (nightPhase worked) (call 0 4 ∷ call 1 4 ∷ call 10001 4 ∷ call 1 3 ∷ call 5 4 ∷ call 5 4 ∷ [])
       ≡ ended End·asked 0 20000001 [] ∷ ended End·asked 1 10000000 [] ∷ refuses 7 0 ∷ refuses 9 0 ∷ ended End·zero 1 0 [] ∷ ended End·zero 0 0 [] ∷ []
   pub night-steps : history (nightPhase worked) (call 1000 16384 ∷ []) ≡ did 1 0 ∷ did 0 1 ∷ []
@@ -100,7 +100,7 @@ pub record WorkedThrough : Type 0 where
   pub row-unfollowed : checkSays worked (78 ∷ 110 ∷ 43 ∷ 45 ∷ 45 ∷ 47 ∷ []) ≡ Broken
 
 pub worked-through : WorkedThrough
-unfolding worked encode decode read check asked bytesOf readWard checkWard nightPhase dayPhase nightsOpen commonFits listsFit firstOver upTo answers history advance reply extend run refusal given next penalty allowed advanceOver advanceStored refusalStored replyStored soundStored unusedZero view store recordOf proceed replyOf best total mayTake stepped sound common nightList hers inCommon starts follow shifted through lastRun marksAllow sumTo numberOf keep all upFrom blockAt block groupsAt memberSets needsAt needs rowState availableOn dutyOn onDuty members shortOn overOn unplacedIn nightParts nightPenalty dayParts dayPenalty dayList dayRule choice rowDuty same anyOf freeOf windowsHold rests letters rowLettersOf letter isLetter firstBad misplaced checkLetters checkOver holds rowsHold rowHolds lettersIn sameRow daysHold dayHolds dutyHolds groupHolds lettered
+unfolding worked encode decode read check failedBy bytesOf readWard checkWard nightPhase dayPhase nightsOpen commonFits listsFit firstOver upTo answers history advance reply extend run refusal given next penalty allowed advanceOver advanceStored refusalStored replyStored soundStored unusedZero view store recordOf proceed replyOf best total mayTake stepped sound common nightList hers inCommon starts follow shifted through lastRun marksAllow sumTo numberOf keep all upFrom blockAt block groupsAt memberSets needsAt needs rowState availableOn dutyOn onDuty members shortOn overOn unplacedIn nightParts nightPenalty dayParts dayPenalty dayList dayRule choice rowDuty same anyOf freeOf windowsHold rests letters rowLettersOf letter isLetter firstBad misplaced checkLetters checkOver holds rowsHold rowHolds lettersIn sameRow daysHold dayHolds dutyHolds groupHolds lettered
 worked-through = record {
   file-read = refl;
   numbers-checked = refl;
@@ -158,7 +158,7 @@ pub record SecondWorked : Type 0 where
   pub all-nights : nightPenalty second (λ i. some 63) ≡ 64
   pub no-days : dayPenalty second (λ i. some 0) ≡ 16
   pub all-days : dayPenalty second (λ i. some 63) ≡ 4
-  -- by night: step by step to zero; then too many asked, no room for the common list, and zero as before
+  -- by night: step by step to zero; then too many failedBy, no room for the common list, and zero as before
   pub night-answers : answers (nightPhase second) (call 0 14 ∷ ones 9 14 ++ (call 10001 14 ∷ call 1 13 ∷ call 1 14 ∷ []))
       ≡ ended End·asked 0 30000005 [] ∷ after 20000000 ∷ after 10000000 ∷ after 5 ∷ after 5 ∷ after 5 ∷ after 8 ∷ after 11 ∷ after 3
       ∷ ended End·zero 1 0 [] ∷ refuses 7 0 ∷ refuses 9 0 ∷ ended End·zero 0 0 [] ∷ []
@@ -207,7 +207,7 @@ pub record SecondWorked : Type 0 where
   pub above-high : checkSays second (set (set secondRoster 14 47) 16 45) ≡ Broken
 
 pub second-worked : SecondWorked
-unfolding second encode decode read check asked bytesOf readWard checkWard nightPhase dayPhase nightsOpen commonFits listsFit firstOver upTo answers history advance reply extend run refusal given next penalty allowed advanceOver advanceStored refusalStored replyStored soundStored unusedZero view store recordOf proceed replyOf best total mayTake stepped sound common nightList hers inCommon starts follow shifted through lastRun marksAllow sumTo numberOf keep all upFrom blockAt block groupsAt memberSets needsAt needs rowState availableOn dutyOn onDuty members shortOn overOn unplacedIn nightParts nightPenalty dayParts dayPenalty dayList dayRule choice rowDuty same anyOf freeOf windowsHold rests letters rowLettersOf letter isLetter firstBad misplaced checkLetters checkOver holds rowsHold rowHolds lettersIn sameRow daysHold dayHolds dutyHolds groupHolds lettered
+unfolding second encode decode read check failedBy bytesOf readWard checkWard nightPhase dayPhase nightsOpen commonFits listsFit firstOver upTo answers history advance reply extend run refusal given next penalty allowed advanceOver advanceStored refusalStored replyStored soundStored unusedZero view store recordOf proceed replyOf best total mayTake stepped sound common nightList hers inCommon starts follow shifted through lastRun marksAllow sumTo numberOf keep all upFrom blockAt block groupsAt memberSets needsAt needs rowState availableOn dutyOn onDuty members shortOn overOn unplacedIn nightParts nightPenalty dayParts dayPenalty dayList dayRule choice rowDuty same anyOf freeOf windowsHold rests letters rowLettersOf letter isLetter firstBad misplaced checkLetters checkOver holds rowsHold rowHolds lettersIn sameRow daysHold dayHolds dutyHolds groupHolds lettered
 second-worked = record {
   file-read = refl;
   written-back = refl;

@@ -11,7 +11,7 @@ use lib.Seq.{length-take-le, getD-take, getD-drop}
 use lib.Pow.{pow-pos}
 use Rattle.layout.specs.declared.Head.{Head}
 use Rattle.layout.specs.declared.Field.{Field}
-use Rattle.layout.specs.Grammar.{Grammar, done, number, asked, good, check}
+use Rattle.layout.specs.Grammar.{Grammar, done, number, failedBy, good, check}
 use Rattle.layout.specs.Layout.{range, one, repeat, day, days, group, groups, nurse, nurses, weights, limits, gaps, rules, sizes, ward}
 use Rattle.ward.specs.Answers.{checkWard}
 use Rattle.fields.specs.Fields as fields
@@ -112,10 +112,10 @@ module _ (h : Head) where
 
 number-in :
     (f : Field) (k : ℕ → Grammar) (i w : ℕ) (ws vs : List ℕ) → check (number f k) i (w ∷ ws) ≡ good vs →
-    (us : List ℕ) × (asked f w ≡ 0) × (check (k w) (i + 1) ws ≡ good us)
+    (us : List ℕ) × (failedBy f w ≡ 0) × (check (k w) (i + 1) ws ≡ good us)
 unfolding check
 number-in f k i w ws vs e =
-    let t = let-through (asked f w) i w (check (k w) (i + 1) ws) vs e in
+    let t = let-through (failedBy f w) i w (check (k w) (i + 1) ws) vs e in
     (t .1 .0, t .0, t .1 .1)
 
 none-in : (f : Field) (k : ℕ → Grammar) (i : ℕ) (vs : List ℕ) → check (number f k) i [] ≡ good vs → ⊥

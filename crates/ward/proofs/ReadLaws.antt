@@ -15,7 +15,7 @@ use Rattle.codec.specs.declared.Number.the-variants.{Value, Ended, Long}
 use Rattle.layout.specs.declared.Want.the-variants.{Next, Nothing}
 use Rattle.ward.specs.declared.Reading.{Reading}
 use Rattle.codec.specs.Groups.{decode}
-use Rattle.layout.specs.Grammar.{Grammar, asked, good, prepend, read}
+use Rattle.layout.specs.Grammar.{Grammar, failedBy, good, prepend, read}
 use Rattle.layout.specs.CodeWant.{wanted, after, Within}
 use Rattle.layout.specs.Layout.{ward}
 use Rattle.ward.specs.Answers.{readWard, readingOf, refusedOf}
@@ -56,11 +56,11 @@ module _ (file numbers : List ℕ) (count at : ℕ) (g : Grammar) (so : So file 
       pub moves : 0 < used
       moves = inside (drop at file) v used d .0
 
-      pub failed : (asked f v ≡ 0 → ⊥) → refusedOf (numbered (asked f v) at) ≡ readingOf (readWard file)
+      pub failed : (failedBy f v ≡ 0 → ⊥) → refusedOf (numbered (failedBy f v) at) ≡ readingOf (readWard file)
       unfolding readingOf
       failed n = sym (ap readingOf (so .same ∙ ap (prepend (take count numbers)) (read-failed g f at (drop at file) e v used d n)))
 
-      module _ (a : asked f v ≡ 0) where
+      module _ (a : failedBy f v ≡ 0) where
         pub space : count < numberPlaces
         space = let s = within-step (numberPlaces - count) g f v (so .room) e a .0 in omega arith
 

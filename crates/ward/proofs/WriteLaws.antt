@@ -16,7 +16,7 @@ use Rattle.ward.specs.declared.Writing.{Writing}
 use Rattle.refusals.specs.declared.Answer.the-variants.{Yes}
 use Rattle.layout.specs.declared.Want.the-variants.{Next, Nothing}
 use Rattle.codec.specs.Groups.{encode}
-use Rattle.layout.specs.Grammar.{Grammar, asked, good, bad, prepend, check, bytesOf}
+use Rattle.layout.specs.Grammar.{Grammar, failedBy, good, bad, prepend, check, bytesOf}
 use Rattle.layout.specs.CodeWant.{wanted, after, Within, Small}
 use Rattle.layout.specs.Layout.{ward}
 use Rattle.ward.specs.Answers.{counted, checkWard, unwritten}
@@ -101,11 +101,11 @@ module _ (w : Ward) (i bytes : ℕ) (g : Grammar) (so : Walked w i bytes g) wher
 
     module _ (h : i < w .count) where
       pub failed :
-          (asked f (getD (w .numbers) i 0) ≡ 0 → ⊥) →
-          unwritten (numbered (asked f (getD (w .numbers) i 0)) i) ≡ checkedOf (checkWard (counted w))
-      failed n = ended-with (numbered (asked f (getD (w .numbers) i 0)) i) (ap (check g i) (counted-next w (so .long) i h room-here) ∙ check-failed g f i e _ _ n)
+          (failedBy f (getD (w .numbers) i 0) ≡ 0 → ⊥) →
+          unwritten (numbered (failedBy f (getD (w .numbers) i 0)) i) ≡ checkedOf (checkWard (counted w))
+      failed n = ended-with (numbered (failedBy f (getD (w .numbers) i 0)) i) (ap (check g i) (counted-next w (so .long) i h room-here) ∙ check-failed g f i e _ _ n)
 
-      module _ (a : asked f (getD (w .numbers) i 0) ≡ 0) where
+      module _ (a : failedBy f (getD (w .numbers) i 0) ≡ 0) where
         pub below : getD (w .numbers) i 0 < 2 ^ 49
         below =
             let r = in-range f _ a in

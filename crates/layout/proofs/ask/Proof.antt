@@ -1,6 +1,6 @@
 -- `layout::ask` meets its contract.
 use borrow.Author.Tests.{lt-ltb, le-ltb}
-use Rattle.layout.specs.Grammar.{asked}
+use Rattle.layout.specs.Grammar.{failedBy}
 use Rattle.layout.proofs.AskLaws.{second-day, no-second-day, no-first-day, other-day}
 use borrow.Author.Needs.{needs}
 use Rattle.layout.proofs.ask.Statement.{statement}
@@ -9,11 +9,11 @@ use Rattle.layout.proofs.ask.Reads as reads
 use Rattle.layout.proofs.ask.Lts as lts
 
 returns : tie.Need-returns
-unfolding asked
+unfolding failedBy
 returns c = simp (lt-ltb _ _ (c .if1 .taken))
 
 returns-2 : tie.Need-returns-2
-unfolding asked
+unfolding failedBy
 returns-2 c = simp (le-ltb _ _ (c .before .before .if1 .left), lt-ltb _ _ (c .if2 .taken))
 
 enum-told : tie.Need-enum-told
@@ -23,7 +23,7 @@ enum-known-rule : tie.Need-enum-known-rule
 enum-known-rule c = search needs
 
 returns-3 : tie.Need-returns-3
-unfolding asked
+unfolding failedBy
 returns-3 c = simp (le-ltb _ _ (c .before .before .before .before .if1 .left), le-ltb _ _ (c .before .before .if2 .left), c .enum-told .given .1)
 
 returns-4 : tie.Need-returns-4
