@@ -3,16 +3,16 @@ use Prim.Native.Nat.{ℕ}
 use mathlib.Core.List.{List, [], _∷_}
 
 -- the ward worked through, in file order; every number takes one byte, so these are its bytes too
-unfoldable pub worked : List ℕ
-worked =
+unfoldable pub workedWard : List ℕ
+workedWard =
     2 ∷ 3 ∷ 0 ∷ 1 ∷ 1 ∷ 1 ∷ 1 ∷ 1 ∷ 2 ∷ 3 ∷ 1 ∷ 1 ∷ 1 ∷ 1 ∷ 1 ∷ 1
     ∷ 0 ∷ 0 ∷ 0 ∷ 0 ∷ 0 ∷ 0 ∷ 0 ∷ 0 ∷ 1 ∷ 0 ∷ 3 ∷ 0 ∷ 0 ∷ 0
     ∷ 0 ∷ 0 ∷ 0 ∷ 0 ∷ 0 ∷ 0 ∷ 0 ∷ 0 ∷ 1 ∷ 0 ∷ 3 ∷ 0 ∷ 0 ∷ 1
     ∷ 1 ∷ 1 ∷ 0 ∷ 1 ∷ 0 ∷ 0 ∷ []
 
 -- A second ward, for the rules that the first does not show; its bytes too.
-unfoldable pub second : List ℕ
-second =
+unfoldable pub secondWard : List ℕ
+secondWard =
     -- 3 nurses, 6 days, 1 group; V 2, L 3; the gaps 2, 3, 1, all different; TL 4, D 2; six different weights
     3 ∷ 6 ∷ 1 ∷ 2 ∷ 3 ∷ 2 ∷ 3 ∷ 1 ∷ 4 ∷ 2 ∷ 6 ∷ 5 ∷ 8 ∷ 3 ∷ 2 ∷ 1
     -- Nurse 1: last month ends in a run of two nights. A start on day 1 is the third of that run, and L forbids a fourth on day 3. Without it g2 lets her

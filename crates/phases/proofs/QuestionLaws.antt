@@ -63,19 +63,19 @@ among-keep t n p f = go (t p) refl
     go false e = among-not t p e (upFrom 0 n) ∙ sym e
 
 module _ (w nights : List ℕ) (i p : ℕ) where
-  pub own-by-night : hersOf w i p ≡ among (phaseOf Nights w nights .patterns i) p
+  pub hers-by-night : hersOf w i p ≡ among (phaseOf Nights w nights .patterns i) p
   unfolding phaseOf nightPhase nightList
-  own-by-night = sym (among-keep (hersOf w i) (2 ^ days w) p (hers-below w i p))
+  hers-by-night = sym (among-keep (hersOf w i) (2 ^ days w) p (hers-below w i p))
 
-  pub own-by-day : dayRuleOf w i (getD nights i 0) p ≡ among (phaseOf Days w nights .patterns i) p
+  pub hers-by-day : dayRuleOf w i (getD nights i 0) p ≡ among (phaseOf Days w nights .patterns i) p
   unfolding phaseOf dayPhase dayList
-  own-by-day = sym (among-keep (dayRuleOf w i (getD nights i 0)) (2 ^ days w) p (rule-below w i (getD nights i 0) p))
+  hers-by-day = sym (among-keep (dayRuleOf w i (getD nights i 0)) (2 ^ days w) p (rule-below w i (getD nights i 0) p))
 
   pub own-night : {which : Search} {r : Bool} → which ≡ Nights → r ≡ hersOf w i p → r ≡ among (phaseOf which w nights .patterns i) p
-  own-night e h = rw e (h ∙ own-by-night)
+  own-night e h = rw e (h ∙ hers-by-night)
 
   pub own-day : {which : Search} {r : Bool} → which ≡ Days → r ≡ dayRuleOf w i (getD nights i 0) p → r ≡ among (phaseOf which w nights .patterns i) p
-  own-day e h = rw e (h ∙ own-by-day)
+  own-day e h = rw e (h ∙ hers-by-day)
 
 pub slot-placed : (P : Phase) (i p : ℕ) {placed r : Bool} → placed ≡ true → r ≡ among (P .patterns i) p → r ≡ hers P i (slot placed p)
 slot-placed P i p e h = rw e h

@@ -29,7 +29,7 @@ fn steps_allowed(steps: u32, k: u32) -> bool
 }
 
 // Whether p is one of nurse i's own.
-pub(crate) fn is_own(w: &[u64], nights: &[u32; NURSES], search: Search, i: usize, p: u32) -> bool
+pub(crate) fn is_hers(w: &[u64], nights: &[u32; NURSES], search: Search, i: usize, p: u32) -> bool
     requires { ⌜ Accepted (now w) × (i < nurses (now w)) ⌝ }
     ensures { λ r. ⌜ r ≡ among (phaseOf search (now (w .entry)) (now (nights .entry)) .patterns i) p ⌝ }
 {
@@ -40,7 +40,7 @@ pub(crate) fn is_own(w: &[u64], nights: &[u32; NURSES], search: Search, i: usize
 }
 
 // Whether a slot holds one of nurse i's own, or none.
-pub(crate) fn slot_own(
+pub(crate) fn slot_hers(
     w: &[u64],
     nights: &[u32; NURSES],
     search: Search,
@@ -52,13 +52,13 @@ pub(crate) fn slot_own(
     ensures { λ r. ⌜ r ≡ hers (phaseOf search (now (w .entry)) (now (nights .entry))) i (slot placed p) ⌝ }
 {
     if placed {
-        return is_own(w, nights, search, i, p);
+        return is_hers(w, nights, search, i, p);
     }
     true
 }
 
 // Whether each placed nurse holds one of her own.
-pub(crate) fn slots_own(
+pub(crate) fn slots_hers(
     w: &[u64],
     nights: &[u32; NURSES],
     search: Search,
@@ -70,7 +70,7 @@ pub(crate) fn slots_own(
     let m = fields::nurses(w);
     let mut i: usize = 0;
     while i < m {
-        if slot_own(w, nights, search, i, rec.placed[i], rec.patterns[i]) {
+        if slot_hers(w, nights, search, i, rec.placed[i], rec.patterns[i]) {
             i += 1;
         } else {
             return false;
@@ -95,7 +95,7 @@ pub(crate) fn removal_names(
     let i = (x.nurse - 1) as usize;
     let m = fields::nurses(w);
     if i < m {
-        return slot_own(w, nights, search, i, x.has, x.pattern);
+        return slot_hers(w, nights, search, i, x.has, x.pattern);
     }
     false
 }
@@ -135,7 +135,7 @@ pub(crate) fn record_sound(
     ensures { λ r. ⌜ r ≡ soundStored (phaseOf search (now (w .entry)) (now (nights .entry))) rec ⌝ }
 {
     let zero = rec.unused_zero(fields::nurses(w), fields::tabu(w));
-    if slots_own(w, nights, search, rec) {
+    if slots_hers(w, nights, search, rec) {
         if removals_name(w, nights, search, rec) {
             return zero;
         }

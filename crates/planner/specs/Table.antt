@@ -8,7 +8,7 @@ use Rattle.numbers.specs.Range.{upFrom, keep, all}
 use Rattle.numbers.specs.Sum.{sumTo, oneIf}
 use Rattle.numbers.specs.Digits.{numberOf}
 use Rattle.codec.specs.Groups.{encode}
-use Rattle.fields.specs.Worked.{worked}
+use Rattle.fields.specs.Worked.{workedWard}
 use Rattle.fields.specs.Fields.{blockAt, block, groupsAt, memberSets, needsAt, needs}
 use Rattle.rows.specs.Rows.{rowState, marksAllow, availableOn, dutyOn}
 use Rattle.fields.specs.declared.rules.Rules.{Rules}
@@ -58,21 +58,21 @@ table =
     ∷ row (λ u. may (1 + 2 ^ 2 + 2 ^ 8)) (1 ∷ [])
     ∷ row (λ u. may (1 + 2 ^ 2 + 2 ^ 7)) (0 ∷ [])
     -- the worked ward's common list, and nurse 2's own
-    ∷ row (λ u. commonOf worked) (0 ∷ 1 ∷ 2 ∷ 4 ∷ [])
-    ∷ row (λ u. nightList worked 1) (0 ∷ 1 ∷ [])
+    ∷ row (λ u. commonOf workedWard) (0 ∷ 1 ∷ 2 ∷ 4 ∷ [])
+    ∷ row (λ u. nightList workedWard 1) (0 ∷ 1 ∷ [])
     -- its penalties by night: fresh; nurse 1 takes 1; nurse 2 takes 0
-    ∷ row (λ u. nightPenalty worked fresh ∷ []) (20000001 ∷ [])
-    ∷ row (λ u. nightPenalty worked (exchanged fresh 0 1) ∷ []) (10000000 ∷ [])
-    ∷ row (λ u. nightPenalty worked (exchanged (exchanged fresh 0 1) 1 0) ∷ []) (0 ∷ [])
+    ∷ row (λ u. nightPenalty workedWard fresh ∷ []) (20000001 ∷ [])
+    ∷ row (λ u. nightPenalty workedWard (exchanged fresh 0 1) ∷ []) (10000000 ∷ [])
+    ∷ row (λ u. nightPenalty workedWard (exchanged (exchanged fresh 0 1) 1 0) ∷ []) (0 ∷ [])
     -- its day lists over those nights
-    ∷ row (λ u. dayList worked 0 (nights 0)) (0 ∷ [])
-    ∷ row (λ u. dayList worked 1 (nights 1)) (0 ∷ 1 ∷ 2 ∷ 3 ∷ [])
+    ∷ row (λ u. dayList workedWard 0 (nights 0)) (0 ∷ [])
+    ∷ row (λ u. dayList workedWard 1 (nights 1)) (0 ∷ 1 ∷ 2 ∷ 3 ∷ [])
     -- its penalties by day: fresh; nurse 2 takes 3; nurse 1 takes 0
-    ∷ row (λ u. dayPenalty worked fresh ∷ []) (20000002 ∷ [])
-    ∷ row (λ u. dayPenalty worked (exchanged fresh 1 3) ∷ []) (10000000 ∷ [])
-    ∷ row (λ u. dayPenalty worked (exchanged (exchanged fresh 1 3) 0 0) ∷ []) (0 ∷ [])
+    ∷ row (λ u. dayPenalty workedWard fresh ∷ []) (20000002 ∷ [])
+    ∷ row (λ u. dayPenalty workedWard (exchanged fresh 1 3) ∷ []) (10000000 ∷ [])
+    ∷ row (λ u. dayPenalty workedWard (exchanged (exchanged fresh 1 3) 0 0) ∷ []) (0 ∷ [])
     -- its roster, Nn/ and --/
-    ∷ row (λ u. letters worked nights worked-days 2) (78 ∷ 110 ∷ 47 ∷ 45 ∷ 45 ∷ 47 ∷ [])
+    ∷ row (λ u. letters workedWard nights worked-days 2) (78 ∷ 110 ∷ 47 ∷ 45 ∷ 45 ∷ 47 ∷ [])
     ∷ []
 
 -- the two sides of each row are equal
@@ -81,5 +81,5 @@ Holds [] = Unit
 Holds (row comes-to says ∷ rows) = (comes-to 0 ≡ says) × Holds rows
 
 pub examples-hold : Holds table
-unfolding encode worked common inCommon starts follow shifted through lastRun marksAllow hers nightList keep all upFrom sumTo numberOf blockAt block groupsAt memberSets needsAt needs rowState availableOn dutyOn onDuty members shortOn overOn unplacedIn nightParts nightPenalty dayParts dayPenalty dayList dayRule choice rowDuty same anyOf freeOf windowsHold rests letters rowLettersOf letter
+unfolding encode workedWard common inCommon starts follow shifted through lastRun marksAllow hers nightList keep all upFrom sumTo numberOf blockAt block groupsAt memberSets needsAt needs rowState availableOn dutyOn onDuty members shortOn overOn unplacedIn nightParts nightPenalty dayParts dayPenalty dayList dayRule choice rowDuty same anyOf freeOf windowsHold rests letters rowLettersOf letter
 examples-hold = (refl, (refl, (refl, (refl, (refl, (refl, (refl, (refl, (refl, (refl, (refl, (refl, (refl, (refl, (refl, (refl, (refl, (refl, (refl, tt)))))))))))))))))))

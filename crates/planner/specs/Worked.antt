@@ -12,7 +12,7 @@ use Rattle.codec.specs.Groups.{encode, decode}
 use Rattle.layout.specs.Grammar.{good, bad, read, check, failedBy, bytesOf}
 use Rattle.ward.specs.Answers.{readWard, checkWard}
 use Rattle.fields.specs.Fields.{blockAt, block, groupsAt, memberSets, needsAt, needs}
-use Rattle.fields.specs.Worked.{worked, second}
+use Rattle.fields.specs.Worked.{workedWard, secondWard}
 use Rattle.rows.specs.Rows.{rowState, marksAllow, availableOn, dutyOn}
 use Rattle.nights.specs.Nights.{common, commonOf, inCommon, starts, follow}
 use Rattle.nights.specs.Hers.{nightList, hers, shifted, through, lastRun}
@@ -66,41 +66,41 @@ roster = 78 ∷ 110 ∷ 47 ∷ 45 ∷ 45 ∷ 47 ∷ []
 
 pub record WorkedThrough : Type 0 where
   -- its file is read, its numbers are checked and written back; an empty file; a file of edition two
-  pub file-read : readWard worked ≡ good worked
-  pub numbers-checked : checkWard worked ≡ good worked
-  pub written-back : bytesOf worked ≡ worked
+  pub file-read : readWard workedWard ≡ good workedWard
+  pub numbers-checked : checkWard workedWard ≡ good workedWard
+  pub written-back : bytesOf workedWard ≡ workedWard
   pub empty : readWard [] ≡ bad (numbered 1 0)
   pub edition-two : readWard (0 ∷ 2 ∷ []) ≡ bad (numbered 3 0)
   -- by night: from 20,000,001, nurse 1 takes 1, 10,000,000; nurse 2 takes 0, and the penalty is 0
-  pub night-first : next (nightPhase worked) [] ≡ some (did 0 1)
-  pub night-second : next (nightPhase worked) (did 0 1 ∷ []) ≡ some (did 1 0)
+  pub night-first : next (nightPhase workedWard) [] ≡ some (did 0 1)
+  pub night-second : next (nightPhase workedWard) (did 0 1 ∷ []) ≡ some (did 1 0)
   -- no step failedBy, one, too many failedBy, no room for the common list, as many as there are, and zero as before
-  pub night-answers : answers (nightPhase worked) (call 0 4 ∷ call 1 4 ∷ call 10001 4 ∷ call 1 3 ∷ call 5 4 ∷ call 5 4 ∷ [])
+  pub night-answers : answers (nightPhase workedWard) (call 0 4 ∷ call 1 4 ∷ call 10001 4 ∷ call 1 3 ∷ call 5 4 ∷ call 5 4 ∷ [])
       ≡ ended End·asked 0 20000001 [] ∷ ended End·asked 1 10000000 [] ∷ refuses 7 0 ∷ refuses 9 0 ∷ ended End·zero 1 0 [] ∷ ended End·zero 0 0 [] ∷ []
-  pub night-steps : history (nightPhase worked) (call 1000 16384 ∷ []) ≡ did 1 0 ∷ did 0 1 ∷ []
+  pub night-steps : history (nightPhase workedWard) (call 1000 16384 ∷ []) ≡ did 1 0 ∷ did 0 1 ∷ []
   -- by the stored record, from the file's bytes
-  pub night-stored : inTurn (advanceNights worked) (call 1 4 ∷ call 10001 4 ∷ call 10000 4 ∷ []) allZero
-      ≡ (ended End·asked 1 10000000 [] ∷ refuses 7 0 ∷ ended End·zero 1 0 [] ∷ [], store (recordOf (nightPhase worked) (did 1 0 ∷ did 0 1 ∷ [])))
+  pub night-stored : inTurn (advanceNights workedWard) (call 1 4 ∷ call 10001 4 ∷ call 10000 4 ∷ []) allZero
+      ≡ (ended End·asked 1 10000000 [] ∷ refuses 7 0 ∷ ended End·zero 1 0 [] ∷ [], store (recordOf (nightPhase workedWard) (did 1 0 ∷ did 0 1 ∷ [])))
   -- its removals: the last one first, a nurse by her number, and 0 in the places not in use
-  pub stored-placings : take 3 ((store (recordOf (nightPhase worked) (did 1 0 ∷ did 0 1 ∷ []))) .removals)
+  pub stored-placings : take 3 ((store (recordOf (nightPhase workedWard) (did 1 0 ∷ did 0 1 ∷ []))) .removals)
       ≡ record { nurse = 2; has = false; pattern = 0 } ∷ record { nurse = 1; has = false; pattern = 0 } ∷ noRemoval ∷ []
   -- with TL 2, a third step that gives up pattern 1 drops the first placing
-  pub stored-given-up : take 3 ((store (recordOf (nightPhase worked) (did 0 2 ∷ did 1 0 ∷ did 0 1 ∷ []))) .removals)
+  pub stored-given-up : take 3 ((store (recordOf (nightPhase workedWard) (did 0 2 ∷ did 1 0 ∷ did 0 1 ∷ []))) .removals)
       ≡ record { nurse = 1; has = true; pattern = 1 } ∷ record { nurse = 2; has = false; pattern = 0 } ∷ noRemoval ∷ []
   -- by day over those nights: from 20,000,002, nurse 2 takes 3, 10,000,000; nurse 1 takes 0, and the roster is given out
-  pub day-answers : answers (dayPhase worked (nightOf nights)) (call 0 5 ∷ call 1 5 ∷ call 1 4 ∷ call 9 5 ∷ [])
+  pub day-answers : answers (dayPhase workedWard (nightOf nights)) (call 0 5 ∷ call 1 5 ∷ call 1 4 ∷ call 9 5 ∷ [])
       ≡ ended End·asked 0 20000002 [] ∷ ended End·asked 1 10000000 [] ∷ refuses 9 2 ∷ ended End·zero 1 0 roster ∷ []
-  pub day-steps : history (dayPhase worked (nightOf nights)) (call 9 5 ∷ []) ≡ did 0 0 ∷ did 1 3 ∷ []
+  pub day-steps : history (dayPhase workedWard (nightOf nights)) (call 9 5 ∷ []) ≡ did 0 0 ∷ did 1 3 ∷ []
   -- the check of the roster; with a letter of none of the five after the six; with a letter too few
-  pub roster-checked : checkSays worked roster ≡ Passed
-  pub extra-letter : checkSays worked (78 ∷ 110 ∷ 47 ∷ 45 ∷ 45 ∷ 47 ∷ 47 ∷ 48 ∷ []) ≡ checkRefuses 12 7
-  pub letter-missing : checkSays worked (78 ∷ 110 ∷ 47 ∷ 45 ∷ 45 ∷ []) ≡ checkRefuses 12 5
+  pub roster-checked : checkSays workedWard roster ≡ Passed
+  pub extra-letter : checkSays workedWard (78 ∷ 110 ∷ 47 ∷ 45 ∷ 45 ∷ 47 ∷ 47 ∷ 48 ∷ []) ≡ checkRefuses 12 7
+  pub letter-missing : checkSays workedWard (78 ∷ 110 ∷ 47 ∷ 45 ∷ 45 ∷ []) ≡ checkRefuses 12 5
   -- day 2 of nurse 2 a rest: the day need of day 2 is not met; day 3 of nurse 1 other duty: her row follows from no patterns
-  pub need-unmet : checkSays worked (78 ∷ 110 ∷ 47 ∷ 45 ∷ 47 ∷ 47 ∷ []) ≡ Broken
-  pub row-unfollowed : checkSays worked (78 ∷ 110 ∷ 43 ∷ 45 ∷ 45 ∷ 47 ∷ []) ≡ Broken
+  pub need-unmet : checkSays workedWard (78 ∷ 110 ∷ 47 ∷ 45 ∷ 47 ∷ 47 ∷ []) ≡ Broken
+  pub row-unfollowed : checkSays workedWard (78 ∷ 110 ∷ 43 ∷ 45 ∷ 45 ∷ 47 ∷ []) ≡ Broken
 
 pub worked-through : WorkedThrough
-unfolding worked encode decode read check failedBy bytesOf readWard checkWard nightPhase dayPhase nightsOpen commonFits listsFit firstOver upTo answers history advance reply extend run refusal given next penalty allowed advanceOver advanceStored refusalStored replyStored soundStored unusedZero view store recordOf proceed replyOf best total mayTake stepped sound common nightList hers inCommon starts follow shifted through lastRun marksAllow sumTo numberOf keep all upFrom blockAt block groupsAt memberSets needsAt needs rowState availableOn dutyOn onDuty members shortOn overOn unplacedIn nightParts nightPenalty dayParts dayPenalty dayList dayRule choice rowDuty same anyOf freeOf windowsHold rests letters rowLettersOf letter isLetter firstBad misplaced checkLetters checkOver holds rowsHold rowHolds lettersIn sameRow daysHold dayHolds dutyHolds groupHolds lettered
+unfolding workedWard encode decode read check failedBy bytesOf readWard checkWard nightPhase dayPhase nightsOpen commonFits listsFit firstOver upTo answers history advance reply extend run refusal given next penalty allowed advanceOver advanceStored refusalStored replyStored soundStored unusedZero view store recordOf proceed replyOf best total mayTake stepped sound common nightList hers inCommon starts follow shifted through lastRun marksAllow sumTo numberOf keep all upFrom blockAt block groupsAt memberSets needsAt needs rowState availableOn dutyOn onDuty members shortOn overOn unplacedIn nightParts nightPenalty dayParts dayPenalty dayList dayRule choice rowDuty same anyOf freeOf windowsHold rests letters rowLettersOf letter isLetter firstBad misplaced checkLetters checkOver holds rowsHold rowHolds lettersIn sameRow daysHold dayHolds dutyHolds groupHolds lettered
 worked-through = record {
   file-read = refl;
   numbers-checked = refl;
@@ -141,73 +141,73 @@ eightSteps = did 1 8 ∷ did 2 32 ∷ sixSteps
 
 pub record SecondWorked : Type 0 where
   -- its file is read and written back; cut off, not in the shortest form, most nights below the least, a 3 after no 2, a byte too many
-  pub file-read : readWard second ≡ good second
-  pub written-back : bytesOf second ≡ second
-  pub cut-off : readWard (take 103 second) ≡ bad (numbered 1 103)
+  pub file-read : readWard secondWard ≡ good secondWard
+  pub written-back : bytesOf secondWard ≡ secondWard
+  pub cut-off : readWard (take 103 secondWard) ≡ bad (numbered 1 103)
   pub not-shortest : readWard (131 ∷ 0 ∷ []) ≡ bad (numbered 2 0)
-  pub most-below-least : readWard (set second 24 0) ≡ bad (numbered 3 24)
-  pub duty-unfit : readWard (set second 18 3) ≡ bad (numbered 4 18)
-  pub byte-too-many : readWard (second ++ (0 ∷ [])) ≡ bad (numbered 5 104)
+  pub most-below-least : readWard (set secondWard 24 0) ≡ bad (numbered 3 24)
+  pub duty-unfit : readWard (set secondWard 18 3) ≡ bad (numbered 4 18)
+  pub byte-too-many : readWard (secondWard ++ (0 ∷ [])) ≡ bad (numbered 5 104)
   -- the common list: V leaves out the starts 1, 3 and 5, g1 leaves out 1 and 4; then each nurse's own
-  pub common-list : commonOf second ≡ 0 ∷ 1 ∷ 2 ∷ 4 ∷ 5 ∷ 8 ∷ 10 ∷ 16 ∷ 17 ∷ 20 ∷ 32 ∷ 33 ∷ 34 ∷ 40 ∷ []
-  pub nights-1 : nightList second 0 ≡ 1 ∷ 8 ∷ 16 ∷ 17 ∷ []
-  pub nights-2 : nightList second 1 ≡ 8 ∷ 40 ∷ []
-  pub nights-3 : nightList second 2 ≡ 1 ∷ 16 ∷ 32 ∷ []
+  pub common-list : commonOf secondWard ≡ 0 ∷ 1 ∷ 2 ∷ 4 ∷ 5 ∷ 8 ∷ 10 ∷ 16 ∷ 17 ∷ 20 ∷ 32 ∷ 33 ∷ 34 ∷ 40 ∷ []
+  pub nights-1 : nightList secondWard 0 ≡ 1 ∷ 8 ∷ 16 ∷ 17 ∷ []
+  pub nights-2 : nightList secondWard 1 ≡ 8 ∷ 40 ∷ []
+  pub nights-3 : nightList secondWard 2 ≡ 1 ∷ 16 ∷ 32 ∷ []
   -- the weights: nobody has a night, everybody starts one on every day; nobody works by day, everybody does on every day
-  pub no-nights : nightPenalty second (λ i. some 0) ≡ 11
-  pub all-nights : nightPenalty second (λ i. some 63) ≡ 64
-  pub no-days : dayPenalty second (λ i. some 0) ≡ 16
-  pub all-days : dayPenalty second (λ i. some 63) ≡ 4
+  pub no-nights : nightPenalty secondWard (λ i. some 0) ≡ 11
+  pub all-nights : nightPenalty secondWard (λ i. some 63) ≡ 64
+  pub no-days : dayPenalty secondWard (λ i. some 0) ≡ 16
+  pub all-days : dayPenalty secondWard (λ i. some 63) ≡ 4
   -- by night: step by step to zero; then too many failedBy, no room for the common list, and zero as before
-  pub night-answers : answers (nightPhase second) (call 0 14 ∷ ones 9 14 ++ (call 10001 14 ∷ call 1 13 ∷ call 1 14 ∷ []))
+  pub night-answers : answers (nightPhase secondWard) (call 0 14 ∷ ones 9 14 ++ (call 10001 14 ∷ call 1 13 ∷ call 1 14 ∷ []))
       ≡ ended End·asked 0 30000005 [] ∷ after 20000000 ∷ after 10000000 ∷ after 5 ∷ after 5 ∷ after 5 ∷ after 8 ∷ after 11 ∷ after 3
       ∷ ended End·zero 1 0 [] ∷ refuses 7 0 ∷ refuses 9 0 ∷ ended End·zero 0 0 [] ∷ []
-  pub night-steps : history (nightPhase second) (call 100 14 ∷ []) ≡ did 0 1 ∷ eightSteps
+  pub night-steps : history (nightPhase secondWard) (call 100 14 ∷ []) ≡ did 0 1 ∷ eightSteps
   -- After six steps nurse 1 may not take pattern 1, which she gave up in the last four, though it would leave the least penalty; after eight she may.
-  pub barred : allowed (nightPhase second) sixSteps 0 1 ≡ false
-  pub barred-penalty : penalty (nightPhase second) (did 0 1 ∷ sixSteps) ≡ 5
-  pub taken : next (nightPhase second) sixSteps ≡ some (did 2 32)
-  pub taken-penalty : penalty (nightPhase second) (did 2 32 ∷ sixSteps) ≡ 11
-  pub no-longer-barred : allowed (nightPhase second) eightSteps 0 1 ≡ true
+  pub barred : allowed (nightPhase secondWard) sixSteps 0 1 ≡ false
+  pub barred-penalty : penalty (nightPhase secondWard) (did 0 1 ∷ sixSteps) ≡ 5
+  pub taken : next (nightPhase secondWard) sixSteps ≡ some (did 2 32)
+  pub taken-penalty : penalty (nightPhase secondWard) (did 2 32 ∷ sixSteps) ≡ 11
+  pub no-longer-barred : allowed (nightPhase secondWard) eightSteps 0 1 ≡ true
   -- by the stored record, from the file's bytes; of its removals, the last four
-  pub night-stored : (inTurn (advanceNights second) (call 3 14 ∷ call 5 14 ∷ []) allZero) .1 ≡ store (recordOf (nightPhase second) eightSteps)
-  pub stored-removals : take 5 ((store (recordOf (nightPhase second) eightSteps)) .removals)
+  pub night-stored : (inTurn (advanceNights secondWard) (call 3 14 ∷ call 5 14 ∷ []) allZero) .1 ≡ store (recordOf (nightPhase secondWard) eightSteps)
+  pub stored-removals : take 5 ((store (recordOf (nightPhase secondWard) eightSteps)) .removals)
       ≡ record { nurse = 2; has = true; pattern = 40 } ∷ record { nurse = 3; has = true; pattern = 1 } ∷ record { nurse = 1; has = true; pattern = 17 }
       ∷ record { nurse = 1; has = true; pattern = 16 } ∷ noRemoval ∷ []
   -- by day over these nights: step by step to the roster; then no room for the last nurse's list, and none for the first one's
-  pub days-1 : dayList second 0 1 ≡ 8 ∷ 16 ∷ 24 ∷ 32 ∷ 40 ∷ 48 ∷ []
-  pub days-2 : dayList second 1 8 ≡ 4 ∷ []
-  pub days-3 : dayList second 2 32 ≡ 6 ∷ 18 ∷ 20 ∷ []
-  pub day-answers : answers (dayPhase second (nightOf secondNights)) (call 0 10 ∷ ones 5 10 ++ (call 1 9 ∷ call 1 3 ∷ []))
+  pub days-1 : dayList secondWard 0 1 ≡ 8 ∷ 16 ∷ 24 ∷ 32 ∷ 40 ∷ 48 ∷ []
+  pub days-2 : dayList secondWard 1 8 ≡ 4 ∷ []
+  pub days-3 : dayList secondWard 2 32 ≡ 6 ∷ 18 ∷ 20 ∷ []
+  pub day-answers : answers (dayPhase secondWard (nightOf secondNights)) (call 0 10 ∷ ones 5 10 ++ (call 1 9 ∷ call 1 3 ∷ []))
       ≡ ended End·asked 0 30000011 [] ∷ after 20000004 ∷ after 10000001 ∷ after 1 ∷ after 1 ∷ ended End·zero 1 0 secondRoster ∷ refuses 9 3 ∷ refuses 9 1 ∷ []
-  pub day-steps : history (dayPhase second (nightOf secondNights)) (call 100 10 ∷ []) ≡ did 2 6 ∷ did 0 24 ∷ did 1 4 ∷ did 0 8 ∷ did 2 18 ∷ []
-  pub day-stored : (inTurn (advanceDays second secondNights) (call 100 10 ∷ []) allZero) .0 ≡ ended End·zero 5 0 secondRoster ∷ []
+  pub day-steps : history (dayPhase secondWard (nightOf secondNights)) (call 100 10 ∷ []) ≡ did 2 6 ∷ did 0 24 ∷ did 1 4 ∷ did 0 8 ∷ did 2 18 ∷ []
+  pub day-stored : (inTurn (advanceDays secondWard secondNights) (call 100 10 ∷ []) allZero) .0 ≡ ended End·zero 5 0 secondRoster ∷ []
   -- over other nights at penalty zero, where nurse 1 starts on day 5: no exchange is left after seven steps
-  pub none-days-1 : dayList second 0 16 ≡ 4 ∷ 8 ∷ 12 ∷ []
-  pub none-answers : answers (dayPhase second (nightOf (16 ∷ 8 ∷ 32 ∷ []))) (call 0 7 ∷ ones 6 7 ++ (call 100 7 ∷ call 1 7 ∷ []))
+  pub none-days-1 : dayList secondWard 0 16 ≡ 4 ∷ 8 ∷ 12 ∷ []
+  pub none-answers : answers (dayPhase secondWard (nightOf (16 ∷ 8 ∷ 32 ∷ []))) (call 0 7 ∷ ones 6 7 ++ (call 100 7 ∷ call 1 7 ∷ []))
       ≡ ended End·asked 0 30000011 [] ∷ after 20000004 ∷ after 10000001 ∷ after 1 ∷ after 1 ∷ after 3 ∷ after 6
       ∷ ended End·none 1 9 [] ∷ ended End·none 0 9 [] ∷ []
-  pub none-steps : history (dayPhase second (nightOf (16 ∷ 8 ∷ 32 ∷ []))) (call 100 7 ∷ [])
+  pub none-steps : history (dayPhase secondWard (nightOf (16 ∷ 8 ∷ 32 ∷ []))) (call 100 7 ∷ [])
       ≡ did 2 20 ∷ did 0 4 ∷ did 2 6 ∷ did 0 12 ∷ did 1 4 ∷ did 0 8 ∷ did 2 18 ∷ []
   -- question 8: nights that are not at penalty zero; nights at zero, but nurse 1 has fewer than her least
-  pub not-at-zero : answers (dayPhase second (nightOf (1 ∷ 40 ∷ 1 ∷ []))) (call 1 10 ∷ call 10001 10 ∷ call 0 0 ∷ []) ≡ refuses 8 0 ∷ refuses 7 0 ∷ refuses 8 0 ∷ []
-  pub not-hers-penalty : nightPenalty second (λ i. some (nightOf (0 ∷ 8 ∷ 32 ∷ []) i)) ≡ 0
-  pub not-hers : answers (dayPhase second (nightOf (0 ∷ 8 ∷ 32 ∷ []))) (call 1 10 ∷ []) ≡ refuses 8 0 ∷ []
+  pub not-at-zero : answers (dayPhase secondWard (nightOf (1 ∷ 40 ∷ 1 ∷ []))) (call 1 10 ∷ call 10001 10 ∷ call 0 0 ∷ []) ≡ refuses 8 0 ∷ refuses 7 0 ∷ refuses 8 0 ∷ []
+  pub not-hers-penalty : nightPenalty secondWard (λ i. some (nightOf (0 ∷ 8 ∷ 32 ∷ []) i)) ≡ 0
+  pub not-hers : answers (dayPhase secondWard (nightOf (0 ∷ 8 ∷ 32 ∷ []))) (call 1 10 ∷ []) ≡ refuses 8 0 ∷ []
   -- the check of the roster
-  pub roster-checked : checkSays second secondRoster ≡ Passed
+  pub roster-checked : checkSays secondWard secondRoster ≡ Passed
   -- One rule is broken in each. Nurse 1: three days running; a start under her mark 5.
-  pub days-running : checkSays second (set secondRoster 5 45) ≡ Broken
-  pub against-mark-5 : checkSays second (set secondRoster 5 78) ≡ Broken
+  pub days-running : checkSays secondWard (set secondRoster 5 45) ≡ Broken
+  pub against-mark-5 : checkSays secondWard (set secondRoster 5 78) ≡ Broken
   -- nurse 2: a rest under her mark 2; nurse 3: a rest too many, and no rest in seven days
-  pub against-mark-2 : checkSays second (set secondRoster 8 47) ≡ Broken
-  pub rest-too-many : checkSays second (set secondRoster 14 47) ≡ Broken
-  pub no-rest-in-seven : checkSays second (set (set secondRoster 12 45) 14 47) ≡ Broken
+  pub against-mark-2 : checkSays secondWard (set secondRoster 8 47) ≡ Broken
+  pub rest-too-many : checkSays secondWard (set secondRoster 14 47) ≡ Broken
+  pub no-rest-in-seven : checkSays secondWard (set (set secondRoster 12 45) 14 47) ≡ Broken
   -- day 5: the day need, and the group's high by day
-  pub need-unmet : checkSays second (set secondRoster 4 47) ≡ Broken
-  pub above-high : checkSays second (set (set secondRoster 14 47) 16 45) ≡ Broken
+  pub need-unmet : checkSays secondWard (set secondRoster 4 47) ≡ Broken
+  pub above-high : checkSays secondWard (set (set secondRoster 14 47) 16 45) ≡ Broken
 
 pub second-worked : SecondWorked
-unfolding second encode decode read check failedBy bytesOf readWard checkWard nightPhase dayPhase nightsOpen commonFits listsFit firstOver upTo answers history advance reply extend run refusal given next penalty allowed advanceOver advanceStored refusalStored replyStored soundStored unusedZero view store recordOf proceed replyOf best total mayTake stepped sound common nightList hers inCommon starts follow shifted through lastRun marksAllow sumTo numberOf keep all upFrom blockAt block groupsAt memberSets needsAt needs rowState availableOn dutyOn onDuty members shortOn overOn unplacedIn nightParts nightPenalty dayParts dayPenalty dayList dayRule choice rowDuty same anyOf freeOf windowsHold rests letters rowLettersOf letter isLetter firstBad misplaced checkLetters checkOver holds rowsHold rowHolds lettersIn sameRow daysHold dayHolds dutyHolds groupHolds lettered
+unfolding secondWard encode decode read check failedBy bytesOf readWard checkWard nightPhase dayPhase nightsOpen commonFits listsFit firstOver upTo answers history advance reply extend run refusal given next penalty allowed advanceOver advanceStored refusalStored replyStored soundStored unusedZero view store recordOf proceed replyOf best total mayTake stepped sound common nightList hers inCommon starts follow shifted through lastRun marksAllow sumTo numberOf keep all upFrom blockAt block groupsAt memberSets needsAt needs rowState availableOn dutyOn onDuty members shortOn overOn unplacedIn nightParts nightPenalty dayParts dayPenalty dayList dayRule choice rowDuty same anyOf freeOf windowsHold rests letters rowLettersOf letter isLetter firstBad misplaced checkLetters checkOver holds rowsHold rowHolds lettersIn sameRow daysHold dayHolds dutyHolds groupHolds lettered
 second-worked = record {
   file-read = refl;
   written-back = refl;

@@ -1,8 +1,8 @@
--- `phases::questions::is_own` meets its contract, by those of the tests of one pattern.
+-- `phases::questions::is_hers` meets its contract, by those of the tests of one pattern.
 use Rattle.phases.proofs.QuestionLaws.{own-night, own-day}
 use borrow.Author.Needs.{needs}
-use Rattle.phases.proofs.questions.is_own.Statement.{statement}
-use Rattle.phases.proofs.questions.is_own.Tie as tie
+use Rattle.phases.proofs.questions.is_hers.Statement.{statement}
+use Rattle.phases.proofs.questions.is_hers.Tie as tie
 
 enum-told : tie.Need-enum-told
 enum-told c = search needs
@@ -28,8 +28,8 @@ returns c = own-night _ _ _ _ (c .before .enum-told .given .1) (c .is-hers .ensu
 returns-2 : tie.Need-returns-2
 returns-2 c = own-day _ _ _ _ (c .before .before .enum-told2 .given .1) (c .is-day-pattern .ensures)
 
-pub is-own-spec : {M : Type 1} → statement M
-is-own-spec =
+pub is-hers-spec : {M : Type 1} → statement M
+is-hers-spec =
     tie.close
     (tie.spec
     enum-told
