@@ -11,6 +11,7 @@ use lib.Bits.{bitOr}
 use lib.Pow.{pow-pos}
 use lib.ListN.{length, getD, set, length-append}
 use Rattle.numbers.specs.Range.{upFrom, all}
+use Rattle.numbers.proofs.BufferLaws.{place-turn}
 use Rattle.numbers.specs.Digits.{has}
 use Rattle.numbers.proofs.HalfLaws.{pow-half}
 use Rattle.numbers.proofs.BufferLaws.{Halves}
@@ -19,7 +20,6 @@ use Rattle.days.specs.CodeMonth.{dutyAt, restOn}
 use Rattle.daylists.specs.CodeWalk.{Filled, stepHolds, branch, reach, goesOn, listed, listedAt, Next, Ready}
 use Rattle.days.specs.declared.month.Month.{Month}
 use Rattle.daylists.specs.declared.walk.Point.{Point}
-use Rattle.days.proofs.MonthLaws.{place-turn}
 
 module _ (m : Month) (row : List ℕ) where
   -- ---- one day

@@ -79,28 +79,28 @@ pub(crate) fn sheet_of(b: &[u64], n: usize, longest: usize, p: u32) -> Sheet
     requires { ⌜ n ≤ 31 ⌝ }
     ensures { λ r. ⌜ IsSheet (now (b .entry)) n longest p (r .month) (r .row) ⌝ }
 {
+    let states = rows::states(b, n, p);
     let mut row = seven_days(b);
     let mut free: u64 = 0;
     let mut fixed: u64 = 0;
-    let mut state = rows::day_zero(b[6]);
     let mut d: usize = 0;
     while d < n {
-        let mark = b[11 + d];
-        state = rows::state_after(state, numbers::has_bit(p, d as u64));
-        row[d + 7] = rows::duty_of(mark, state, false);
-        free = with_next(free, d as u64, rows::is_available(mark, state));
+        let mark = nurse::mark(b, d);
+        row[d + 7] = rows::duty_of(mark, states[d], false);
+        free = with_next(free, d as u64, rows::is_available(mark, states[d]));
         fixed = with_next(fixed, d as u64, mark == 2);
         d = d + 1;
     }
-    let within = bounds(b[9], b[10]);
+    let least = nurse::least_rests(b);
+    let most = nurse::most_rests(b);
     let month = Month {
         days: n,
         longest: longest,
-        least: b[9],
-        most: b[10],
+        least: least,
+        most: most,
         free: free,
         fixed: fixed,
-        within: within,
+        within: bounds(least, most),
     };
     Sheet { month, row }
 }

@@ -1,17 +1,15 @@
--- The letters that patterns make: their number, each of them, and a turn of a loop over a row.
+-- The letters that patterns make: their number, and each of them.
 use mathlib.Core.Path.{_≡_, refl, sym, ap, ap₂, _∙_}
-use mathlib.Core.Bool.{Bool}
 use mathlib.Core.List.{List, [], _∷_, map}
 use Prim.Native.Nat.{ℕ, zero, suc, _+_, _*_, _≤_, _<_}
 use native.Mathlib.Nat.{mul-le-mul-right, suc-mul, zero-mul}
-use native.Mathlib.Numerals.{add-one, one-add}
+use native.Mathlib.Numerals.{one-add}
 use native.Mathlib.Omega.{arith}
 use lib.ListN.{length, getD, length-map, length-append, List·getD-map}
 use Rattle.numbers.specs.Range.{upFrom}
-use Rattle.numbers.specs.Digits.{has}
 use Rattle.numbers.proofs.RangeLaws.{length-range, range-at}
 use Rattle.fields.specs.Fields.{days, block}
-use Rattle.rows.specs.Rows.{rowState, stateAfter, dutyOf, dutyOn}
+use Rattle.rows.specs.Rows.{dutyOn}
 use Rattle.letters.specs.Letters.{letter, rowLettersOf, rowLetters, letters}
 
 -- row i of m rows of n letters ends within them
@@ -49,13 +47,3 @@ module _ (w : List ℕ) (ps qs : ℕ → ℕ) where
       length-append (letters w ps qs k) (rowLetters w k (ps k) (qs k))
       ∙ ap₂ (λ (x y : ℕ). x + y) (letters-length k) (row-length (block w k) (days w) (ps k) (qs k))
       ∙ sym (suc-mul k (days w))
-
--- ---- a turn of a loop over a row: the state and the duty of the next day
-
-pub state-step : (b : List ℕ) (p d : ℕ) {before state : ℕ} {s : Bool} → before ≡ rowState b p d → s ≡ has p d → state ≡ stateAfter before s → state ≡ rowState b p (d + 1)
-unfolding rowState
-state-step b p d e s q = q ∙ ap₂ stateAfter e s ∙ rw (add-one d)
-
-pub duty-step : (b : List ℕ) (p q d : ℕ) {state duty : ℕ} {worked : Bool} → state ≡ rowState b p (d + 1) → worked ≡ has q d → duty ≡ dutyOf (getD b (11 + d) 0) state worked → duty ≡ dutyOn b p q (suc d)
-unfolding dutyOn
-duty-step b p q d e s x = x ∙ ap₂ (λ (y : ℕ) (z : Bool). dutyOf (getD b (11 + d) 0) y z) e s ∙ rw (add-one d)

@@ -1,10 +1,12 @@
 // The roster that a choice of patterns makes.
+use fields::nurse;
 ghost use mathlib.Core.Path.{_≡_};
-ghost use Prim.Native.Nat.{_+_, _≤_};
+ghost use Prim.Native.Nat.{ℕ, suc, _+_, _≤_, _<_};
 ghost use lib.ListN.{getD};
 ghost use lib.Seq.{paste};
 ghost use Rattle.fields.specs.Fields.{Accepted, Block};
-ghost use Rattle.letters.specs.Letters.{rowLettersOf};
+ghost use Rattle.rows.specs.Rows.{dutyOn};
+ghost use Rattle.letters.specs.Letters.{letter, rowLettersOf};
 ghost use Rattle.letters.specs.CodeRoster.{Written};
 
 // Its letters from the start, 0 after them, and how many there are.
@@ -13,21 +15,35 @@ pub struct Roster {
     pub count: usize,
 }
 
+// The letters of the row of night pattern p and day pattern q, and 0 after them.
+pub fn row_letters(b: &[u64], n: usize, p: u32, q: u32) -> [u8; 31]
+    requires { ⌜ (n ≤ 31) × Block (now b) n ⌝ }
+    ensures { λ r. ⌜ ((d : ℕ) → d < n → getD r d 0 ≡ letter (dutyOn (now (b .entry)) p q (suc d))) ⌝ }
+{
+    let states = rows::states(b, n, p);
+    let mut row = [0u8; 31];
+    let mut d: usize = 0;
+    while d < n {
+        let worked = numbers::has_bit(q, d as u64);
+        let duty = rows::duty_of(nurse::mark(b, d), states[d], worked);
+        row[d] = crate::letter_of(duty as usize);
+        d += 1;
+    }
+    row
+}
+
 impl Roster {
     // With one row more, that of night pattern p and day pattern q.
     fn with_row(self, b: &[u64], n: usize, p: u32, q: u32) -> Roster
         requires { ⌜ (n ≤ 31) × Block (now b) n × (self .count + n ≤ 1488) ⌝ }
         ensures { λ r. ⌜ (r .letters ≡ paste (self .letters) (self .count) (rowLettersOf (now (b .entry)) n p q) n) × (r .count ≡ self .count + n) ⌝ }
     {
+        let row = row_letters(b, n, p, q);
         let mut next = self;
         let at = next.count;
-        let mut state = rows::day_zero(b[6]);
         let mut d: usize = 0;
         while d < n {
-            state = rows::state_after(state, numbers::has_bit(p, d as u64));
-            let duty = rows::duty_of(b[11 + d], state, numbers::has_bit(q, d as u64));
-            let letter = crate::letter_of(duty as usize);
-            next.letters[at + d] = letter;
+            next.letters[at + d] = row[d];
             d += 1;
         }
         next.count = at + n;

@@ -13,7 +13,7 @@ use Rattle.numbers.specs.Digits.{has}
 use Rattle.numbers.proofs.RangeLaws.{range-turn, range-done}
 use Rattle.fields.specs.Fields.{days, block}
 use Rattle.fields.specs.Rules.{rulesOf}
-use Rattle.rows.specs.Rows.{started, marksAllow}
+use Rattle.rows.specs.Rows.{started, allowTable, marksAllow}
 use Rattle.fields.specs.declared.rules.Rules.{Rules}
 use Rattle.nights.specs.Nights.{starts, follow, allowed, runWith, inCommon}
 use Rattle.nights.specs.Hers.{shifted, through, lastDuty, lastRun, hers, hersOf}
@@ -82,14 +82,14 @@ unfolding shifted
 shifted-zero [] = refl
 shifted-zero (x ∷ xs) = rw (add-zero, shifted-zero xs)
 
-pub hers-is : (r : Rules) (n p : ℕ) (b : List ℕ) → hers r n b p
+pub hers-is : (table : List (List ℕ)) (r : Rules) (n p : ℕ) (b : List ℕ) → hers table r n b p
     ≡ (ltb p (2 ^ n) && ((leb (length (starts n p)) (r .most) && follow r 0 0 (starts n p))
     && (follow r (lastRun b .0) (lastRun b .1) (shifted 7 (starts n p))
-    && (marksAllow b n p
+    && (marksAllow table b n p
     && (leb (getD b 7 0) (length (starts n p)) && leb (length (starts n p)) (getD b 8 0))))))
 unfolding hers inCommon
-hers-is r n p b = refl
+hers-is table r n p b = refl
 
--- the same of rules, days and block as calls give them
-pub hers-as : (w : List ℕ) (i p : ℕ) {r : Rules} {n : ℕ} {b : List ℕ} → r ≡ rulesOf w → n ≡ days w → b ≡ block w i → hers r n b p ≡ hersOf w i p
-hers-as w i p er en eb = λ j. hers (er j) (en j) (eb j) p
+-- the same of a table, rules, days and a block as calls give them
+pub hers-as : (w : List ℕ) (i p : ℕ) {table : List (List ℕ)} {r : Rules} {n : ℕ} {b : List ℕ} → table ≡ allowTable → r ≡ rulesOf w → n ≡ days w → b ≡ block w i → hers table r n b p ≡ hersOf w i p
+hers-as w i p et er en eb = λ j. hers (et j) (er j) (en j) (eb j) p

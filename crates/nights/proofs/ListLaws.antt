@@ -15,6 +15,7 @@ use Rattle.fields.specs.declared.rules.Rules.{Rules}
 use Rattle.fields.specs.Rules.{rulesOf}
 use Rattle.nights.specs.Nights.{inCommon, common, commonOf}
 use Rattle.nights.specs.CodeCommon.{Among}
+use Rattle.rows.specs.Rows.{allowTable}
 use Rattle.nights.specs.Hers.{hers, hersOf, nightList}
 
 -- ---- the common list
@@ -48,9 +49,9 @@ unfolding nightList
 list-exactly w i = kept-exactly (hersOf w i) (hersOf w i) (2 ^ days w) (λ p e. (hers-below w i p e, e)) (λ p l e. e)
 
 -- what is hers is in the common list
-pub hers-common : (r : Rules) (n : ℕ) (b : List ℕ) (p : ℕ) → hers r n b p ≡ true → inCommon r n p ≡ true
+pub hers-common : (table : List (List ℕ)) (r : Rules) (n : ℕ) (b : List ℕ) (p : ℕ) → hers table r n b p ≡ true → inCommon r n p ≡ true
 unfolding hers
-hers-common r n b p e = and-parts (inCommon r n p) _ (and-parts (ltb p (2 ^ n)) _ e .1) .0
+hers-common table r n b p e = and-parts (inCommon r n p) _ (and-parts (ltb p (2 ^ n)) _ e .1) .0
 
 -- a test that implies another keeps the same of what the other keeps
 false-here : (t : Bool) → (t ≡ true → false ≡ true) → t ≡ false
@@ -69,7 +70,7 @@ keep-within t u f (x ∷ xs) = go (u x) refl (keep-within t u f xs)
 -- her list is what the test keeps of the common list
 pub list-of-common : (w : List ℕ) (i : ℕ) → nightList w i ≡ keep (hersOf w i) (commonOf w)
 unfolding nightList common
-list-of-common w i = sym (keep-within (hersOf w i) (inCommon (rulesOf w) (days w)) (hers-common (rulesOf w) (days w) (block w i)) (upFrom 0 (2 ^ days w)))
+list-of-common w i = sym (keep-within (hersOf w i) (inCommon (rulesOf w) (days w)) (hers-common allowTable (rulesOf w) (days w) (block w i)) (upFrom 0 (2 ^ days w)))
 
 -- ---- whether a list has one of hers
 

@@ -16,7 +16,7 @@ use Rattle.numbers.proofs.RangeLaws.{and-parts, range-all, range-each, keep-eac
 use Rattle.fields.specs.Fields.{days, block, longestRun, leastNightsOf, mostNightsOf, markOn}
 use Rattle.fields.specs.Rules.{rulesOf, gap}
 use Rattle.fields.specs.declared.rules.Rules.{Rules}
-use Rattle.rows.specs.Rows.{allows, rowState, marksAllow}
+use Rattle.rows.specs.Rows.{allowTable, allows, rowState, marksAllow}
 use Rattle.nights.specs.Nights.{starts, allowed, runWith, follow, inCommon, commonOf}
 use Rattle.nights.specs.Hers.{shifted, through, twos, lastRun, hers, hersOf, meetsHersOf, nightList}
 use Rattle.nights.specs.NightRule.{runTo, KeepsRule, InCommonList, MeetsHers, NightHers}
@@ -153,10 +153,10 @@ module _ (r : Rules) (some : 1 ≤ r .longest) where
 
 -- ---- hers
 
-marks-when : (b : List ℕ) (n p : ℕ) → (marksAllow b n p ≡ true) ↔ ((d : ℕ) → 1 ≤ d → d ≤ n → allows (markOn b d) (rowState b p d) ≡ true)
+marks-when : (b : List ℕ) (n p : ℕ) → (marksAllow allowTable b n p ≡ true) ↔ ((d : ℕ) → 1 ≤ d → d ≤ n → allows allowTable (markOn b d) (rowState b p d) ≡ true)
 unfolding marksAllow
 marks-when b n p =
-    let t : ℕ → Bool = λ d. allows (markOn b d) (rowState b p d) in
+    let t : ℕ → Bool = λ d. allows allowTable (markOn b d) (rowState b p d) in
     (λ e d l h. range-each t 1 n e d l (omega arith), λ f. range-all t 1 n (λ d l h. f d l (omega arith)))
 
 module _ (w : List ℕ) (p : ℕ) (some : 1 ≤ longestRun w) where
@@ -182,8 +182,8 @@ module _ (w : List ℕ) (p : ℕ) (some : 1 ≤ longestRun w) where
         let n = days w in
         let s = length (starts n p) in (
           λ e.
-              let d = and-parts (follow (rulesOf w) (lastRun b .0) (lastRun b .1) (shifted 7 (starts n p))) (marksAllow b n p && (leb (leastNightsOf b) s && leb s (mostNightsOf b))) e in
-              let m = and-parts (marksAllow b n p) (leb (leastNightsOf b) s && leb s (mostNightsOf b)) (d .1) in
+              let d = and-parts (follow (rulesOf w) (lastRun b .0) (lastRun b .1) (shifted 7 (starts n p))) (marksAllow allowTable b n p && (leb (leastNightsOf b) s && leb s (mostNightsOf b))) e in
+              let m = and-parts (marksAllow allowTable b n p) (leb (leastNightsOf b) s && leb s (mostNightsOf b)) (d .1) in
               let q = and-parts (leb (leastNightsOf b) s) (leb s (mostNightsOf b)) (m .1) in
               record {
                 keeps-on = both-is .0 (d .0);

@@ -6,7 +6,7 @@ use lib.Dec.{leb, ltb, eqb}
 use lib.ListN.{length}
 use Rattle.numbers.specs.Range.{upFrom, keep}
 use Rattle.fields.specs.Fields.{days, block, duty, leastNightsOf, mostNightsOf}
-use Rattle.rows.specs.Rows.{marksAllow}
+use Rattle.rows.specs.Rows.{allowTable, marksAllow}
 use Rattle.fields.specs.declared.rules.Rules.{Rules}
 use Rattle.fields.specs.Rules.{rulesOf}
 use Rattle.nights.specs.Nights.{starts, follow, runWith, inCommon}
@@ -34,24 +34,24 @@ twos b = keep (λ d. eqb (lastDuty b d) 2) (upFrom 1 7)
 unfoldable pub lastRun : List ℕ → ℕ × ℕ
 lastRun b = through 0 0 (twos b)
 
--- It meets what is hers: its starts, with the 2s of her seven days, keep the rule wherever the later start is in the month; her marks allow it;
+-- It meets what is hers, by a table of what each mark allows: its starts, with the 2s of her seven days, keep the rule wherever the later start is in the month; her marks allow it;
 -- and its count is within her bounds.
-abbrev pub meetsHers : Rules → ℕ → List ℕ → ℕ → Bool
-meetsHers r n b p =
+abbrev pub meetsHers : List (List ℕ) → Rules → ℕ → List ℕ → ℕ → Bool
+meetsHers table r n b p =
     follow r (lastRun b .0) (lastRun b .1) (shifted 7 (starts n p))
-    && (marksAllow b n p
+    && (marksAllow table b n p
     && (leb (leastNightsOf b) (length (starts n p)) && leb (length (starts n p)) (mostNightsOf b)))
 
 -- in the common list, and meets what is hers
-unfoldable pub hers : Rules → ℕ → List ℕ → ℕ → Bool
-hers r n b p = ltb p (2 ^ n) && (inCommon r n p && meetsHers r n b p)
+unfoldable pub hers : List (List ℕ) → Rules → ℕ → List ℕ → ℕ → Bool
+hers table r n b p = ltb p (2 ^ n) && (inCommon r n p && meetsHers table r n b p)
 
 -- nurse i's, from 0
 abbrev pub meetsHersOf : List ℕ → ℕ → ℕ → Bool
-meetsHersOf w i p = meetsHers (rulesOf w) (days w) (block w i) p
+meetsHersOf w i p = meetsHers allowTable (rulesOf w) (days w) (block w i) p
 
 abbrev pub hersOf : List ℕ → ℕ → ℕ → Bool
-hersOf w i p = hers (rulesOf w) (days w) (block w i) p
+hersOf w i p = hers allowTable (rulesOf w) (days w) (block w i) p
 
 -- her list, by ascending number
 unfoldable pub nightList : List ℕ → ℕ → List ℕ

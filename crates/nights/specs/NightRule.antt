@@ -9,7 +9,7 @@ use lib.ListN.{length, getD}
 use Rattle.fields.specs.Fields.{days, block, mostNights, leastNightsOf, mostNightsOf, markOn}
 use Rattle.fields.specs.Rules.{rulesOf, gap}
 use Rattle.fields.specs.declared.rules.Rules.{Rules}
-use Rattle.rows.specs.Rows.{allows, rowState}
+use Rattle.rows.specs.Rows.{allowTable, allows, rowState}
 use Rattle.nights.specs.Nights.{starts}
 use Rattle.nights.specs.Hers.{shifted, twos}
 
@@ -37,7 +37,7 @@ pub record MeetsHers (w : List ℕ) (i p : ℕ) : Type 0 where
   -- its starts, with the 2s of her seven days, keep the rule wherever the later start is in the month
   pub keeps-on : KeepsRule (rulesOf w) (length (twos (block w i))) (twos (block w i) ++ shifted 7 (starts (days w) p))
   -- her marks allow it
-  pub marks : (d : ℕ) → 1 ≤ d → d ≤ days w → allows (markOn (block w i) d) (rowState (block w i) p d) ≡ true
+  pub marks : (d : ℕ) → 1 ≤ d → d ≤ days w → allows allowTable (markOn (block w i) d) (rowState (block w i) p d) ≡ true
   -- its count is within her bounds
   pub least-nights : leastNightsOf (block w i) ≤ length (starts (days w) p)
   pub most-nights : length (starts (days w) p) ≤ mostNightsOf (block w i)

@@ -89,20 +89,18 @@ pub fn keeps(r: Rules, from: Run, off: u64, n: u64, p: u32) -> bool
 }
 
 // Whether her marks allow the row that p makes.
-fn marks_allow(b: &[u64], n: u64, p: u32) -> bool
+fn marks_allow(table: &[[u8; 4]; 7], b: &[u64], n: u64, p: u32) -> bool
     requires { ⌜ n ≤ 31 ⌝ }
     requires { ⌜ Block (now b) n ⌝ }
-    ensures { λ r. ⌜ r ≡ marksAllow (now (b .entry)) n p ⌝ }
+    ensures { λ r. ⌜ r ≡ marksAllow (now (table .entry)) (now (b .entry)) n p ⌝ }
 {
-    let mut state = rows::day_zero(b[6]);
-    let mut day: u64 = 0;
-    let mut i: usize = 11;
-    while day < n {
-        state = rows::state_after(state, numbers::has_bit(p, day));
-        let mark = b[i] as usize;
-        if rows::mark_allows(mark, state) {
-            day += 1;
-            i += 1;
+    let days = n as usize;
+    let states = rows::states(b, days, p);
+    let mut d: usize = 0;
+    while d < days {
+        let mark = nurse::mark(b, d) as usize;
+        if rows::mark_allows(table, mark, states[d]) {
+            d += 1;
         } else {
             return false;
         }
@@ -111,11 +109,11 @@ fn marks_allow(b: &[u64], n: u64, p: u32) -> bool
 }
 
 // Whether p is in the list of the nurse with block b.
-fn is_hers_by(r: Rules, n: u64, b: &[u64], p: u32) -> bool
+fn is_hers_by(table: &[[u8; 4]; 7], r: Rules, n: u64, b: &[u64], p: u32) -> bool
     requires { ⌜ Small r ⌝ }
     requires { ⌜ n ≤ 31 ⌝ }
     requires { ⌜ Block (now b) n ⌝ }
-    ensures { λ h. ⌜ h ≡ hers r n (now (b .entry)) p ⌝ }
+    ensures { λ h. ⌜ h ≡ hers (now (table .entry)) r n (now (b .entry)) p ⌝ }
 {
     if numbers::bit(n) <= p {
         return false;
@@ -132,7 +130,7 @@ fn is_hers_by(r: Rules, n: u64, b: &[u64], p: u32) -> bool
     }
     if keeps(r, Run { prev: 0, run: 0 }, 0, n, p) {
         if keeps(r, last_run(b), 7, n, p) {
-            return marks_allow(b, n, p);
+            return marks_allow(table, b, n, p);
         }
     }
     false
@@ -144,8 +142,11 @@ pub fn is_hers(w: &[u64], i: usize, p: u32) -> bool
     requires { ⌜ i < nurses (now w) ⌝ }
     ensures { λ h. ⌜ h ≡ hersOf (now (w .entry)) i p ⌝ }
 {
+    let table = rows::allow_table();
+    let rules = fields::rules::rules_of(w);
     is_hers_by(
-        fields::rules::rules_of(w),
+        &table,
+        rules,
         fields::days(w) as u64,
         fields::block(w, i),
         p,

@@ -1,11 +1,12 @@
 -- A buffer with one list written at its start and another in the part after it, as a lent rest of the buffer comes back.
-use mathlib.Core.Path.{_≡_, ap, subst}
+use mathlib.Core.Path.{_≡_, sym, ap, _∙_, subst}
 use mathlib.Core.List.{List, [], _∷_, _++_, append-nil, append-assoc}
-use Prim.Native.Nat.{ℕ, _+_, _-_, _≤_}
+use Prim.Native.Nat.{ℕ, _+_, _-_, _≤_, _<_}
 use native.Mathlib.Nat.{not-suc-le-zero}
 use native.Mathlib.Omega.{arith}
-use lib.ListN.{length, set, take, drop, length-append, length-drop, drop-of-length-le}
-use lib.Seq.{take-all, take-append-seam, drop-append-seam, drop-drop}
+use native.Mathlib.Decide.{decLt}
+use lib.ListN.{length, getD, set, take, drop, length-append, length-drop, drop-of-length-le}
+use lib.Seq.{getD-set-same, getD-set-other, take-all, take-append-seam, drop-append-seam, drop-drop}
 
 module _ (A buf xs : List ℕ) (low : ℕ) (len : low ≡ length A) (first : xs ≡ A ++ drop (length A) buf) (room : length A ≤ length buf) where
   part-is : take (length xs - low) (drop low xs) ≡ drop (length A) buf
@@ -59,3 +60,14 @@ module _ {L A B buf xs : List ℕ} {low : ℕ} (h : Halves L A B buf) (len : low
 
     pub halves-length : length (take low xs ++ (ys ++ drop (length xs - low) (drop low xs))) ≡ length buf
     halves-length = as-long L buf _ halves-written (h .room)
+
+-- one more place set: the places below it hold f, and then it too
+pub place-turn : (f : ℕ → ℕ) (row : List ℕ) (i v : ℕ) → i < length row → ((t : ℕ) → t < i → getD row t 0 ≡ f t) → v ≡ f i
+    → (t : ℕ) → t < i + 1 → getD (set row i v) t 0 ≡ f t
+place-turn f row i v h below e t l = go (decLt t i)
+  where
+    go : Dec (t < i) → getD (set row i v) t 0 ≡ f t
+    go (yes q) = getD-set-other row i t v 0 (λ s. absurd (omega arith)) ∙ below t q
+    go (no q) =
+        let s : t ≡ i = omega arith in
+        subst (λ (x : ℕ). getD (set row i v) x 0 ≡ f x) (sym s) (getD-set-same row i v 0 h ∙ e)

@@ -20,13 +20,13 @@ use Rattle.numbers.proofs.DigitLaws.{number-lt, number-has, number-suc, number-
 use Rattle.numbers.proofs.SetLaws.{has-and, has-or, has-not, has-first, has-moved, has-back, has-above, none-zero}
 use Rattle.fields.specs.Fields.{days, block, duty, leastNightsOf, mostNightsOf, markOn}
 use Rattle.fields.specs.Rules.{rulesOf}
-use Rattle.rows.specs.Rows.{stateAfter, dayZero, rowState, allows, marksAllow, available, availableOn}
+use Rattle.rows.specs.Rows.{stateAfter, dayZero, rowState, allowTable, allows, marksAllow, available, availableOn}
 use Rattle.fields.specs.declared.rules.Rules.{Rules}
 use Rattle.nights.specs.declared.Run.{Run}
 use Rattle.own.specs.declared.masks.Bars.{Bars}
 use Rattle.own.specs.declared.masks.Masks.{Masks}
 use Rattle.own.specs.declared.masks.Row.{Row}
-use Rattle.own.specs.CodeMasks.{barred, workable, never, near, barsOf, masksOf, Masked, RowOf, AvailableDays}
+use Rattle.own.specs.CodeMasks.{barred, workable, never, near, barsOf, masksBy, masksOf, Masked, RowOf, AvailableDays}
 use Rattle.nights.specs.Nights.{inCommon}
 use Rattle.nights.specs.Hers.{lastRun}
 use Rattle.nights.proofs.FollowLaws.{common-apart}
@@ -40,9 +40,9 @@ pub set-turn : (t : ℕ → Bool) (d s x : ℕ) → s ≡ numberOf t (d + 1) →
 set-turn t d s x e h = rw (e, h) (sym (number-suc t (d + 1) ∙ ap (λ (k : ℕ). numberOf t (d + 1) + cond (t k) (2 ^ (d + 1)) 0) (add-one d)))
 
 -- a day's part of the set of the days that bar a state, and of the workable days
-pub barred-day : (b : List ℕ) (state d : ℕ) {mark x : ℕ} {ok : Bool} → mark ≡ markOn b (suc d) → ok ≡ allows mark state → x ≡ cond (not ok) (2 ^ (d + 1)) 0
-    → x ≡ cond (barred b state (suc d)) (2 ^ (d + 1)) 0
-barred-day b state d em eo ex = ex ∙ ap (λ (v : Bool). cond (not v) (2 ^ (d + 1)) 0) (eo ∙ ap (λ (m : ℕ). allows m state) em)
+pub barred-day : (table : List (List ℕ)) (b : List ℕ) (state d : ℕ) {mark x : ℕ} {ok : Bool} → mark ≡ markOn b (suc d) → ok ≡ allows table mark state → x ≡ cond (not ok) (2 ^ (d + 1)) 0
+    → x ≡ cond (barred table b state (suc d)) (2 ^ (d + 1)) 0
+barred-day table b state d em eo ex = ex ∙ ap (λ (v : Bool). cond (not v) (2 ^ (d + 1)) 0) (eo ∙ ap (λ (m : ℕ). allows table m state) em)
 
 pub workable-day : (b : List ℕ) (d : ℕ) {mark x : ℕ} {ok : Bool} → mark ≡ markOn b (suc d) → ok ≡ available mark 0 → x ≡ cond ok (2 ^ (d + 1)) 0
     → x ≡ cond (workable b (suc d)) (2 ^ (d + 1)) 0
@@ -256,21 +256,21 @@ unfolding availableOn
 available-where b p d = and-comm (workable b (suc d)) (eqb (rowState b p (suc d)) 0)
 
 -- a day's mark allows the row's state there
-allowed-at : (b : List ℕ) (n p : ℕ) → marksAllow b n p ≡ true → (i : ℕ) → i < n → allows (getD b (11 + i) 0) (rowState b p (suc i)) ≡ true
+allowed-at : (table : List (List ℕ)) (b : List ℕ) (n p : ℕ) → marksAllow table b n p ≡ true → (i : ℕ) → i < n → allows table (getD b (11 + i) 0) (rowState b p (suc i)) ≡ true
 unfolding marksAllow
-allowed-at b n p e i q =
-    let at = all-at (λ d. allows (markOn b d) (rowState b p d)) (upFrom 1 n) e i (rw (length-range 1 n) q) in
+allowed-at table b n p e i q =
+    let at = all-at (λ d. allows table (markOn b d) (rowState b p d)) (upFrom 1 n) e i (rw (length-range 1 n) q) in
     let here : getD (upFrom 1 n) i 0 ≡ suc i = range-at 1 n i q ∙ one-add i in
-    subst (λ (d : ℕ). allows (markOn b d) (rowState b p d) ≡ true) here at
+    subst (λ (d : ℕ). allows table (markOn b d) (rowState b p d) ≡ true) here at
 
 -- the days that bar the row, as the code has them
-abbrev barring : ℕ → List ℕ → Row → ℕ
-barring n b x =
+abbrev barring : List (List ℕ) → ℕ → List ℕ → Row → ℕ
+barring table n b x =
     bitOr (bitOr (bitOr
-    (bitAnd ((2 ^ 64 - 1) - bitOr (bitOr (x .night) (x .second)) (x .rest)) (numberOf (barred b 0) (suc n)))
-    (bitAnd (x .night) (numberOf (barred b 1) (suc n))))
-    (bitAnd (x .second) (numberOf (barred b 2) (suc n))))
-    (bitAnd (x .rest) (numberOf (barred b 3) (suc n)))
+    (bitAnd ((2 ^ 64 - 1) - bitOr (bitOr (x .night) (x .second)) (x .rest)) (numberOf (barred table b 0) (suc n)))
+    (bitAnd (x .night) (numberOf (barred table b 1) (suc n))))
+    (bitAnd (x .second) (numberOf (barred table b 2) (suc n))))
+    (bitAnd (x .rest) (numberOf (barred table b 3) (suc n)))
 
 module _ (b : List ℕ) (n p : ℕ) (x : Row) (ok : RowOf b p x) where
   open-day : (d : ℕ) → d < 64 → has ((2 ^ 64 - 1) - bitOr (bitOr (x .night) (x .second)) (x .rest)) d ≡ eqb (rowState b p d) 0
@@ -279,58 +279,59 @@ module _ (b : List ℕ) (n p : ℕ) (x : Row) (ok : RowOf b p x) where
       ∙ ap not (has-or (bitOr (x .night) (x .second)) (x .rest) d ∙ ap₂ _||_ (has-or (x .night) (x .second) d ∙ ap₂ _||_ (ok .night d l) (ok .second d l)) (ok .rest d l))
       ∙ open-is (rowState b p d) (row-small b p d)
 
-  both : (y t d : ℕ) (v : Bool) → has y d ≡ v → has (bitAnd y (numberOf (barred b t) (suc n))) d ≡ (v && has (numberOf (barred b t) (suc n)) d)
-  both y t d v e = has-and y (numberOf (barred b t) (suc n)) d ∙ ap (λ (w : Bool). w && has (numberOf (barred b t) (suc n)) d) e
+  module _ (table : List (List ℕ)) where
+    both : (y t d : ℕ) (v : Bool) → has y d ≡ v → has (bitAnd y (numberOf (barred table b t) (suc n))) d ≡ (v && has (numberOf (barred table b t) (suc n)) d)
+    both y t d v e = has-and y (numberOf (barred table b t) (suc n)) d ∙ ap (λ (w : Bool). w && has (numberOf (barred table b t) (suc n)) d) e
 
-  -- a day bars the row when its mark bars the row's state there
-  barring-has : (d : ℕ) → d < 64 → has (barring n b x) d ≡ has (numberOf (barred b (rowState b p d)) (suc n)) d
-  barring-has d l =
-      let s = rowState b p d in
-      has-or _ _ d
-      ∙ ap₂ _||_
-      (has-or _ _ d ∙ ap₂ _||_
-      (has-or _ _ d ∙ ap₂ _||_ (both _ 0 d (eqb s 0) (open-day d l)) (both _ 1 d (eqb s 1) (ok .night d l)))
-      (both _ 2 d (eqb s 2) (ok .second d l)))
-      (both _ 3 d (eqb s 3) (ok .rest d l))
-      ∙ pick s (λ t. has (numberOf (barred b t) (suc n)) d) (row-small b p d)
+    -- a day bars the row when its mark bars the row's state there
+    barring-has : (d : ℕ) → d < 64 → has (barring table n b x) d ≡ has (numberOf (barred table b (rowState b p d)) (suc n)) d
+    barring-has d l =
+        let s = rowState b p d in
+        has-or _ _ d
+        ∙ ap₂ _||_
+        (has-or _ _ d ∙ ap₂ _||_
+        (has-or _ _ d ∙ ap₂ _||_ (both _ 0 d (eqb s 0) (open-day d l)) (both _ 1 d (eqb s 1) (ok .night d l)))
+        (both _ 2 d (eqb s 2) (ok .second d l)))
+        (both _ 3 d (eqb s 3) (ok .rest d l))
+        ∙ pick s (λ t. has (numberOf (barred table b t) (suc n)) d) (row-small b p d)
 
-  -- none bars it: her marks allow it
-  allowed-there : (e : barring n b x ≡ 0) (i : ℕ) → n ≤ 31 → i < n → allows (getD b (11 + i) 0) (rowState b p (suc i)) ≡ true
-  allowed-there e i small l =
-      not-false (allows (getD b (11 + i) 0) (rowState b p (suc i)))
-      (sym (set-has (barred b (rowState b p (suc i))) n (suc i) (suc-le-suc l))
-      ∙ sym (barring-has (suc i) (omega arith)) ∙ ap (λ (y : ℕ). has y (suc i)) e ∙ has-above 0 0 (suc i) (omega arith) (omega arith))
+    -- none bars it: her marks allow it
+    allowed-there : (e : barring table n b x ≡ 0) (i : ℕ) → n ≤ 31 → i < n → allows table (getD b (11 + i) 0) (rowState b p (suc i)) ≡ true
+    allowed-there e i small l =
+        not-false (allows table (getD b (11 + i) 0) (rowState b p (suc i)))
+        (sym (set-has (barred table b (rowState b p (suc i))) n (suc i) (suc-le-suc l))
+        ∙ sym (barring-has (suc i) (omega arith)) ∙ ap (λ (y : ℕ). has y (suc i)) e ∙ has-above 0 0 (suc i) (omega arith) (omega arith))
 
-  none-bars : n ≤ 31 → barring n b x ≡ 0 → marksAllow b n p ≡ true
-  unfolding marksAllow
-  none-bars small e = all-range (λ d. allows (markOn b d) (rowState b p d)) 1 n (λ i l. rw (one-add i) (allowed-there e i small l))
+    none-bars : n ≤ 31 → barring table n b x ≡ 0 → marksAllow table b n p ≡ true
+    unfolding marksAllow
+    none-bars small e = all-range (λ d. allows table (markOn b d) (rowState b p d)) 1 n (λ i l. rw (one-add i) (allowed-there e i small l))
 
-  -- and where they do, none bars it
-  barred-not : n ≤ 31 → marksAllow b n p ≡ true → (d : ℕ) → d < 64 → has (barring n b x) d ≡ false
-  unfolding marksAllow
-  barred-not small e zero l = barring-has 0 l ∙ set-has (barred b (rowState b p 0)) n 0 (omega arith)
-  barred-not small e (suc i) l = barring-has (suc i) l ∙ go (decLt i n)
-    where
-      go : Dec (i < n) → has (numberOf (barred b (rowState b p (suc i))) (suc n)) (suc i) ≡ false
-      go (yes q) = set-has (barred b (rowState b p (suc i))) n (suc i) (suc-le-suc q) ∙ ap not (allowed-at b n p e i q)
-      go (no q) = set-above (barred b (rowState b p (suc i))) n (suc i) (omega arith)
+    -- and where they do, none bars it
+    barred-not : n ≤ 31 → marksAllow table b n p ≡ true → (d : ℕ) → d < 64 → has (barring table n b x) d ≡ false
+    unfolding marksAllow
+    barred-not small e zero l = barring-has 0 l ∙ set-has (barred table b (rowState b p 0)) n 0 (omega arith)
+    barred-not small e (suc i) l = barring-has (suc i) l ∙ go (decLt i n)
+      where
+        go : Dec (i < n) → has (numberOf (barred table b (rowState b p (suc i))) (suc n)) (suc i) ≡ false
+        go (yes q) = set-has (barred table b (rowState b p (suc i))) n (suc i) (suc-le-suc q) ∙ ap not (allowed-at table b n p e i q)
+        go (no q) = set-above (barred table b (rowState b p (suc i))) n (suc i) (omega arith)
 
-  barring-small : n ≤ 31 → barring n b x < 2 ^ 64
-  barring-small small =
-      or-lt 64 _ _ (or-lt 64 _ _
-      (or-lt 64 _ _ (part ((2 ^ 64 - 1) - bitOr (bitOr (x .night) (x .second)) (x .rest)) 0) (part (x .night) 1))
-      (part (x .second) 2)) (part (x .rest) 3)
-    where
-      part : (y t : ℕ) → bitAnd y (numberOf (barred b t) (suc n)) < 2 ^ 64
-      part y t = omega (arith, and-le-r y (numberOf (barred b t) (suc n)), set-small (barred b t) n small)
+    barring-small : n ≤ 31 → barring table n b x < 2 ^ 64
+    barring-small small =
+        or-lt 64 _ _ (or-lt 64 _ _
+        (or-lt 64 _ _ (part ((2 ^ 64 - 1) - bitOr (bitOr (x .night) (x .second)) (x .rest)) 0) (part (x .night) 1))
+        (part (x .second) 2)) (part (x .rest) 3)
+      where
+        part : (y t : ℕ) → bitAnd y (numberOf (barred table b t) (suc n)) < 2 ^ 64
+        part y t = omega (arith, and-le-r y (numberOf (barred table b t) (suc n)), set-small (barred table b t) n small)
 
-  pub marks-by-sets : n ≤ 31 → eqb (barring n b x) 0 ≡ marksAllow b n p
-  marks-by-sets small = go (eqb (barring n b x) 0) (marksAllow b n p) refl refl
-    where
-      go : (s t : Bool) → eqb (barring n b x) 0 ≡ s → marksAllow b n p ≡ t → eqb (barring n b x) 0 ≡ marksAllow b n p
-      go true t e f = e ∙ sym (none-bars small (eqb-true (barring n b x) 0 e))
-      go false false e f = e ∙ sym f
-      go false true e f = absurd (eqb-false (barring n b x) 0 e (none-zero 64 (barring n b x) (barring-small small) (barred-not small f)))
+    pub marks-by-sets : n ≤ 31 → eqb (barring table n b x) 0 ≡ marksAllow table b n p
+    marks-by-sets small = go (eqb (barring table n b x) 0) (marksAllow table b n p) refl refl
+      where
+        go : (s t : Bool) → eqb (barring table n b x) 0 ≡ s → marksAllow table b n p ≡ t → eqb (barring table n b x) 0 ≡ marksAllow table b n p
+        go true t e f = e ∙ sym (none-bars small (eqb-true (barring table n b x) 0 e))
+        go false false e f = e ∙ sym f
+        go false true e f = absurd (eqb-false (barring table n b x) 0 e (none-zero 64 (barring table n b x) (barring-small small) (barred-not small f)))
 
   -- ---- the days on which she is available
 
@@ -355,13 +356,13 @@ module _ (b : List ℕ) (n p : ℕ) (x : Row) (ok : RowOf b p x) where
 -- ---- days on which no pattern of hers starts
 
 -- the days without a start fit a pattern
-pub never-fits : (n : ℕ) (b : List ℕ) {bs : Bars} → bs ≡ barsOf n b → n ≤ 31 → bitOr (bs .night / 2) (bs .second / 4) < 2 ^ 32
-never-fits n b e small =
+pub never-fits : (table : List (List ℕ)) (n : ℕ) (b : List ℕ) {bs : Bars} → bs ≡ barsOf table n b → n ≤ 31 → bitOr (bs .night / 2) (bs .second / 4) < 2 ^ 32
+never-fits table n b e small =
     rw e
-    (or-lt 32 (numberOf (barred b 1) (suc n) / 2) (numberOf (barred b 2) (suc n) / 4)
-    (omega (arith, set-small (barred b 1) n small)) (omega (arith, set-small (barred b 2) n small)))
+    (or-lt 32 (numberOf (barred table b 1) (suc n) / 2) (numberOf (barred table b 2) (suc n) / 4)
+    (omega (arith, set-small (barred table b 1) n small)) (omega (arith, set-small (barred table b 2) n small)))
 
-module _ (r : Rules) (n p : ℕ) (b : List ℕ) (small : n ≤ 31) (known : inCommon r n p ≡ true) where
+module _ (table : List (List ℕ)) (r : Rules) (n p : ℕ) (b : List ℕ) (small : n ≤ 31) (known : inCommon r n p ≡ true) where
   night-state : (d : ℕ) → has p d ≡ true → rowState b p (suc d) ≡ 1
   unfolding rowState
   night-state d q = rw q
@@ -370,54 +371,54 @@ module _ (r : Rules) (n p : ℕ) (b : List ℕ) (small : n ≤ 31) (known : inCo
   unfolding rowState
   second-state d q s = rw (s, q)
 
-  own-day : marksAllow b n p ≡ true → (d : ℕ) → has p d ≡ true → has (numberOf (barred b 1) (suc n)) (suc d) ≡ false
+  own-day : marksAllow table b n p ≡ true → (d : ℕ) → has p d ≡ true → has (numberOf (barred table b 1) (suc n)) (suc d) ≡ false
   own-day e d q = go (decLt d n)
     where
-      go : Dec (d < n) → has (numberOf (barred b 1) (suc n)) (suc d) ≡ false
+      go : Dec (d < n) → has (numberOf (barred table b 1) (suc n)) (suc d) ≡ false
       go (yes l) =
-          set-has (barred b 1) n (suc d) (suc-le-suc l)
-          ∙ ap not (subst (λ (t : ℕ). allows (getD b (11 + d) 0) t ≡ true) (night-state d q) (allowed-at b n p e d l))
-      go (no l) = set-above (barred b 1) n (suc d) (omega arith)
+          set-has (barred table b 1) n (suc d) (suc-le-suc l)
+          ∙ ap not (subst (λ (t : ℕ). allows table (getD b (11 + d) 0) t ≡ true) (night-state d q) (allowed-at table b n p e d l))
+      go (no l) = set-above (barred table b 1) n (suc d) (omega arith)
 
-  next-day : marksAllow b n p ≡ true → (d : ℕ) → has p d ≡ true → has (numberOf (barred b 2) (suc n)) (suc (suc d)) ≡ false
+  next-day : marksAllow table b n p ≡ true → (d : ℕ) → has p d ≡ true → has (numberOf (barred table b 2) (suc n)) (suc (suc d)) ≡ false
   next-day e d q = go (decLt (suc d) n)
     where
-      go : Dec (suc d < n) → has (numberOf (barred b 2) (suc n)) (suc (suc d)) ≡ false
+      go : Dec (suc d < n) → has (numberOf (barred table b 2) (suc n)) (suc (suc d)) ≡ false
       go (yes l) =
-          set-has (barred b 2) n (suc (suc d)) (suc-le-suc l)
-          ∙ ap not (subst (λ (t : ℕ). allows (getD b (11 + suc d) 0) t ≡ true) (second-state d q (common-apart r n p d known q l)) (allowed-at b n p e (suc d) l))
-      go (no l) = set-above (barred b 2) n (suc (suc d)) (omega arith)
+          set-has (barred table b 2) n (suc (suc d)) (suc-le-suc l)
+          ∙ ap not (subst (λ (t : ℕ). allows table (getD b (11 + suc d) 0) t ≡ true) (second-state d q (common-apart r n p d known q l)) (allowed-at table b n p e (suc d) l))
+      go (no l) = set-above (barred table b 2) n (suc (suc d)) (omega arith)
 
-  never-has : (d : ℕ) → has (never n b) d ≡ (has (numberOf (barred b 1) (suc n)) (suc d) || has (numberOf (barred b 2) (suc n)) (suc (suc d)))
+  never-has : (d : ℕ) → has (never table n b) d ≡ (has (numberOf (barred table b 1) (suc n)) (suc d) || has (numberOf (barred table b 2) (suc n)) (suc (suc d)))
   never-has d =
-      let Y = numberOf (barred b 2) (suc n) in
+      let Y = numberOf (barred table b 2) (suc n) in
       let quarter : Y / 4 ≡ Y / 2 / 2 = omega arith in
-      has-or (numberOf (barred b 1) (suc n) / 2) (Y / 4) d
-      ∙ ap₂ _||_ (has-back (numberOf (barred b 1) (suc n)) d) (ap (λ (y : ℕ). has y d) quarter ∙ has-back (Y / 2) d ∙ has-back Y (suc d))
+      has-or (numberOf (barred table b 1) (suc n) / 2) (Y / 4) d
+      ∙ ap₂ _||_ (has-back (numberOf (barred table b 1) (suc n)) d) (ap (λ (y : ℕ). has y d) quarter ∙ has-back (Y / 2) d ∙ has-back Y (suc d))
 
-  unbarred : marksAllow b n p ≡ true → (d : ℕ) → (has p d && has (never n b) d) ≡ false
+  unbarred : marksAllow table b n p ≡ true → (d : ℕ) → (has p d && has (never table n b) d) ≡ false
   unbarred e d = go (has p d) refl
     where
-      go : (t : Bool) → has p d ≡ t → (has p d && has (never n b) d) ≡ false
+      go : (t : Bool) → has p d ≡ t → (has p d && has (never table n b) d) ≡ false
       go true q = rw (q, never-has d, own-day e d q, next-day e d q)
       go false q = rw q
 
-  never-small : bitAnd p (never n b) < 2 ^ 32
+  never-small : bitAnd p (never table n b) < 2 ^ 32
   never-small =
-      lt-of-le-of-lt (and-le-r p (never n b)) (never-fits n b refl small)
+      lt-of-le-of-lt (and-le-r p (never table n b)) (never-fits table n b refl small)
 
-  pub marks-never : (bitAnd p (never n b) ≡ 0 → ⊥) → marksAllow b n p ≡ false
-  marks-never f = go (marksAllow b n p) refl
+  pub marks-never : (bitAnd p (never table n b) ≡ 0 → ⊥) → marksAllow table b n p ≡ false
+  marks-never f = go (marksAllow table b n p) refl
     where
-      go : (t : Bool) → marksAllow b n p ≡ t → marksAllow b n p ≡ false
-      go true e = absurd (f (none-zero 32 (bitAnd p (never n b)) never-small (λ d l. has-and p (never n b) d ∙ unbarred e d)))
+      go : (t : Bool) → marksAllow table b n p ≡ t → marksAllow table b n p ≡ false
+      go true e = absurd (f (none-zero 32 (bitAnd p (never table n b)) never-small (λ d l. has-and p (never table n b) d ∙ unbarred e d)))
       go false e = e
 
 -- ---- the same of a nurse's masks
 
 module _ (r : Rules) (n p : ℕ) (b : List ℕ) (m : Masks) (is : m ≡ masksOf r n b) where
   pub masks-row : (x : Row) → (m .night ≡ oneIf (eqb (duty b 6) 2) → m .second ≡ oneIf (eqb (duty b 6) 3) → RowOf b p x) → RowOf b p x
-  unfolding masksOf
+  unfolding masksBy
   masks-row x f = f (ap (λ (k : Masks). k .night) is) (ap (λ (k : Masks). k .second) is)
 
   pub masks-allow : n ≤ 31 → (x : Row) → RowOf b p x
@@ -425,22 +426,22 @@ module _ (r : Rules) (n p : ℕ) (b : List ℕ) (m : Masks) (is : m ≡ masksOf 
       (bitAnd ((2 ^ 64 - 1) - bitOr (bitOr (x .night) (x .second)) (x .rest)) (m .bars .free))
       (bitAnd (x .night) (m .bars .night)))
       (bitAnd (x .second) (m .bars .second)))
-      (bitAnd (x .rest) (m .bars .rest))) 0 ≡ marksAllow b n p
-  unfolding masksOf
-  masks-allow small x ok = rw (ap (λ (k : Masks). k .bars) is) (marks-by-sets b n p x ok small)
+      (bitAnd (x .rest) (m .bars .rest))) 0 ≡ marksAllow allowTable b n p
+  unfolding masksBy
+  masks-allow small x ok = rw (ap (λ (k : Masks). k .bars) is) (marks-by-sets b n p x ok allowTable small)
 
   pub masks-available : n ≤ 31 → (x : Row) → RowOf b p x
       → AvailableDays b n p (bitAnd (m .workable) ((2 ^ 64 - 1) - bitOr (bitOr (x .night) (x .second)) (x .rest)) / 2)
-  unfolding masksOf
+  unfolding masksBy
   masks-available small x ok = rw (ap (λ (k : Masks). k .workable) is) (available-by-sets b n p x ok small)
 
 -- ---- a nurse's masks, made of their parts
 
-module _ (r : Rules) (n : ℕ) (b : List ℕ) (bs : Bars) (wk ni se ne lo hi : ℕ) (la : Run)
-    (e1 : bs ≡ barsOf n b) (e2 : wk ≡ numberOf (workable b) (suc n)) (e3 : ni ≡ oneIf (eqb (duty b 6) 2)) (e4 : se ≡ oneIf (eqb (duty b 6) 3)) (e8 : lo ≡ leastNightsOf b) (e9 : hi ≡ mostNightsOf b) where
+module _ (table : List (List ℕ)) (r : Rules) (n : ℕ) (b : List ℕ) (bs : Bars) (wk ni se ne lo hi : ℕ) (la : Run)
+    (e1 : bs ≡ barsOf table n b) (e2 : wk ≡ numberOf (workable b) (suc n)) (e3 : ni ≡ oneIf (eqb (duty b 6) 2)) (e4 : se ≡ oneIf (eqb (duty b 6) 3)) (e8 : lo ≡ leastNightsOf b) (e9 : hi ≡ mostNightsOf b) where
   pub masks-made : ne ≡ 2 ^ near r (la .prev) (la .run) - 1 → (la .prev ≡ lastRun b .0) × (la .run ≡ lastRun b .1)
-      → record { bars = bs; never = bitOr (bs .night / 2) (bs .second / 4); workable = wk; night = ni; second = se; near = ne; last = la; least = lo; most = hi } ≡ masksOf r n b
-  unfolding masksOf
+      → record { bars = bs; never = bitOr (bs .night / 2) (bs .second / 4); workable = wk; night = ni; second = se; near = ne; last = la; least = lo; most = hi } ≡ masksBy table r n b
+  unfolding masksBy
   masks-made e5 (e6, e7) =
       let run : la ≡ record { prev = lastRun b .0; run = lastRun b .1 } = ap₂ (λ (x y : ℕ). record { prev = x; run = y }) e6 e7 in
       let days : ne ≡ 2 ^ near r (lastRun b .0) (lastRun b .1) - 1 = e5 ∙ ap₂ (λ (x y : ℕ). 2 ^ near r x y - 1) e6 e7 in
@@ -456,6 +457,7 @@ module _ (r : Rules) (n : ℕ) (b : List ℕ) (bs : Bars) (wk ni se ne lo hi : �
     run = k;
   }
 
--- the masks of rules, days and block as calls give them
-pub masks-as : (w : List ℕ) (i : ℕ) {r : Rules} {n : ℕ} {b : List ℕ} → r ≡ rulesOf w → n ≡ days w → b ≡ block w i → masksOf r n b ≡ masksOf (rulesOf w) (days w) (block w i)
-masks-as w i er en eb = λ j. masksOf (er j) (en j) (eb j)
+-- the masks of a table, rules, days and a block as calls give them
+pub masks-as : (w : List ℕ) (i : ℕ) {table : List (List ℕ)} {r : Rules} {n : ℕ} {b : List ℕ} → table ≡ allowTable → r ≡ rulesOf w → n ≡ days w → b ≡ block w i
+    → masksBy table r n b ≡ masksOf (rulesOf w) (days w) (block w i)
+masks-as w i et er en eb = λ j. masksBy (et j) (er j) (en j) (eb j)

@@ -15,14 +15,14 @@ use Rattle.numbers.specs.Sum.{countTo}
 use Rattle.numbers.specs.Digits.{has}
 use Rattle.numbers.proofs.RangeLaws.{keep-passes, and-parts, tests-alike}
 use Rattle.numbers.proofs.SetLaws.{has-and, has-not, has-above}
-use Rattle.rows.specs.Rows.{started, marksAllow}
+use Rattle.rows.specs.Rows.{started, allowTable, marksAllow}
 use Rattle.fields.specs.Fields.{leastNightsOf, mostNightsOf}
 use Rattle.fields.specs.declared.rules.Rules.{Rules}
 use Rattle.fields.specs.Rules.{gap}
 use Rattle.nights.specs.Nights.{starts, follow, allowed, runWith, inCommon}
 use Rattle.nights.specs.Hers.{shifted, lastRun, hers}
 use Rattle.own.specs.declared.masks.Masks.{Masks}
-use Rattle.own.specs.CodeMasks.{near, masksOf}
+use Rattle.own.specs.CodeMasks.{near, masksBy, masksOf}
 use Rattle.nights.proofs.FollowLaws.{leb-same, follow-first}
 use Rattle.own.proofs.MaskLaws.{marks-never}
 use Rattle.nights.proofs.StartLaws.{count-starts}
@@ -122,9 +122,9 @@ far-alone r prev run n p e = go (starts n p) refl
 -- ---- hers, of a pattern of the common list
 
 pub hers-known : (r : Rules) (n p : ℕ) (b : List ℕ) → p < 2 ^ n → inCommon r n p ≡ true
-    → hers r n b p
+    → hers allowTable r n b p
     ≡ (follow r (lastRun b .0) (lastRun b .1) (shifted 7 (starts n p))
-    && (marksAllow b n p
+    && (marksAllow allowTable b n p
     && (leb (leastNightsOf b) (length (starts n p)) && leb (length (starts n p)) (mostNightsOf b))))
 unfolding hers
 hers-known r n p b h e = rw (lt-ltb p (2 ^ n) h, e)
@@ -144,29 +144,29 @@ near-some r prev run g f e = rw (ne-eqb run 0 f, e)
 -- ---- the ways out of the fast test
 
 module _ (r : Rules) (n p : ℕ) (b : List ℕ) (m : Masks) (is : m ≡ masksOf r n b) (small : p < 2 ^ n) (known : inCommon r n p ≡ true) where
-  pub out-marks : marksAllow b n p ≡ false → false ≡ hers r n b p
+  pub out-marks : marksAllow allowTable b n p ≡ false → false ≡ hers allowTable r n b p
   out-marks e = sym (hers-known r n p b small known ∙ simp (e, and-false))
 
-  pub out-never : n ≤ 31 → (bitAnd p (m .never) ≡ 0 → ⊥) → false ≡ hers r n b p
-  unfolding masksOf
-  out-never days f = out-marks (marks-never r n p b days known (λ q. f (ap (λ (x : Masks). bitAnd p (x .never)) is ∙ q)))
+  pub out-never : n ≤ 31 → (bitAnd p (m .never) ≡ 0 → ⊥) → false ≡ hers allowTable r n b p
+  unfolding masksBy
+  out-never days f = out-marks (marks-never allowTable r n p b days known (λ q. f (ap (λ (x : Masks). bitAnd p (x .never)) is ∙ q)))
 
-  pub out-few : (k : ℕ) → k ≡ countTo n (has p) → k < m .least → false ≡ hers r n b p
-  unfolding masksOf
+  pub out-few : (k : ℕ) → k ≡ countTo n (has p) → k < m .least → false ≡ hers allowTable r n b p
+  unfolding masksBy
   out-few k e l =
       let few : length (starts n p) < leastNightsOf b = omega (arith, count-starts n p, e, ap (λ (x : Masks). x .least) is) in
       sym (hers-known r n p b small known ∙ simp (lt-leb (leastNightsOf b) (length (starts n p)) few, and-false))
 
-  pub out-many : (k : ℕ) → k ≡ countTo n (has p) → m .most < k → false ≡ hers r n b p
-  unfolding masksOf
+  pub out-many : (k : ℕ) → k ≡ countTo n (has p) → m .most < k → false ≡ hers allowTable r n b p
+  unfolding masksBy
   out-many k e l =
       let many : mostNightsOf b < length (starts n p) = omega (arith, count-starts n p, e, ap (λ (x : Masks). x .most) is) in
       sym (hers-known r n p b small known ∙ simp (lt-leb (length (starts n p)) (mostNightsOf b) many, and-false))
 
   -- her marks and bounds hold: last month's run decides
-  pub by-run : (k : ℕ) → marksAllow b n p ≡ true → k ≡ countTo n (has p) → m .least ≤ k → k ≤ m .most
-      → follow r (m .last .prev) (m .last .run) (shifted 7 (starts n p)) ≡ hers r n b p
-  unfolding masksOf
+  pub by-run : (k : ℕ) → marksAllow allowTable b n p ≡ true → k ≡ countTo n (has p) → m .least ≤ k → k ≤ m .most
+      → follow r (m .last .prev) (m .last .run) (shifted 7 (starts n p)) ≡ hers allowTable r n b p
+  unfolding masksBy
   by-run k a e l h =
       let least : leastNightsOf b ≤ length (starts n p) = omega (arith, count-starts n p, e, ap (λ (x : Masks). x .least) is) in
       let most : length (starts n p) ≤ mostNightsOf b = omega (arith, count-starts n p, e, ap (λ (x : Masks). x .most) is) in
@@ -175,7 +175,7 @@ module _ (r : Rules) (n p : ℕ) (b : List ℕ) (m : Masks) (is : m ≡ masksOf 
 
   -- no start is near to it
   pub by-distance : bitAnd p (m .near) ≡ 0 → true ≡ follow r (m .last .prev) (m .last .run) (shifted 7 (starts n p))
-  unfolding masksOf
+  unfolding masksBy
   by-distance e =
       let apart : bitAnd p (2 ^ near r (lastRun b .0) (lastRun b .1) - 1) ≡ 0 = ap (λ (x : Masks). bitAnd p (x .near)) (sym is) ∙ e in
       sym (ap₂ (λ (u v : ℕ). follow r u v (shifted 7 (starts n p))) (ap (λ (x : Masks). x .last .prev) is) (ap (λ (x : Masks). x .last .run) is)

@@ -8,7 +8,7 @@ use lib.Dec.{eqb}
 use Rattle.numbers.specs.Sum.{oneIf}
 use Rattle.numbers.specs.Digits.{has, numberOf}
 use Rattle.fields.specs.Fields.{duty, leastNightsOf, mostNightsOf, markOn}
-use Rattle.rows.specs.Rows.{allows, available, availableOn, rowState}
+use Rattle.rows.specs.Rows.{allowTable, allows, available, availableOn, rowState}
 use Rattle.fields.specs.declared.rules.Rules.{Rules}
 use Rattle.own.specs.declared.masks.Bars.{Bars}
 use Rattle.own.specs.declared.masks.Masks.{Masks}
@@ -16,10 +16,10 @@ use Rattle.own.specs.declared.masks.Row.{Row}
 use Rattle.fields.specs.Rules.{gap}
 use Rattle.nights.specs.Hers.{lastRun}
 
--- her mark of day d bars the state
-abbrev pub barred : List ℕ → ℕ → ℕ → Bool
-barred b state zero = false
-barred b state (suc d) = not (allows (markOn b (suc d)) state)
+-- her mark of day d bars the state, by a table of what each mark allows
+abbrev pub barred : List (List ℕ) → List ℕ → ℕ → ℕ → Bool
+barred table b state zero = false
+barred table b state (suc d) = not (allows table (markOn b (suc d)) state)
 
 -- her mark of day d lets her work it where it is open
 abbrev pub workable : List ℕ → ℕ → Bool
@@ -27,25 +27,25 @@ workable b zero = false
 workable b (suc d) = available (markOn b (suc d)) 0
 
 -- the days, from 0, on which a pattern of the common list may not start: its own mark bars N, or the next day's bars n
-abbrev pub never : ℕ → List ℕ → ℕ
-never n b = bitOr (numberOf (barred b 1) (suc n) / 2) (numberOf (barred b 2) (suc n) / 4)
+abbrev pub never : List (List ℕ) → ℕ → List ℕ → ℕ
+never table n b = bitOr (numberOf (barred table b 1) (suc n) / 2) (numberOf (barred table b 2) (suc n) / 4)
 
 -- how many of the month's first days are near to last month's run: a start after them is a new run, and far enough from it
 abbrev pub near : Rules → ℕ → ℕ → ℕ
 near r prev run = cond (eqb run 0) 0 (prev + gap r run - 5)
 
-abbrev pub barsOf : ℕ → List ℕ → Bars
-barsOf n b = record {
-  free = numberOf (barred b 0) (suc n);
-  night = numberOf (barred b 1) (suc n);
-  second = numberOf (barred b 2) (suc n);
-  rest = numberOf (barred b 3) (suc n);
+abbrev pub barsOf : List (List ℕ) → ℕ → List ℕ → Bars
+barsOf table n b = record {
+  free = numberOf (barred table b 0) (suc n);
+  night = numberOf (barred table b 1) (suc n);
+  second = numberOf (barred table b 2) (suc n);
+  rest = numberOf (barred table b 3) (suc n);
 }
 
-unfoldable pub masksOf : Rules → ℕ → List ℕ → Masks
-masksOf r n b = record {
-  bars = barsOf n b;
-  never = never n b;
+unfoldable pub masksBy : List (List ℕ) → Rules → ℕ → List ℕ → Masks
+masksBy table r n b = record {
+  bars = barsOf table n b;
+  never = never table n b;
   workable = numberOf (workable b) (suc n);
   night = oneIf (eqb (duty b 6) 2);
   second = oneIf (eqb (duty b 6) 3);
@@ -54,6 +54,10 @@ masksOf r n b = record {
   least = leastNightsOf b;
   most = mostNightsOf b;
 }
+
+-- by document 01's table
+abbrev pub masksOf : Rules → ℕ → List ℕ → Masks
+masksOf r n b = masksBy allowTable r n b
 
 -- what code leans on: digits of 0 or 1, days within the month, and a run of the seven days
 pub record Masked (m : Masks) : Type 0 where

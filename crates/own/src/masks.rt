@@ -11,13 +11,13 @@ ghost use lib.Dec.{eqb};
 ghost use Rattle.numbers.specs.Digits.{numberOf};
 ghost use Rattle.numbers.specs.Sum.{oneIf};
 ghost use Rattle.fields.specs.Fields.{Accepted, Block, nurses, days, block, duty};
-ghost use Rattle.rows.specs.Rows.{marksAllow};
+ghost use Rattle.rows.specs.Rows.{allowTable, marksAllow};
 ghost use Rattle.fields.specs.Rules.{rulesOf};
 ghost use Rattle.fields.specs.CodeRules.{Small};
 ghost use Rattle.nights.specs.Nights.{inCommon};
 ghost use Rattle.nights.specs.Hers.{hersOf};
 ghost use Rattle.fields.specs.declared.rules.Rules.{Rules};
-ghost use Rattle.own.specs.CodeMasks.{barred, workable, near, barsOf, masksOf, Masked, RowOf, AvailableDays};
+ghost use Rattle.own.specs.CodeMasks.{barred, workable, near, barsOf, masksBy, masksOf, Masked, RowOf, AvailableDays};
 
 // The days whose marks bar O, N, n and R.
 pub struct Bars {
@@ -62,18 +62,18 @@ fn wide(x: u32) -> u64
 }
 
 // The days of the month whose marks bar a state.
-fn barred_days(b: &[u64], n: u64, state: usize) -> u64
+fn barred_days(table: &[[u8; 4]; 7], b: &[u64], n: u64, state: usize) -> u64
     requires { ⌜ n ≤ 31 ⌝ }
     requires { ⌜ Block (now b) n ⌝ }
     requires { ⌜ state < 4 ⌝ }
-    ensures { λ r. ⌜ r ≡ numberOf (barred (now (b .entry)) state) (suc n) ⌝ }
+    ensures { λ r. ⌜ r ≡ numberOf (barred (now (table .entry)) (now (b .entry)) state) (suc n) ⌝ }
 {
     let mut set: u64 = 0;
     let mut day: u64 = 0;
     while day < n {
         let mark = nurse::mark(b, day as usize) as usize;
         day += 1;
-        set += day_if(!rows::mark_allows(mark, state), day);
+        set += day_if(!rows::mark_allows(table, mark, state), day);
     }
     set
 }
@@ -94,16 +94,16 @@ fn workable_days(b: &[u64], n: u64) -> u64
     set
 }
 
-fn bars_of(b: &[u64], n: u64) -> Bars
+fn bars_of(table: &[[u8; 4]; 7], b: &[u64], n: u64) -> Bars
     requires { ⌜ n ≤ 31 ⌝ }
     requires { ⌜ Block (now b) n ⌝ }
-    ensures { λ r. ⌜ r ≡ barsOf n (now (b .entry)) ⌝ }
+    ensures { λ r. ⌜ r ≡ barsOf (now (table .entry)) n (now (b .entry)) ⌝ }
 {
     Bars {
-        free: barred_days(b, n, 0),
-        night: barred_days(b, n, 1),
-        second: barred_days(b, n, 2),
-        rest: barred_days(b, n, 3),
+        free: barred_days(table, b, n, 0),
+        night: barred_days(table, b, n, 1),
+        second: barred_days(table, b, n, 2),
+        rest: barred_days(table, b, n, 3),
     }
 }
 
@@ -125,14 +125,14 @@ fn near_days(r: Rules, prev: u64, run: u64) -> u64
 }
 
 // The masks of the nurse with block b.
-fn masks_by(r: Rules, n: u64, b: &[u64]) -> Masks
+fn masks_by(table: &[[u8; 4]; 7], r: Rules, n: u64, b: &[u64]) -> Masks
     requires { ⌜ Small r ⌝ }
     requires { ⌜ n ≤ 31 ⌝ }
     requires { ⌜ Block (now b) n ⌝ }
-    ensures is { λ m. ⌜ m ≡ masksOf r n (now (b .entry)) ⌝ }
+    ensures is { λ m. ⌜ m ≡ masksBy (now (table .entry)) r n (now (b .entry)) ⌝ }
     ensures small { λ m. ⌜ Masked m ⌝ }
 {
-    let bars = bars_of(b, n);
+    let bars = bars_of(table, b, n);
     let last = nights::last_run(b);
     let near = numbers::bit(near_days(r, last.prev, last.run)) - 1;
     let never = ((bars.night / 2) | (bars.second / 4)) as u32;
@@ -156,11 +156,9 @@ pub fn masks_of(w: &[u64], i: usize) -> Masks
     ensures is { λ m. ⌜ m ≡ masksOf (rulesOf (now (w .entry))) (days (now (w .entry))) (block (now (w .entry)) i) ⌝ }
     ensures small { λ m. ⌜ Masked m ⌝ }
 {
-    masks_by(
-        fields::rules::rules_of(w),
-        fields::days(w) as u64,
-        fields::block(w, i),
-    )
+    let table = rows::allow_table();
+    let rules = fields::rules::rules_of(w);
+    masks_by(&table, rules, fields::days(w) as u64, fields::block(w, i))
 }
 
 // The days of a row, day 0 with them: N, n and R.
@@ -188,7 +186,7 @@ fn row_of(m: Masks, p: u32) -> Row
 // Whether her marks allow the row of p.
 fn marks_pass(m: Masks, p: u32) -> bool
     requires { ⌜ Masked m ⌝ }
-    ensures { λ h. ⌜ ((r : Rules) (n : ℕ) (b : List ℕ) → n ≤ 31 → m ≡ masksOf r n b → h ≡ marksAllow b n p) ⌝ }
+    ensures { λ h. ⌜ ((r : Rules) (n : ℕ) (b : List ℕ) → n ≤ 31 → m ≡ masksOf r n b → h ≡ marksAllow allowTable b n p) ⌝ }
 {
     let row = row_of(m, p);
     let free = !(row.night | row.second | row.rest);

@@ -1,27 +1,12 @@
--- What an accepted ward says of the numbers that the penalty reads: where they stand, and how large they are.
+-- What an accepted ward says of the numbers that the penalty reads: how many they are, and how large.
 use mathlib.Core.Path.{_≡_}
 use mathlib.Core.List.{List}
-use Prim.Native.Nat.{ℕ, _+_, _-_, _*_, _≤_, _<_}
-use native.Mathlib.Nat.{mul-le-mul}
+use Prim.Native.Nat.{ℕ, _+_, _*_, _<_}
 use native.Mathlib.Omega.{arith}
-use lib.ListN.{length, drop, length-drop}
-use lib.Seq.{length-take-le}
-use Rattle.fields.specs.Fields.{Accepted, nurses, days, groups, groupsAt, memberSets, needsAt, needsSize, needs}
+use Rattle.fields.specs.Fields.{Accepted, days, memberSets, needs}
 use Rattle.fields.proofs.FieldLaws.{length-member-sets, length-needs}
 use Rattle.penalty.specs.declared.duty.Weights.{Weights}
 use Rattle.penalty.specs.CodeCounts.{weightsOf, noHigh, Light, DayNeeds}
-
--- products of the header's numbers
-pub groups-product : {w : List ℕ} → Accepted w → nurses w * (11 + days w) ≤ 2016
-groups-product {w} a =
-    let h : 11 + days w ≤ 42 = omega (arith, a .days-most) in
-    mul-le-mul (a .nurses-most) h
-
-pub needs-product : {w : List ℕ} {d : ℕ} → Accepted w → d < days w → d * needsSize w ≤ 2046
-needs-product {w} {d} a h =
-    let p : d ≤ 31 = omega (arith, a .days-most) in
-    let q : needsSize w ≤ 66 = omega (arith, a .groups-most) in
-    mul-le-mul p q
 
 module _ (w : List ℕ) (a : Accepted w) where
   pub needs-are : (d : ℕ) → d < days w → DayNeeds (memberSets w) (needs w d)

@@ -103,17 +103,17 @@ module _ (b : List ℕ) (n : ℕ) (roster : List ℕ) (at p q : ℕ) where
   row-start = rw (sub-zero n)
 
   module _ (d : ℕ) {W : Bool} (w : W ≡ rowFrom d) where
-    pub row-more : {duty l : ℕ} → d < n → duty ≡ dutyOn b p q (suc d) → l ≡ letter duty → getD roster (at + d) 0 ≡ l → W ≡ rowFrom (d + 1)
+    pub row-more : {l : ℕ} → d < n → l ≡ letter (dutyOn b p q (suc d)) → getD roster (at + d) 0 ≡ l → W ≡ rowFrom (d + 1)
     unfolding rowFrom
-    row-more h u l e =
+    row-more h l e =
         all-more (λ x. eqb (getD roster (at + x) 0) (letter (dutyOn b p q (suc x)))) n d w h
-        (eq-eqb (getD roster (at + d) 0) (letter (dutyOn b p q (suc d))) (e ∙ l ∙ ap letter u))
+        (eq-eqb (getD roster (at + d) 0) (letter (dutyOn b p q (suc d))) (e ∙ l))
 
-    pub row-stop : {duty l : ℕ} → d < n → duty ≡ dutyOn b p q (suc d) → l ≡ letter duty → (getD roster (at + d) 0 ≡ l → ⊥) → false ≡ W
+    pub row-stop : {l : ℕ} → d < n → l ≡ letter (dutyOn b p q (suc d)) → (getD roster (at + d) 0 ≡ l → ⊥) → false ≡ W
     unfolding rowFrom
-    row-stop h u l e =
+    row-stop h l e =
         all-stop (λ x. eqb (getD roster (at + x) 0) (letter (dutyOn b p q (suc x)))) n d w h
-        (ne-eqb (getD roster (at + d) 0) (letter (dutyOn b p q (suc d))) (λ s. e (s ∙ sym (l ∙ ap letter u))))
+        (ne-eqb (getD roster (at + d) 0) (letter (dutyOn b p q (suc d))) (λ s. e (s ∙ sym l)))
 
     pub row-end : n ≤ d → true ≡ W
     unfolding rowFrom

@@ -36,14 +36,11 @@ fn same_row(b: &[u64], n: u64, roster: &[u8], at: usize, p: u32, q: u32) -> bool
     requires { ⌜ (n ≤ 31) × Block (now b) n × (at + n ≤ length (now roster)) ⌝ }
     ensures { λ r. ⌜ r ≡ sameRow (now (b .entry)) n (now (roster .entry)) at p q ⌝ }
 {
-    let mut state = rows::day_zero(b[6]);
+    let row = letters::written::row_letters(b, n as usize, p, q);
     let mut d: u64 = 0;
     while d < n {
         let k = d as usize;
-        state = rows::state_after(state, numbers::has_bit(p, d));
-        let duty = rows::duty_of(b[11 + k], state, numbers::has_bit(q, d));
-        let letter = letters::letter_of(duty as usize);
-        if roster[at + k] == letter {
+        if roster[at + k] == row[k] {
             d += 1;
         } else {
             return false;

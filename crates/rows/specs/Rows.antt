@@ -40,13 +40,14 @@ allowTable =
     ∷ (1 ∷ 1 ∷ 1 ∷ 1 ∷ [])
     ∷ []
 
-abbrev pub allows : ℕ → ℕ → Bool
-allows mark state = eqb (getD (getD allowTable mark []) state 0) 1
+-- a mark allows a state, by a table of that form
+abbrev pub allows : List (List ℕ) → ℕ → ℕ → Bool
+allows table mark state = eqb (getD (getD table mark []) state 0) 1
 
 -- her marks allow the row of p in a month of n days
-unfoldable pub marksAllow : List ℕ → ℕ → ℕ → Bool
+unfoldable pub marksAllow : List (List ℕ) → List ℕ → ℕ → ℕ → Bool
 unfolding rowState
-marksAllow b n p = all (λ d. allows (markOn b d) (rowState b p d)) (upFrom 1 n)
+marksAllow table b n p = all (λ d. allows table (markOn b d) (rowState b p d)) (upFrom 1 n)
 
 -- she is available on open days marked 0, 2 or 5
 abbrev pub available : ℕ → ℕ → Bool

@@ -1,7 +1,9 @@
 // A nurse's row, day by day: its state, what a mark allows, availability, and the duty.
+use fields::nurse;
 ghost use mathlib.Core.Path.{_≡_};
-ghost use Prim.Native.Nat.{_<_};
-ghost use Rattle.rows.specs.Rows.{allows, stateAfter, dayZero, available, dutyOf};
+ghost use Prim.Native.Nat.{ℕ, suc, _≤_, _<_};
+ghost use lib.ListN.{length, getD};
+ghost use Rattle.rows.specs.Rows.{allowTable, allows, stateAfter, dayZero, rowState, available, dutyOf};
 
 // What each mark allows, by the day's state: O, N, n, R.
 const ALLOWS: [[u8; 4]; 7] = [
@@ -14,12 +16,19 @@ const ALLOWS: [[u8; 4]; 7] = [
     [1, 1, 1, 1],
 ];
 
-pub fn mark_allows(mark: usize, state: usize) -> bool
-    requires { ⌜ mark < 7 ⌝ }
-    requires { ⌜ state < 4 ⌝ }
-    ensures { λ b. ⌜ b ≡ allows mark state ⌝ }
+// Document 01's table.
+pub fn allow_table() -> [[u8; 4]; 7]
+    ensures { λ t. ⌜ t ≡ allowTable ⌝ }
 {
-    ALLOWS[mark][state] == 1
+    ALLOWS
+}
+
+// By a table of that form.
+pub fn mark_allows(table: &[[u8; 4]; 7], mark: usize, state: usize) -> bool
+    requires { ⌜ (mark < 7) × (state < 4) ⌝ }
+    ensures { λ b. ⌜ b ≡ allows (now (table .entry)) mark state ⌝ }
+{
+    table[mark][state] == 1
 }
 
 // The state of a day after that of the day before.
@@ -51,6 +60,23 @@ pub fn day_zero(duty: u64) -> usize
         return 2;
     }
     0
+}
+
+// The state of every day of a month of n days under night pattern p, and 0 after them.
+pub fn states(b: &[u64], n: usize, p: u32) -> [usize; 31]
+    requires { ⌜ (n ≤ 31) × (7 ≤ length (now b)) ⌝ }
+    ensures are { λ r. ⌜ ((d : ℕ) → d < n → getD r d 0 ≡ rowState (now (b .entry)) p (suc d)) ⌝ }
+    ensures small { λ r. ⌜ ((d : ℕ) → d < n → getD r d 0 < 4) ⌝ }
+{
+    let mut states = [0usize; 31];
+    let mut state = day_zero(nurse::last_duty(b));
+    let mut d: usize = 0;
+    while d < n {
+        state = state_after(state, numbers::has_bit(p, d as u64));
+        states[d] = state;
+        d = d + 1;
+    }
+    states
 }
 
 // Open days marked 0, 2 or 5.

@@ -4,10 +4,6 @@ use Rattle.fields.specs.Fields.{memberSets}
 use borrow.Author.Needs.{needs}
 use Rattle.fields.proofs.member_sets.Statement.{statement}
 use Rattle.fields.proofs.member_sets.Tie as tie
-use Rattle.fields.proofs.member_sets.Reads as reads
-use Rattle.fields.proofs.member_sets.Lts as lts
-use Rattle.fields.proofs.groups.Reads as groups-reads
-use Rattle.fields.proofs.groups_at.Reads as groups-at-reads
 
 groups-at-requires : tie.Need-groups-at-requires
 groups-at-requires c κs = search needs

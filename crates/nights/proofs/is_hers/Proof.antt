@@ -7,8 +7,14 @@ use Rattle.nights.proofs.is_hers.Statement.{statement}
 use Rattle.nights.proofs.is_hers.Tie as tie
 
 -- the places of the function, each from the next
-abbrev at-start : tie.After-rules-of → tie.Start
+abbrev at-start : tie.After-allow-table → tie.Start
 at-start c = c .before .before
+
+abbrev at-rules-of : tie.After-days → tie.After-rules-of
+at-rules-of c = c .before .before
+
+allow-table-requires : tie.Need-allow-table-requires
+allow-table-requires c κs = search needs
 
 rules-of-requires : tie.Need-rules-of-requires
 rules-of-requires c κs = search needs
@@ -22,8 +28,9 @@ block-requires c κs = search needs
 is-hers-by-requires : tie.Need-is-hers-by-requires
 is-hers-by-requires c κs =
     let days = c .before in
-    let rules-of = days .before in
-    let start = at-start rules-of in
+    let rules-of = at-rules-of days in
+    let allow-table = rules-of .before in
+    let start = at-start allow-table in
     let s = start .args in
     let ok = start .pre .0 in
     let n = days .days .ensures in
@@ -33,9 +40,11 @@ returns : tie.Need-returns
 returns c =
     let block = c .before in
     let days = block .before in
-    let rules-of = days .before in
-    let start = at-start rules-of in
-    c .is-hers-by .ensures ∙ hers-as (start .args .w .now) (start .args .i) (start .args .p) (rules-of .rules-of .ensures) (days .days .ensures .0) (block .block .ensures)
+    let rules-of = at-rules-of days in
+    let allow-table = rules-of .before in
+    let start = at-start allow-table in
+    let s = start .args in
+    c .is-hers-by .ensures ∙ hers-as (s .w .now) (s .i) (s .p) (allow-table .allow-table .ensures) (rules-of .rules-of .ensures) (days .days .ensures .0) (block .block .ensures)
 
 pub is-hers-spec : {M : Type 1} → statement M
-is-hers-spec = tie.close (tie.spec rules-of-requires days-requires block-requires is-hers-by-requires returns)
+is-hers-spec = tie.close (tie.spec allow-table-requires rules-of-requires days-requires block-requires is-hers-by-requires returns)

@@ -33,7 +33,7 @@ returns c =
     let start = at-start bit in
     let s = start .args in
     let big : 2 ^ s .n ≤ s .p = omega (arith, bit .bit .ensures) in
-    sym (hers-is (s .r) (s .n) (s .p) (s .b .now) ∙ simp (le-ltb (s .p) (2 ^ s .n) big))
+    sym (hers-is (s .table .now) (s .r) (s .n) (s .p) (s .b .now) ∙ simp (le-ltb (s .p) (2 ^ s .n) big))
 
 ones-requires : tie.Need-ones-requires
 ones-requires c κs = search needs
@@ -46,7 +46,7 @@ returns-2 c =
     let s = start .args in
     let small : s .p < 2 ^ s .n = omega (arith, bit .bit .ensures) in
     let many : s .r .most < length (starts (s .n) (s .p)) = omega (arith, ones .ones .ensures .0 (s .n) small, count-starts (s .n) (s .p), c .if2 .taken) in
-    sym (hers-is (s .r) (s .n) (s .p) (s .b .now) ∙ simp (lt-leb (length (starts (s .n) (s .p))) (s .r .most) many, and-false))
+    sym (hers-is (s .table .now) (s .r) (s .n) (s .p) (s .b .now) ∙ simp (lt-leb (length (starts (s .n) (s .p))) (s .r .most) many, and-false))
 
 least-nights-requires : tie.Need-least-nights-requires
 least-nights-requires c κs = search needs
@@ -61,7 +61,7 @@ returns-3 c =
     let s = start .args in
     let small : s .p < 2 ^ s .n = omega (arith, bit .bit .ensures) in
     let few : length (starts (s .n) (s .p)) < leastNightsOf (s .b .now) = omega (arith, ones .ones .ensures .0 (s .n) small, count-starts (s .n) (s .p), c .if3 .taken, least-nights .least-nights .ensures) in
-    sym (hers-is (s .r) (s .n) (s .p) (s .b .now) ∙ simp (lt-leb (leastNightsOf (s .b .now)) (length (starts (s .n) (s .p))) few, and-false))
+    sym (hers-is (s .table .now) (s .r) (s .n) (s .p) (s .b .now) ∙ simp (lt-leb (leastNightsOf (s .b .now)) (length (starts (s .n) (s .p))) few, and-false))
 
 most-nights-requires : tie.Need-most-nights-requires
 most-nights-requires c κs = search needs
@@ -78,7 +78,7 @@ returns-4 c =
     let s = start .args in
     let small : s .p < 2 ^ s .n = omega (arith, bit .bit .ensures) in
     let many : mostNightsOf (s .b .now) < length (starts (s .n) (s .p)) = omega (arith, ones .ones .ensures .0 (s .n) small, count-starts (s .n) (s .p), c .if4 .taken, most-nights .most-nights .ensures) in
-    sym (hers-is (s .r) (s .n) (s .p) (s .b .now) ∙ simp (lt-leb (length (starts (s .n) (s .p))) (mostNightsOf (s .b .now)) many, and-false))
+    sym (hers-is (s .table .now) (s .r) (s .n) (s .p) (s .b .now) ∙ simp (lt-leb (length (starts (s .n) (s .p))) (mostNightsOf (s .b .now)) many, and-false))
 
 keeps-requires : tie.Need-keeps-requires
 keeps-requires c κs = search needs
@@ -116,7 +116,7 @@ returns-5 c =
     let few : L ≤ s .r .most = omega (arith, len, else2 .if2 .left) in
     let month = sym (ap (follow (s .r) 0 0) (shifted-zero (starts (s .n) (s .p)))) ∙ sym (keeps .keeps .ensures) ∙ then5 .if5 .taken in
     let last = sym (keeps2 .keeps2 .ensures ∙ ap₂ (λ (a b : ℕ). follow (s .r) a b (shifted 7 (starts (s .n) (s .p)))) (last-run .last-run .ensures .0 .0) (last-run .last-run .ensures .0 .1)) ∙ then6 .if6 .taken in
-    sym (hers-is (s .r) (s .n) (s .p) (s .b .now) ∙ simp (
+    sym (hers-is (s .table .now) (s .r) (s .n) (s .p) (s .b .now) ∙ simp (
       lt-ltb (s .p) (2 ^ s .n) small,
       le-leb L (s .r .most) few,
       month,
@@ -143,7 +143,7 @@ returns-6 c =
     let start = at-start bit in
     let s = start .args in
     let last = sym (keeps2 .keeps2 .ensures ∙ ap₂ (λ (a b : ℕ). follow (s .r) a b (shifted 7 (starts (s .n) (s .p)))) (last-run .last-run .ensures .0 .0) (last-run .last-run .ensures .0 .1)) ∙ c .if6 .left in
-    sym (hers-is (s .r) (s .n) (s .p) (s .b .now) ∙ simp (last, and-false))
+    sym (hers-is (s .table .now) (s .r) (s .n) (s .p) (s .b .now) ∙ simp (last, and-false))
 
 returns-7 : tie.Need-returns-7
 returns-7 c =
@@ -158,7 +158,7 @@ returns-7 c =
     let start = at-start bit in
     let s = start .args in
     let month = sym (ap (follow (s .r) 0 0) (shifted-zero (starts (s .n) (s .p)))) ∙ sym (keeps .keeps .ensures) ∙ c .if5 .left in
-    sym (hers-is (s .r) (s .n) (s .p) (s .b .now) ∙ simp (month, and-false))
+    sym (hers-is (s .table .now) (s .r) (s .n) (s .p) (s .b .now) ∙ simp (month, and-false))
 
 pub is-hers-by-spec : {M : Type 1} → statement M
 is-hers-by-spec = tie.close (tie.spec bit-requires returns ones-requires returns-2 least-nights-requires returns-3 most-nights-requires returns-4 keeps-requires last-run-requires keeps-requires-2 marks-allow-requires returns-5 returns-6 returns-7)

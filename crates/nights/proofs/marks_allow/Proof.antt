@@ -1,94 +1,90 @@
--- `nights::marks_allow` meets its contract. The loop's invariant: the marks to come decide, and `state` is the row's on the day before them.
-use borrow.Author.Needs.{needs}
+-- `nights::marks_allow` meets its contract. The loop's invariant: the marks to come decide.
+use Prim.Native.Nat.{_≤_, _-_}
+use mathlib.Core.Path.{_≡_}
 use native.Mathlib.Omega.{arith}
-use mathlib.Core.Path.{_≡_, refl, sym, ap₂, _∙_}
-use Prim.Native.Nat.{_≤_, _-_, _+_}
-use Rattle.rows.specs.Rows.{marksAllow, rowState, stateAfter}
-use Rattle.rows.proofs.RowLaws.{allowedFrom, marks-all, marks-turn, marks-done, row-turn, row-zero}
+use Rattle.rows.specs.Rows.{marksAllow}
+use Rattle.rows.proofs.RowLaws.{allowedFrom, marks-start, marks-more, marks-stop, marks-end}
+use borrow.Author.Needs.{needs}
 use Rattle.nights.proofs.marks_allow.Statement.{statement}
 use Rattle.nights.proofs.marks_allow.Tie as tie
 
 abbrev Inv-loop : tie.InvT-loop
-Inv-loop b n p state₀ day₀ i₀ state day i = (day ≤ n) × (i ≡ 11 + day) × (state ≡ rowState b p day) × (marksAllow b n p ≡ allowedFrom b p n day)
+Inv-loop table b n p days states d₀ d = (d ≤ n) × (marksAllow table b n p ≡ allowedFrom table b p n d)
 
 abbrev μ-loop : tie.MeasureT-loop
-μ-loop b n p state₀ day₀ i₀ state day i = n - day
+μ-loop table b n p days states d₀ d = n - d
 
-shared-slice-read-day-zero : tie.Need-shared-slice-read-day-zero Inv-loop μ-loop
-shared-slice-read-day-zero c = search needs
+-- the places of the function, each from the next
+abbrev at-start : tie.After-states Inv-loop μ-loop → tie.Start Inv-loop μ-loop
+at-start c = c .before .before
 
-day-zero-requires : tie.Need-day-zero-requires Inv-loop μ-loop
-day-zero-requires c κs = search needs
+states-requires : tie.Need-states-requires Inv-loop μ-loop
+states-requires c κs = search needs
 
 loop-holds : tie.Need-loop-holds Inv-loop μ-loop
-loop-holds c = let s = c .before .before .before .args in
-    (omega arith, refl, c .day-zero .ensures .0 ∙ sym (row-zero (s .b .now) (s .p)), marks-all (s .b .now) (s .p) (s .n))
+loop-holds c =
+    let start = at-start c in
+    let s = start .args in
+    (omega arith, marks-start (s .table .now) (s .b .now) (s .p) (s .n))
 
-has-bit-requires : tie.Need-has-bit-requires Inv-loop μ-loop
-has-bit-requires c κs = search needs
+mark-requires : tie.Need-mark-requires Inv-loop μ-loop
+mark-requires c κs = search needs
 
-state-after-requires : tie.Need-state-after-requires Inv-loop μ-loop
-state-after-requires c κs = search needs
+mul-mark-allows : tie.Need-mul-mark-allows Inv-loop μ-loop
+mul-mark-allows c = search needs
 
-mul-mark : tie.Need-mul-mark Inv-loop μ-loop
-mul-mark c = search needs
-
-shared-slice-read-mark : tie.Need-shared-slice-read-mark Inv-loop μ-loop
-shared-slice-read-mark c = search needs
+array-read-mark-allows : tie.Need-array-read-mark-allows Inv-loop μ-loop
+array-read-mark-allows c = search needs
 
 mark-allows-requires : tie.Need-mark-allows-requires Inv-loop μ-loop
-mark-allows-requires c κs = let l = c .before .before .before .before .loop in
-    (rw (l .inv .1) (c .before .before .before .before .before .before .before .before .pre .1 .marks (l .day) (c .before .before .before .loop-test .taken)), c .before .state-after .ensures .1)
+mark-allows-requires c κs =
+    let in-loop = c .before in
+    let loop = in-loop .before in
+    let states = loop .before in
+    let start = at-start states in
+    let s = start .args in
+    (c .mark .ensures .1 (s .n) (start .pre .1), states .states .ensures .1 (loop .loop .d) (in-loop .loop-test .taken))
 
-add-day : tie.Need-add-day Inv-loop μ-loop
-add-day c = search needs
-
-add-i : tie.Need-add-i Inv-loop μ-loop
-add-i c = search needs
+add-d : tie.Need-add-d Inv-loop μ-loop
+add-d c = search needs
 
 loop-less : tie.Need-loop-less Inv-loop μ-loop
 loop-less c = search needs
 
 loop-again : tie.Need-loop-again Inv-loop μ-loop
-loop-again c = let s = c .before .before .before .before .before .before .before .before .before .before .args in
-    let l = c .before .before .before .before .before .before .loop in
-    let row = c .before .before .before .state-after .ensures .0 ∙ ap₂ stateAfter (l .inv .2) (c .before .before .before .before .has-bit .ensures) ∙ sym (row-turn (s .b .now) (s .p) (l .day)) in (
-      omega arith,
-      omega arith,
-      row,
-      l .inv .3 ∙ marks-turn (s .b .now) (s .p) (s .n) (l .day) (c .before .before .before .before .before .loop-test .taken)
-          ∙ rw (← row, ← l .inv .1, sym (c .before .mark-allows .ensures) ∙ c .if1 .taken),
-    )
+loop-again c =
+    let mark-allows = c .before in
+    let mark = mark-allows .before in
+    let in-loop = mark .before in
+    let loop = in-loop .before in
+    let states = loop .before in
+    let start = at-start states in
+    let s = start .args in
+    let l = loop .loop in
+    let in-month = in-loop .loop-test .taken in
+    (omega arith, marks-more (s .table .now) (s .b .now) (s .p) (s .n) (l .d) (l .inv .1) in-month (mark .mark .ensures .0) (states .states .ensures .0 (l .d) in-month) (mark-allows .mark-allows .ensures) (c .if1 .taken))
 
 returns : tie.Need-returns Inv-loop μ-loop
-returns c = let s = c .before .before .before .before .before .before .before .before .before .before .args in
-    let l = c .before .before .before .before .before .before .loop in
-    let row = c .before .before .before .state-after .ensures .0 ∙ ap₂ stateAfter (l .inv .2) (c .before .before .before .before .has-bit .ensures) ∙ sym (row-turn (s .b .now) (s .p) (l .day)) in
-    sym (l .inv .3 ∙ marks-turn (s .b .now) (s .p) (s .n) (l .day) (c .before .before .before .before .before .loop-test .taken)
-    ∙ rw (← row, ← l .inv .1, sym (c .before .mark-allows .ensures) ∙ c .if1 .left))
+returns c =
+    let mark-allows = c .before in
+    let mark = mark-allows .before in
+    let in-loop = mark .before in
+    let loop = in-loop .before in
+    let states = loop .before in
+    let start = at-start states in
+    let s = start .args in
+    let l = loop .loop in
+    let in-month = in-loop .loop-test .taken in
+    marks-stop (s .table .now) (s .b .now) (s .p) (s .n) (l .d) (l .inv .1) in-month (mark .mark .ensures .0) (states .states .ensures .0 (l .d) in-month) (mark-allows .mark-allows .ensures) (c .if1 .left)
 
 returns-2 : tie.Need-returns-2 Inv-loop μ-loop
-returns-2 c = let s = c .before .before .before .before .before .args in
-    let l = c .before .loop in
-    sym (l .inv .3 ∙ marks-done (s .b .now) (s .p) (s .n) (l .day) (c .loop-test .left))
+returns-2 c =
+    let loop = c .before in
+    let states = loop .before in
+    let start = at-start states in
+    let s = start .args in
+    let l = loop .loop in
+    marks-end (s .table .now) (s .b .now) (s .p) (s .n) (l .d) (l .inv .1) (c .loop-test .left)
 
 pub marks-allow-spec : {M : Type 1} → statement M
-marks-allow-spec =
-    tie.close
-    (tie.spec
-    Inv-loop
-    μ-loop
-    shared-slice-read-day-zero
-    day-zero-requires
-    loop-holds
-    has-bit-requires
-    state-after-requires
-    mul-mark
-    shared-slice-read-mark
-    mark-allows-requires
-    add-day
-    add-i
-    loop-less
-    loop-again
-    returns
-    returns-2)
+marks-allow-spec = tie.close (tie.spec Inv-loop μ-loop states-requires loop-holds mark-requires mul-mark-allows array-read-mark-allows mark-allows-requires add-d loop-less loop-again returns returns-2)

@@ -4,7 +4,7 @@ use Prim.Native.Nat.{ℕ, _-_, _≤_, _<_}
 use native.Mathlib.Omega.{arith}
 use lib.ListN.{length, getD, length-set}
 use Rattle.fields.specs.Fields.{duty}
-use Rattle.days.proofs.MonthLaws.{place-turn}
+use Rattle.numbers.proofs.BufferLaws.{place-turn}
 use borrow.Author.Needs.{needs}
 use Rattle.days.proofs.month.seven_days.Statement.{statement}
 use Rattle.days.proofs.month.seven_days.Tie as tie

@@ -1,49 +1,51 @@
 -- `days::month::sheet_of` meets its contract. The loop's invariant: the month is made for the days passed.
-use mathlib.Core.Path.{_≡_, refl, ap, _∙_}
-use Prim.Native.Nat.{suc, _-_}
+use mathlib.Core.Path.{_≡_, refl, ap, ap₂, _∙_}
+use Prim.Native.Nat.{ℕ, suc, _-_}
 use native.Mathlib.Omega.{arith}
 use lib.ListN.{length}
 use Rattle.numbers.specs.Digits.{numberOf}
 use Rattle.rows.specs.Rows.{availableOn, fixedDay}
+use Rattle.days.specs.CodeMonth.{inBounds}
 use Rattle.days.proofs.MonthLaws.{MonthAt, month-start, month-turn, free-fits, fixed-fits}
 use borrow.Author.Needs.{needs}
 use Rattle.days.proofs.month.sheet_of.Statement.{statement}
 use Rattle.days.proofs.month.sheet_of.Tie as tie
 
 abbrev Inv-loop : tie.InvT-loop
-Inv-loop b n longest p row₀ free₀ fixed₀ state₀ d₀ row free fixed state d = MonthAt b p n d state row free fixed
+Inv-loop b n longest p states row₀ free₀ fixed₀ d₀ row free fixed d = MonthAt b p n d row free fixed
 
 abbrev μ-loop : tie.MeasureT-loop
-μ-loop b n longest p row₀ free₀ fixed₀ state₀ d₀ row free fixed state d = n - d
+μ-loop b n longest p states row₀ free₀ fixed₀ d₀ row free fixed d = n - d
+
+-- the places of the function, each from the next
+abbrev at-start : tie.After-states Inv-loop μ-loop → tie.Start Inv-loop μ-loop
+at-start c = c .before .before
+
+abbrev at-states : tie.At-loop Inv-loop μ-loop → tie.After-states Inv-loop μ-loop
+at-states c = c .before .before
+
+states-requires : tie.Need-states-requires Inv-loop μ-loop
+states-requires c κs = search needs
 
 seven-days-requires : tie.Need-seven-days-requires Inv-loop μ-loop
 seven-days-requires c κs = search needs
 
-shared-slice-read-day-zero : tie.Need-shared-slice-read-day-zero Inv-loop μ-loop
-shared-slice-read-day-zero c = search needs
-
-day-zero-requires : tie.Need-day-zero-requires Inv-loop μ-loop
-day-zero-requires c κs = search needs
-
 loop-holds : tie.Need-loop-holds Inv-loop μ-loop
-loop-holds c = let s = c .before .before .before .before .args in
-    let long : length (c .before .before .seven-days .result) ≡ 38 = search needs in
-    month-start (s .b .now) (s .p) (s .n) (c .before .before .seven-days .result) (c .day-zero .ensures .0) long (c .before .before .seven-days .ensures)
+loop-holds c =
+    let states = c .before in
+    let start = at-start states in
+    let s = start .args in
+    let long : length (c .seven-days .result) ≡ 38 = search needs in
+    month-start (s .b .now) (s .p) (s .n) (c .seven-days .result) long (c .seven-days .ensures)
 
-add-mark : tie.Need-add-mark Inv-loop μ-loop
-add-mark c = search needs
+mark-requires : tie.Need-mark-requires Inv-loop μ-loop
+mark-requires c κs = search needs
 
-mul-mark : tie.Need-mul-mark Inv-loop μ-loop
-mul-mark c = search needs
+mul-duty-of : tie.Need-mul-duty-of Inv-loop μ-loop
+mul-duty-of c = search needs
 
-shared-slice-read-mark : tie.Need-shared-slice-read-mark Inv-loop μ-loop
-shared-slice-read-mark c = search needs
-
-has-bit-requires : tie.Need-has-bit-requires Inv-loop μ-loop
-has-bit-requires c κs = search needs
-
-state-after-requires : tie.Need-state-after-requires Inv-loop μ-loop
-state-after-requires c κs = search needs
+array-read-duty-of : tie.Need-array-read-duty-of Inv-loop μ-loop
+array-read-duty-of c = search needs
 
 duty-of-requires : tie.Need-duty-of-requires Inv-loop μ-loop
 duty-of-requires c κs = search needs
@@ -55,18 +57,45 @@ mul-row : tie.Need-mul-row Inv-loop μ-loop
 mul-row c = search needs
 
 array-write-row : tie.Need-array-write-row Inv-loop μ-loop
-array-write-row c = omega (arith, c .before .before .before .before .before .loop .inv .row-long, c .before .before .before .before .loop-test .taken, c .before .before .before .before .before .before .before .before .before .before .pre .1)
+array-write-row c =
+    let mark = c .before in
+    let in-loop = mark .before in
+    let loop = in-loop .before in
+    let states = at-states loop in
+    let start = at-start states in
+    omega (arith, loop .loop .inv .row-long, in-loop .loop-test .taken, start .pre .1)
+
+mul-is-available : tie.Need-mul-is-available Inv-loop μ-loop
+mul-is-available c = search needs
+
+array-read-is-available : tie.Need-array-read-is-available Inv-loop μ-loop
+array-read-is-available c = search needs
 
 is-available-requires : tie.Need-is-available-requires Inv-loop μ-loop
 is-available-requires c κs = search needs
 
 with-next-requires : tie.Need-with-next-requires Inv-loop μ-loop
-with-next-requires c κs = let s = c .before .before .before .before .before .before .before .before .before .before .before .args in
-    (omega (arith, c .before .before .before .before .before .loop-test .taken, c .before .before .before .before .before .before .before .before .before .before .before .pre .1), free-fits (s .b .now) (s .p) (s .n) (c .before .before .before .before .before .before .loop .d) (c .before .before .before .before .before .before .loop .inv))
+with-next-requires c κs =
+    let duty-of = c .before in
+    let mark = duty-of .before in
+    let in-loop = mark .before in
+    let loop = in-loop .before in
+    let states = at-states loop in
+    let start = at-start states in
+    let s = start .args in
+    (omega (arith, in-loop .loop-test .taken, start .pre .1), free-fits (s .b .now) (s .p) (s .n) (loop .loop .d) (loop .loop .inv))
 
 with-next-requires-2 : tie.Need-with-next-requires-2 Inv-loop μ-loop
-with-next-requires-2 c κs = let s = c .before .before .before .before .before .before .before .before .before .before .before .before .args in
-    (omega (arith, c .before .before .before .before .before .before .loop-test .taken, c .before .before .before .before .before .before .before .before .before .before .before .before .pre .1), fixed-fits (s .b .now) (s .p) (s .n) (c .before .before .before .before .before .before .before .loop .d) (c .before .before .before .before .before .before .before .loop .inv))
+with-next-requires-2 c κs =
+    let is-available = c .before in
+    let duty-of = is-available .before in
+    let mark = duty-of .before in
+    let in-loop = mark .before in
+    let loop = in-loop .before in
+    let states = at-states loop in
+    let start = at-start states in
+    let s = start .args in
+    (omega (arith, in-loop .loop-test .taken, start .pre .1), fixed-fits (s .b .now) (s .p) (s .n) (loop .loop .d) (loop .loop .inv))
 
 add-d : tie.Need-add-d Inv-loop μ-loop
 add-d c = search needs
@@ -75,67 +104,50 @@ loop-less : tie.Need-loop-less Inv-loop μ-loop
 loop-less c = search needs
 
 loop-again : tie.Need-loop-again Inv-loop μ-loop
-loop-again c = let s = c .before .before .before .before .before .before .before .before .before .before .before .before .before .args in
-    month-turn (s .b .now) (s .p) (s .n) (c .before .before .before .before .before .before .before .before .loop .d) (c .before .before .before .before .before .before .before .before .loop .inv) (c .before .before .before .before .before .before .before .before .before .before .before .before .before .pre .1) (c .before .before .before .before .before .before .before .loop-test .taken) (c .before .before .before .before .before .has-bit .ensures) (c .before .before .before .before .state-after .ensures .0) (c .before .before .before .duty-of .ensures .0) (c .before .before .is-available .ensures) (c .before .with-next .ensures) refl (c .with-next2 .ensures)
+loop-again c =
+    let with-next = c .before in
+    let is-available = with-next .before in
+    let duty-of = is-available .before in
+    let mark = duty-of .before in
+    let in-loop = mark .before in
+    let loop = in-loop .before in
+    let states = at-states loop in
+    let start = at-start states in
+    let s = start .args in
+    let l = loop .loop in
+    let in-month = in-loop .loop-test .taken in
+    month-turn (s .b .now) (s .p) (s .n) (l .d) (l .inv) (start .pre .1) in-month (mark .mark .ensures .0) (states .states .ensures .0 (l .d) in-month) (duty-of .duty-of .ensures .0) (is-available .is-available .ensures) (with-next .with-next .ensures) refl (c .with-next2 .ensures)
 
-shared-slice-read-bounds : tie.Need-shared-slice-read-bounds Inv-loop μ-loop
-shared-slice-read-bounds c = search needs
+least-rests-requires : tie.Need-least-rests-requires Inv-loop μ-loop
+least-rests-requires c κs = search needs
 
-shared-slice-read-bounds-2 : tie.Need-shared-slice-read-bounds-2 Inv-loop μ-loop
-shared-slice-read-bounds-2 c = search needs
+most-rests-requires : tie.Need-most-rests-requires Inv-loop μ-loop
+most-rests-requires c κs = search needs
 
 bounds-requires : tie.Need-bounds-requires Inv-loop μ-loop
 bounds-requires c κs = search needs
 
-shared-slice-read-t15 : tie.Need-shared-slice-read-t15 Inv-loop μ-loop
-shared-slice-read-t15 c = search needs
-
-shared-slice-read-t25 : tie.Need-shared-slice-read-t25 Inv-loop μ-loop
-shared-slice-read-t25 c = search needs
-
 returns : tie.Need-returns Inv-loop μ-loop
-returns c = let s = c .before .before .before .before .before .before .before .before .before .before .before .args in
-    let l = c .before .before .before .before .before .before .loop in
-    let done : l .d ≡ s .n = omega (arith, l .inv .at-most, c .before .before .before .before .before .loop-test .left) in
+returns c =
+    let most-rests = c .before in
+    let least-rests = most-rests .before in
+    let after-loop = least-rests .before in
+    let loop = after-loop .before in
+    let states = at-states loop in
+    let start = at-start states in
+    let s = start .args in
+    let l = loop .loop in
+    let done : l .d ≡ s .n = omega (arith, l .inv .at-most, after-loop .loop-test .left) in
     record {
       days-is = refl;
       longest-is = refl;
-      least-is = refl;
-      most-is = refl;
+      least-is = least-rests .least-rests .ensures;
+      most-is = most-rests .most-rests .ensures;
       free-is = l .inv .free-is ∙ ap (numberOf (λ e. availableOn (s .b .now) (s .p) (suc e))) done;
       fixed-is = l .inv .fixed-is ∙ ap (numberOf (fixedDay (s .b .now))) done;
-      within-is = c .before .before .bounds .ensures;
-      row-is = λ t h. l .inv .row-is t (omega arith);
+      within-is = c .bounds .ensures ∙ ap₂ (λ (x y : ℕ). numberOf (inBounds x y) 32) (least-rests .least-rests .ensures) (most-rests .most-rests .ensures);
+      row-is = λ t h. l .inv .row-is t (omega (arith, done));
     }
 
 pub sheet-of-spec : {M : Type 1} → statement M
-sheet-of-spec =
-    tie.close
-    (tie.spec
-    Inv-loop
-    μ-loop
-    seven-days-requires
-    shared-slice-read-day-zero
-    day-zero-requires
-    loop-holds
-    add-mark
-    mul-mark
-    shared-slice-read-mark
-    has-bit-requires
-    state-after-requires
-    duty-of-requires
-    add-row
-    mul-row
-    array-write-row
-    is-available-requires
-    with-next-requires
-    with-next-requires-2
-    add-d
-    loop-less
-    loop-again
-    shared-slice-read-bounds
-    shared-slice-read-bounds-2
-    bounds-requires
-    shared-slice-read-t15
-    shared-slice-read-t25
-    returns)
+sheet-of-spec = tie.close (tie.spec Inv-loop μ-loop states-requires seven-days-requires loop-holds mark-requires mul-duty-of array-read-duty-of duty-of-requires add-row mul-row array-write-row mul-is-available array-read-is-available is-available-requires with-next-requires with-next-requires-2 add-d loop-less loop-again least-rests-requires most-rests-requires bounds-requires returns)

@@ -10,17 +10,17 @@ use Rattle.own.proofs.masks.barred_days.Statement.{statement}
 use Rattle.own.proofs.masks.barred_days.Tie as tie
 
 abbrev Inv-loop : tie.InvT-loop
-Inv-loop b n state set₀ day₀ set day = (day ≤ n) × (set ≡ numberOf (barred b state) (day + 1))
+Inv-loop table b n state set₀ day₀ set day = (day ≤ n) × (set ≡ numberOf (barred table b state) (day + 1))
 
 abbrev μ-loop : tie.MeasureT-loop
-μ-loop b n state set₀ day₀ set day = n - day
+μ-loop table b n state set₀ day₀ set day = n - day
 
 -- the places of the function, each from the next
 abbrev at-start : tie.At-loop Inv-loop μ-loop → tie.Start Inv-loop μ-loop
 at-start c = c .before .before
 
 loop-holds : tie.Need-loop-holds Inv-loop μ-loop
-loop-holds c = (omega arith, set-start (barred (c .before .args .b .now) (c .before .args .state)) refl)
+loop-holds c = (omega arith, set-start (barred (c .before .args .table .now) (c .before .args .b .now) (c .before .args .state)) refl)
 
 mark-requires : tie.Need-mark-requires Inv-loop μ-loop
 mark-requires c κs = search needs
@@ -47,8 +47,8 @@ add-set c =
     let start = at-start loop in
     let l = loop .loop in
     let s = start .args in
-    let t = barred (s .b .now) (s .state) in
-    let e = set-turn t (l .day) (l .set) (c .day-if .result) (l .inv .1) (barred-day (s .b .now) (s .state) (l .day) (mark .mark .ensures .0) (mark-allows .mark-allows .ensures) (c .day-if .ensures)) in
+    let t = barred (s .table .now) (s .b .now) (s .state) in
+    let e = set-turn t (l .day) (l .set) (c .day-if .result) (l .inv .1) (barred-day (s .table .now) (s .b .now) (s .state) (l .day) (mark .mark .ensures .0) (mark-allows .mark-allows .ensures) (c .day-if .ensures)) in
     omega (arith, e, set-next t (l .day) (omega (arith, in-loop .loop-test .taken, start .pre .0)))
 
 loop-less : tie.Need-loop-less Inv-loop μ-loop
@@ -63,8 +63,8 @@ loop-again c =
     let start = at-start loop in
     let l = loop .loop in
     let s = start .args in
-    let t = barred (s .b .now) (s .state) in
-    (omega arith, set-turn t (l .day) (l .set) (c .day-if .result) (l .inv .1) (barred-day (s .b .now) (s .state) (l .day) (mark .mark .ensures .0) (mark-allows .mark-allows .ensures) (c .day-if .ensures)))
+    let t = barred (s .table .now) (s .b .now) (s .state) in
+    (omega arith, set-turn t (l .day) (l .set) (c .day-if .result) (l .inv .1) (barred-day (s .table .now) (s .b .now) (s .state) (l .day) (mark .mark .ensures .0) (mark-allows .mark-allows .ensures) (c .day-if .ensures)))
 
 returns : tie.Need-returns Inv-loop μ-loop
 returns c =
@@ -72,7 +72,7 @@ returns c =
     let start = at-start loop in
     let l = loop .loop in
     let s = start .args in
-    set-done (barred (s .b .now) (s .state)) (s .n) (l .day) (l .set) (l .inv .1) (l .inv .0) (c .loop-test .left)
+    set-done (barred (s .table .now) (s .b .now) (s .state)) (s .n) (l .day) (l .set) (l .inv .1) (l .inv .0) (c .loop-test .left)
 
 pub barred-days-spec : {M : Type 1} → statement M
 barred-days-spec = tie.close (tie.spec Inv-loop μ-loop loop-holds mark-requires add-day mark-allows-requires day-if-requires add-set loop-less loop-again returns)

@@ -41,7 +41,7 @@ cast-never c =
     let last-run = near-days .before in
     let bars-of = last-run .before in
     let start = at-start bars-of in
-    omega (arith, never-fits (start .args .n) (start .args .b .now) (bars-of .bars-of .ensures) (start .pre .1 .0))
+    omega (arith, never-fits (start .args .table .now) (start .args .n) (start .args .b .now) (bars-of .bars-of .ensures) (start .pre .1 .0))
 
 workable-days-requires : tie.Need-workable-days-requires
 workable-days-requires c κs = search needs
@@ -82,8 +82,8 @@ returns c =
     let near = ap (λ (x : ℕ). x - 1) (bit .bit .ensures ∙ ap (λ (k : ℕ). 2 ^ k) (near-days .near-days .ensures .0)) in
     let night = one-if .one-if .ensures .0 ∙ ap (λ (x : ℕ). oneIf (eqb x 2)) (last-duty .last-duty .ensures) in
     let second = one-if2 .one-if2 .ensures .0 ∙ ap (λ (x : ℕ). oneIf (eqb x 3)) (last-duty2 .last-duty2 .ensures) in (
-      masks-made (s .r) (s .n) (s .b .now) _ _ _ _ _ _ _ (last .result) (bars-of .bars-of .ensures) (workable-days .workable-days .ensures) night second (least-nights .least-nights .ensures) (c .most-nights .ensures) near (last .ensures .0),
-      masks-small (s .r) (s .n) (s .b .now) _ _ _ _ _ _ _ (last .result) (bars-of .bars-of .ensures) (workable-days .workable-days .ensures) night second (least-nights .least-nights .ensures) (c .most-nights .ensures) (start .pre .1 .0) (last .ensures .1),
+      masks-made (s .table .now) (s .r) (s .n) (s .b .now) _ _ _ _ _ _ _ (last .result) (bars-of .bars-of .ensures) (workable-days .workable-days .ensures) night second (least-nights .least-nights .ensures) (c .most-nights .ensures) near (last .ensures .0),
+      masks-small (s .table .now) (s .r) (s .n) (s .b .now) _ _ _ _ _ _ _ (last .result) (bars-of .bars-of .ensures) (workable-days .workable-days .ensures) night second (least-nights .least-nights .ensures) (c .most-nights .ensures) (start .pre .1 .0) (last .ensures .1),
     )
 
 pub masks-by-spec : {M : Type 1} → statement M

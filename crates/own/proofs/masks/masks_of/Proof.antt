@@ -7,8 +7,14 @@ use Rattle.own.proofs.masks.masks_of.Statement.{statement}
 use Rattle.own.proofs.masks.masks_of.Tie as tie
 
 -- the places of the function, each from the next
-abbrev at-start : tie.After-rules-of → tie.Start
+abbrev at-start : tie.After-allow-table → tie.Start
 at-start c = c .before .before
+
+abbrev at-rules-of : tie.After-days → tie.After-rules-of
+at-rules-of c = c .before .before
+
+allow-table-requires : tie.Need-allow-table-requires
+allow-table-requires c κs = search needs
 
 rules-of-requires : tie.Need-rules-of-requires
 rules-of-requires c κs = search needs
@@ -22,8 +28,9 @@ block-requires c κs = search needs
 masks-by-requires : tie.Need-masks-by-requires
 masks-by-requires c κs =
     let days = c .before in
-    let rules-of = days .before in
-    let start = at-start rules-of in
+    let rules-of = at-rules-of days in
+    let allow-table = rules-of .before in
+    let start = at-start allow-table in
     let s = start .args in
     let ok = start .pre .0 in
     let n = days .days .ensures in
@@ -33,11 +40,11 @@ returns : tie.Need-returns
 returns c =
     let block = c .before in
     let days = block .before in
-    let rules-of = days .before in
-    let start = at-start rules-of in (
-      c .masks-by .ensures .0 ∙ masks-as (start .args .w .now) (start .args .i) (rules-of .rules-of .ensures) (days .days .ensures .0) (block .block .ensures),
-      c .masks-by .ensures .1,
-    )
+    let rules-of = at-rules-of days in
+    let allow-table = rules-of .before in
+    let start = at-start allow-table in
+    let s = start .args in
+    (c .masks-by .ensures .0 ∙ masks-as (s .w .now) (s .i) (allow-table .allow-table .ensures) (rules-of .rules-of .ensures) (days .days .ensures .0) (block .block .ensures), c .masks-by .ensures .1)
 
 pub masks-of-spec : {M : Type 1} → statement M
-masks-of-spec = tie.close (tie.spec rules-of-requires days-requires block-requires masks-by-requires returns)
+masks-of-spec = tie.close (tie.spec allow-table-requires rules-of-requires days-requires block-requires masks-by-requires returns)

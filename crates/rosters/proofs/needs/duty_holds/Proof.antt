@@ -1,6 +1,6 @@
 -- `rosters::needs::duty_holds` meets its contract: counts over the day's column are counts over the nurses.
 use mathlib.Core.Path.{refl, sym, ap₂, _∙_}
-use Prim.Native.Nat.{ℕ, _*_, _≤_}
+use Prim.Native.Nat.{ℕ, _*_}
 use native.Mathlib.Omega.{arith}
 use Rattle.penalty.proofs.FieldLaws.{needs-of}
 use Rattle.rosters.proofs.NeedLaws.{column-as, need-short, need-enough}
