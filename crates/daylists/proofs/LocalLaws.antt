@@ -31,7 +31,7 @@ module _ (m : Month) (row : List ℕ) (short : m .longest ≤ 6) (d a q : ℕ) (
   unfolding stepHolds
   step-same =
       ap₂ _&&_
-      (ap (λ (b : Bool). cond b (has (m .free) d) (not (has (m .fixed) d))) (near d (omega arith) (omega arith)))
+      (ap (λ (b : Bool). cond b (has (m .available) d) (not (has (m .fixed) d))) (near d (omega arith) (omega arith)))
       (ap (λ (b : Bool). ltb (m .days) (d + 7) || b) (windows-same (dutyAt row a) (dutyAt row q) (m .longest) (d + 13) short (omega arith) duties-near))
 
   pub rest-same : restOn row a d ≡ restOn row q d

@@ -18,7 +18,7 @@ use Rattle.numbers.proofs.DigitLaws.{bit-above, bit-lt, bit-of-zero}
 use Rattle.numbers.proofs.AgreeLaws.{keep-le, low-agree, field-agree, has-moved-down, has-or-left, has-or-right}
 use Rattle.rows.specs.Rows.{started}
 use Rattle.days.specs.Days.{isRest, windowsHold, rests}
-use Rattle.days.specs.CodeMonth.{Small, inBounds, dutyAt, choiceOf, ruleOf, restOn}
+use Rattle.days.specs.CodeMonth.{SmallMonth, inBounds, dutyAt, choiceOf, ruleOf, restOn}
 use Rattle.daylists.specs.CodeWalk.{stepHolds, branch, reach, goesOn}
 use Rattle.days.specs.declared.month.Month.{Month}
 use Rattle.days.proofs.RuleLaws.{restsFrom, rests-start, rest-day}
@@ -27,21 +27,21 @@ use Rattle.daylists.proofs.LocalLaws.{Near, near-high, step-same, branc
 
 -- what the walk leans on: no mark 2 after the month, and the set of counts of rests within her bounds
 pub record Bounded (m : Month) : Type 0 where
-  pub small : Small m
+  pub small : SmallMonth m
   pub fixed-days : m .fixed < 2 ^ m .days
   pub within-is : (k : ℕ) → k < 32 → has (m .within) k ≡ inBounds (m .least) (m .most) k
 
 -- what the rule's yes to q says
 record Meets (m : Month) (row : List ℕ) (q : ℕ) : Type 0 where
   pub below : q < 2 ^ m .days
-  pub chosen : (d : ℕ) → d < m .days → cond (has q d) (has (m .free) d) (not (has (m .fixed) d)) ≡ true
+  pub chosen : (d : ℕ) → d < m .days → cond (has q d) (has (m .available) d) (not (has (m .fixed) d)) ≡ true
   pub windows : (t : ℕ) → 7 ≤ t → t < 7 + m .days → windowsHold (dutyAt row q) (m .longest) t ≡ true
   pub bounds : inBounds (m .least) (m .most) (rests (dutyAt row q) (m .days)) ≡ true
 
-chosen-in : (m : Month) (q : ℕ) → all (λ e. cond (started q e) (started (m .free) e) (not (started (m .fixed) e))) (upFrom 1 (m .days)) ≡ true
-    → (d : ℕ) → d < m .days → cond (has q d) (has (m .free) d) (not (has (m .fixed) d)) ≡ true
+chosen-in : (m : Month) (q : ℕ) → all (λ e. cond (started q e) (started (m .available) e) (not (started (m .fixed) e))) (upFrom 1 (m .days)) ≡ true
+    → (d : ℕ) → d < m .days → cond (has q d) (has (m .available) d) (not (has (m .fixed) d)) ≡ true
 chosen-in m q e d h =
-    range-each (λ e. cond (started q e) (started (m .free) e) (not (started (m .fixed) e))) 1 (m .days) e (suc d) (omega arith) (omega arith)
+    range-each (λ e. cond (started q e) (started (m .available) e) (not (started (m .fixed) e))) 1 (m .days) e (suc d) (omega arith) (omega arith)
 
 meets : (m : Month) (row : List ℕ) (q : ℕ) → ruleOf m row q ≡ true → Meets m row q
 unfolding ruleOf choiceOf
@@ -62,14 +62,14 @@ module _ (m : Month) (row : List ℕ) (b : Bounded m) (q : ℕ) (y : Meets m row
   none-after : (x : ℕ) → x < 2 ^ m .days → has x (m .days) ≡ false
   none-after x h = ap (λ (z : ℕ). eqb z 1) (bit-above (m .days) x (m .days) h (omega arith))
 
-  chosen-at : (d : ℕ) → d ≤ m .days → cond (has q d) (has (m .free) d) (not (has (m .fixed) d)) ≡ true
+  chosen-at : (d : ℕ) → d ≤ m .days → cond (has q d) (has (m .available) d) (not (has (m .fixed) d)) ≡ true
   chosen-at d l = go (decLt d (m .days))
     where
-      go : Dec (d < m .days) → cond (has q d) (has (m .free) d) (not (has (m .fixed) d)) ≡ true
+      go : Dec (d < m .days) → cond (has q d) (has (m .available) d) (not (has (m .fixed) d)) ≡ true
       go (yes h) = y .chosen d h
       go (no h) =
           let e : d ≡ m .days = omega arith in
-          subst (λ (k : ℕ). cond (has q k) (has (m .free) k) (not (has (m .fixed) k)) ≡ true) (sym e)
+          subst (λ (k : ℕ). cond (has q k) (has (m .available) k) (not (has (m .fixed) k)) ≡ true) (sym e)
           (rw (none-after q (y .below), none-after (m .fixed) (b .fixed-days)))
 
   windows-at : (d : ℕ) → (ltb (m .days) (d + 7) || windowsHold (dutyAt row q) (m .longest) (d + 13)) ≡ true
@@ -176,7 +176,7 @@ or-false false b e h = h
 
 module _ (m : Month) (row : List ℕ) (b : Bounded m) (a r : ℕ) (below : a < 2 ^ m .days) (steps : (d : ℕ) → d ≤ m .days → stepHolds m row d a ≡ true)
     (first : has (reach m row 0 (a / 2 ^ 0 % 64)) r ≡ true) (rested : r ≡ restsFrom (dutyAt row a) (m .days) 0) where
-  chosen-each : (x : ℕ) → 1 ≤ x → x < 1 + m .days → cond (started a x) (started (m .free) x) (not (started (m .fixed) x)) ≡ true
+  chosen-each : (x : ℕ) → 1 ≤ x → x < 1 + m .days → cond (started a x) (started (m .available) x) (not (started (m .fixed) x)) ≡ true
   unfolding stepHolds
   chosen-each zero l h = absurd (omega arith)
   chosen-each (suc d) l h = and-parts _ _ (steps d (omega arith)) .0
@@ -185,7 +185,7 @@ module _ (m : Month) (row : List ℕ) (b : Bounded m) (a r : ℕ) (below : a < 2
   unfolding choiceOf
   choice-comes =
       rw (lt-ltb a (2 ^ m .days) below)
-      (range-all (λ e. cond (started a e) (started (m .free) e) (not (started (m .fixed) e))) 1 (m .days) chosen-each)
+      (range-all (λ e. cond (started a e) (started (m .available) e) (not (started (m .fixed) e))) 1 (m .days) chosen-each)
 
   -- the table's first row
   abbrev firsts : Bool
@@ -208,7 +208,7 @@ module _ (m : Month) (row : List ℕ) (b : Bounded m) (a r : ℕ) (below : a < 2
   late : (d : ℕ) → d + 7 ≤ m .days → windowsHold (dutyAt row a) (m .longest) (d + 13) ≡ true
   unfolding stepHolds
   late d l =
-      let after : (ltb (m .days) (d + 7) || windowsHold (dutyAt row a) (m .longest) (d + 13)) ≡ true = and-parts (cond (has a d) (has (m .free) d) (not (has (m .fixed) d))) _ (steps d (omega arith)) .1 in
+      let after : (ltb (m .days) (d + 7) || windowsHold (dutyAt row a) (m .longest) (d + 13)) ≡ true = and-parts (cond (has a d) (has (m .available) d) (not (has (m .fixed) d))) _ (steps d (omega arith)) .1 in
       or-false (ltb (m .days) (d + 7)) (windowsHold (dutyAt row a) (m .longest) (d + 13)) (le-ltb (m .days) (d + 7) l) after
 
   windows-come : (t : ℕ) → 7 ≤ t → t < 7 + m .days → windowsHold (dutyAt row a) (m .longest) t ≡ true

@@ -25,16 +25,16 @@ module _ (m : Month) (row : List ℕ) where
   -- ---- one day
 
   module _ (d q : ℕ) where
-    pub step-late : {v : Bool} → v ≡ cond (has q d) (has (m .free) d) (not (has (m .fixed) d)) → v ≡ true → m .days < d + 7 → true ≡ stepHolds m row d q
+    pub step-late : {v : Bool} → v ≡ cond (has q d) (has (m .available) d) (not (has (m .fixed) d)) → v ≡ true → m .days < d + 7 → true ≡ stepHolds m row d q
     unfolding stepHolds
     step-late e y h = rw (← e, y, lt-ltb (m .days) (d + 7) h)
 
-    pub step-window : {v x : Bool} → v ≡ cond (has q d) (has (m .free) d) (not (has (m .fixed) d)) → v ≡ true → d + 7 ≤ m .days
+    pub step-window : {v x : Bool} → v ≡ cond (has q d) (has (m .available) d) (not (has (m .fixed) d)) → v ≡ true → d + 7 ≤ m .days
         → x ≡ windowsHold (dutyAt row q) (m .longest) (d + 13) → x ≡ stepHolds m row d q
     unfolding stepHolds
     step-window e y h w = rw (← e, y, le-ltb (m .days) (d + 7) h) w
 
-    pub step-no : {v : Bool} → v ≡ cond (has q d) (has (m .free) d) (not (has (m .fixed) d)) → v ≡ false → false ≡ stepHolds m row d q
+    pub step-no : {v : Bool} → v ≡ cond (has q d) (has (m .available) d) (not (has (m .fixed) d)) → v ≡ false → false ≡ stepHolds m row d q
     unfolding stepHolds
     step-no e y = rw (← e, y)
 

@@ -10,7 +10,7 @@ use lib.Bits.{bitOr}
 use Rattle.numbers.specs.Range.{upFrom, all}
 use Rattle.numbers.specs.Digits.{has}
 use Rattle.days.specs.Days.{windowsHold}
-use Rattle.days.specs.CodeMonth.{dutyAt, restOn, Small}
+use Rattle.days.specs.CodeMonth.{dutyAt, restOn, SmallMonth}
 use Rattle.days.specs.declared.month.Month.{Month}
 use Rattle.daylists.specs.declared.walk.Point.{Point}
 
@@ -19,7 +19,7 @@ use Rattle.daylists.specs.declared.walk.Point.{Point}
 -- Day d is as the choice of q asks, and the windows hold that end six days after it, if that is in the month.
 unfoldable pub stepHolds : Month → List ℕ → ℕ → ℕ → Bool
 stepHolds m row d q =
-    cond (has q d) (has (m .free) d) (not (has (m .fixed) d))
+    cond (has q d) (has (m .available) d) (not (has (m .fixed) d))
     && (ltb (m .days) (d + 7) || windowsHold (dutyAt row q) (m .longest) (d + 13))
 
 -- The counts of rests after day d from which day d, chosen as in q, leads on, by those from which the days before it do.
@@ -69,6 +69,6 @@ pub record Inside (m : Month) (s : Point) : Type 0 where
 
 -- what the walk asks where it stands at s
 pub record Ready (m : Month) (row table : List ℕ) (s : Point) : Type 0 where
-  pub small : Small m
+  pub small : SmallMonth m
   pub filled : Filled m row table (64 * m .days + 64)
   pub inside : Inside m s

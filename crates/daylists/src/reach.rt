@@ -4,12 +4,12 @@ use days::month::Month;
 use days::rule;
 ghost use mathlib.Core.Path.{_≡_};
 ghost use Prim.Native.Nat.{_+_, _*_, _/_, _%_, _^_, _≤_, _<_, min};
-ghost use Rattle.days.specs.CodeMonth.{Small};
+ghost use Rattle.days.specs.CodeMonth.{SmallMonth};
 ghost use Rattle.daylists.specs.CodeWalk.{stepHolds, branch, reach, Filled};
 
 // Day d is as the choice of q asks, and the windows hold that end six days after it, if that is in the month.
 pub(crate) fn step_holds(m: Month, row: &[u64; 38], d: usize, q: u64) -> bool
-    requires { ⌜ Small m ⌝ }
+    requires { ⌜ SmallMonth m ⌝ }
     requires { ⌜ d ≤ m .days ⌝ }
     ensures { λ r. ⌜ r ≡ stepHolds m (now (row .entry)) d q ⌝ }
 {
@@ -32,7 +32,7 @@ pub(crate) fn place(q: u64, d: usize) -> usize
 
 // The counts of rests after day d from which day d, chosen as in q, leads on.
 fn branch(m: Month, row: &[u64; 38], table: &[u64; 2048], d: usize, q: u64) -> u64
-    requires { ⌜ Small m ⌝ }
+    requires { ⌜ SmallMonth m ⌝ }
     requires { ⌜ d < m .days ⌝ }
     requires { ⌜ Filled m (now row) (now table) (64 * d + 64) ⌝ }
     ensures { λ r. ⌜ r ≡ branch m (now (row .entry)) (reach m (now (row .entry)) d) d q ⌝ }
@@ -55,7 +55,7 @@ fn first_six(n: usize) -> usize
 
 // The table's place i, by those before it.
 fn entry(m: Month, row: &[u64; 38], table: &[u64; 2048], i: usize) -> u64
-    requires { ⌜ Small m ⌝ }
+    requires { ⌜ SmallMonth m ⌝ }
     requires { ⌜ i < 64 * m .days + 64 ⌝ }
     requires { ⌜ Filled m (now row) (now table) i ⌝ }
     ensures { λ r. ⌜ r ≡ reach m (now (row .entry)) (i / 64) (i % 64) ⌝ }
@@ -76,7 +76,7 @@ fn entry(m: Month, row: &[u64; 38], table: &[u64; 2048], i: usize) -> u64
 
 // The whole table.
 pub(crate) fn table_of(m: Month, row: &[u64; 38]) -> [u64; 2048]
-    requires { ⌜ Small m ⌝ }
+    requires { ⌜ SmallMonth m ⌝ }
     ensures { λ r. ⌜ Filled m (now (row .entry)) r (64 * m .days + 64) ⌝ }
 {
     let mut table = [0u64; 2048];

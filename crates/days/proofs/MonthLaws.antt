@@ -40,11 +40,11 @@ unfolding rowDuty
 duty-seven b p t h = rw (lt-ltb t 7 h)
 
 -- the month after its first d days
-pub record MonthAt (b : List ℕ) (p n d : ℕ) (row : List ℕ) (free fixed : ℕ) : Type 0 where
+pub record MonthAt (b : List ℕ) (p n d : ℕ) (row : List ℕ) (available fixed : ℕ) : Type 0 where
   pub at-most : d ≤ n
   pub row-long : length row ≡ 38
   pub row-is : (t : ℕ) → t < d + 7 → getD row t 0 ≡ rowDuty b p 0 t
-  pub free-is : free ≡ numberOf (λ e. availableOn b p (suc e)) d
+  pub available-days : available ≡ numberOf (λ e. availableOn b p (suc e)) d
   pub fixed-is : fixed ≡ numberOf (fixedDay b) d
 
 pub month-start : (b : List ℕ) (p n : ℕ) (row : List ℕ) → length row ≡ 38 → ((t : ℕ) → t < 7 → getD row t 0 ≡ duty b t) → MonthAt b p n 0 row 0 0
@@ -52,25 +52,25 @@ month-start b p n row long seven = record {
   at-most = omega arith;
   row-long = long;
   row-is = λ t h. (let l : t < 7 = omega arith in seven t l ∙ duty-seven b p t l);
-  free-is = sym (number-zero (λ e. availableOn b p (suc e)));
+  available-days = sym (number-zero (λ e. availableOn b p (suc e)));
   fixed-is = sym (number-zero (fixedDay b));
 }
 
-module _ (b : List ℕ) (p n d : ℕ) {row : List ℕ} {free fixed : ℕ} (m : MonthAt b p n d row free fixed) where
-  pub free-fits : free < 2 ^ d
-  free-fits = next-fits (λ e. availableOn b p (suc e)) d (m .free-is)
+module _ (b : List ℕ) (p n d : ℕ) {row : List ℕ} {days-set fixed : ℕ} (m : MonthAt b p n d row days-set fixed) where
+  pub available-fits : days-set < 2 ^ d
+  available-fits = next-fits (λ e. availableOn b p (suc e)) d (m .available-days)
 
   pub fixed-fits : fixed < 2 ^ d
   fixed-fits = next-fits (fixedDay b) d (m .fixed-is)
 
-  pub month-turn : {mark state idle free' fixed' : ℕ} {may must : Bool} → n ≤ 31 → d < n → mark ≡ markOn b (suc d) → state ≡ rowState b p (suc d)
-      → idle ≡ dutyOf mark state false → may ≡ available mark state → free' ≡ free + cond may (2 ^ d) 0
+  pub month-turn : {mark state idle available' fixed' : ℕ} {may must : Bool} → n ≤ 31 → d < n → mark ≡ markOn b (suc d) → state ≡ rowState b p (suc d)
+      → idle ≡ dutyOf mark state false → may ≡ available mark state → available' ≡ days-set + cond may (2 ^ d) 0
       → must ≡ eqb mark 2 → fixed' ≡ fixed + cond must (2 ^ d) 0
-      → MonthAt b p n (d + 1) (set row (d + 7) idle) free' fixed'
+      → MonthAt b p n (d + 1) (set row (d + 7) idle) available' fixed'
   month-turn {idle = idle} few h k s i y f x g = record {
     at-most = omega arith;
     row-long = length-set row (d + 7) idle ∙ m .row-long;
     row-is = λ t l. place-turn (rowDuty b p 0) row (d + 7) idle (omega (arith, m .row-long)) (m .row-is) (duty-is b p 0 d k s (sym (has-none d)) i ∙ sym (duty-none b p d)) t (omega arith);
-    free-is = next-is (λ e. availableOn b p (suc e)) d (m .free-is) f (available-is b p d k s y);
+    available-days = next-is (λ e. availableOn b p (suc e)) d (m .available-days) f (available-is b p d k s y);
     fixed-is = next-is (fixedDay b) d (m .fixed-is) g (x ∙ ap (λ (z : ℕ). eqb z 2) k);
   }

@@ -162,7 +162,7 @@ rest-day row q n d h = rests-turn (dutyAt row q) n d h
 -- ---- the choice
 
 abbrev pub choiceFrom : Month → ℕ → ℕ → Bool
-choiceFrom m q d = all (λ e. cond (started q e) (started (m .free) e) (not (started (m .fixed) e))) (upFrom (suc d) (m .days - d))
+choiceFrom m q d = all (λ e. cond (started q e) (started (m .available) e) (not (started (m .fixed) e))) (upFrom (suc d) (m .days - d))
 
 pub choice-over : (m : Month) (q : ℕ) {most : ℕ} → most ≡ 2 ^ m .days → most ≤ q → choiceOf m q ≡ false
 unfolding choiceOf
@@ -173,11 +173,11 @@ unfolding choiceOf
 choice-start m q e h = rw (lt-ltb q (2 ^ m .days) (omega arith), sub-zero (m .days))
 
 module _ (m : Month) (q d : ℕ) where
-  pub choice-yes : {v : Bool} → d < m .days → v ≡ cond (has q d) (has (m .free) d) (not (has (m .fixed) d)) → v ≡ true → choiceFrom m q d ≡ choiceFrom m q (d + 1)
+  pub choice-yes : {v : Bool} → d < m .days → v ≡ cond (has q d) (has (m .available) d) (not (has (m .fixed) d)) → v ≡ true → choiceFrom m q d ≡ choiceFrom m q (d + 1)
   unfolding all
   choice-yes h g y = rw (range-turn (m .days) d h, ← g, y)
 
-  pub choice-no : {v : Bool} → d < m .days → v ≡ cond (has q d) (has (m .free) d) (not (has (m .fixed) d)) → v ≡ false → choiceFrom m q d ≡ false
+  pub choice-no : {v : Bool} → d < m .days → v ≡ cond (has q d) (has (m .available) d) (not (has (m .fixed) d)) → v ≡ false → choiceFrom m q d ≡ false
   unfolding all
   choice-no h g y = rw (range-turn (m .days) d h, ← g, y)
 

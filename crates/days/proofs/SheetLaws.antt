@@ -16,7 +16,7 @@ use Rattle.numbers.proofs.AgreeLaws.{all-agree, keep-agree}
 use Rattle.fields.specs.Fields.{days, longestDays, block, duty, leastRestsOf, mostRestsOf, markOn}
 use Rattle.rows.specs.Rows.{started, rowState, available, availableOn, fixedDay, dutyOf, dutyOn}
 use Rattle.days.specs.Days.{choice, rowDuty, isRest, windowsHold, rests, dayRule, dayRuleOf, dayList}
-use Rattle.days.specs.CodeMonth.{IsSheet, Small, inBounds, dutyAt, choiceOf, ruleOf}
+use Rattle.days.specs.CodeMonth.{IsSheet, SmallMonth, inBounds, dutyAt, choiceOf, ruleOf}
 use Rattle.days.specs.declared.month.Month.{Month}
 use Rattle.days.proofs.WindowLaws.{windows-same}
 
@@ -46,16 +46,16 @@ choice-available b n p q d c l h =
 -- ---- the month of a nurse: D and the days are those of her sheet
 
 module _ (b : List ℕ) (p : ℕ) (m : Month) (row : List ℕ) (s : IsSheet b (m .days) (m .longest) p m row) (short : m .longest ≤ 6) (q : ℕ) where
-  free-at : (d : ℕ) → d < m .days → has (m .free) d ≡ availableOn b p (suc d)
-  free-at d l = ap (λ (x : ℕ). has x d) (s .free-is) ∙ number-has (λ e. availableOn b p (suc e)) (m .days) d l
+  available-at : (d : ℕ) → d < m .days → has (m .available) d ≡ availableOn b p (suc d)
+  available-at d l = ap (λ (x : ℕ). has x d) (s .available-days) ∙ number-has (λ e. availableOn b p (suc e)) (m .days) d l
 
   fixed-at : (d : ℕ) → d < m .days → has (m .fixed) d ≡ eqb (markOn b (suc d)) 2
   fixed-at d l = ap (λ (x : ℕ). has x d) (s .fixed-is) ∙ number-has (fixedDay b) (m .days) d l
 
   chosen-is : (d : ℕ) → 1 ≤ d → d < 1 + m .days
-      → cond (started q d) (availableOn b p d) (not (eqb (markOn b d) 2)) ≡ cond (started q d) (started (m .free) d) (not (started (m .fixed) d))
+      → cond (started q d) (availableOn b p d) (not (eqb (markOn b d) 2)) ≡ cond (started q d) (started (m .available) d) (not (started (m .fixed) d))
   chosen-is zero l h = absurd (omega arith)
-  chosen-is (suc d) l h = rw (free-at d (omega arith), fixed-at d (omega arith))
+  chosen-is (suc d) l h = rw (available-at d (omega arith), fixed-at d (omega arith))
 
   choice-is : choice b (m .days) p q ≡ choiceOf m q
   unfolding choice choiceOf
@@ -112,7 +112,7 @@ rule-is b n longest p m row s short q =
     (subst (λ (k : ℕ). IsSheet b k (m .longest) p m row) (sym (s .days-is)) (subst (λ (l : ℕ). IsSheet b n l p m row) (sym (s .longest-is)) s))
     (rw (s .longest-is) short) q
 
-pub sheet-small : (b : List ℕ) (n longest p : ℕ) (m : Month) (row : List ℕ) → IsSheet b n longest p m row → n ≤ 31 → longest ≤ 6 → Small m
+pub sheet-small : (b : List ℕ) (n longest p : ℕ) (m : Month) (row : List ℕ) → IsSheet b n longest p m row → n ≤ 31 → longest ≤ 6 → SmallMonth m
 sheet-small b n longest p m row s few short = record { few-days = omega (arith, s .days-is); short = omega (arith, s .longest-is) }
 
 -- ---- what her list is: ascending, and exactly the patterns that the rule lets through

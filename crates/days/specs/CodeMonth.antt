@@ -24,13 +24,13 @@ pub record IsSheet (b : List ℕ) (n longest p : ℕ) (m : Month) (row : List �
   pub longest-is : m .longest ≡ longest
   pub least-is : m .least ≡ leastRestsOf b
   pub most-is : m .most ≡ mostRestsOf b
-  pub free-is : m .free ≡ numberOf (λ d. availableOn b p (suc d)) n
+  pub available-days : m .available ≡ numberOf (λ d. availableOn b p (suc d)) n
   pub fixed-is : m .fixed ≡ numberOf (fixedDay b) n
   pub within-is : m .within ≡ numberOf (inBounds (leastRestsOf b) (mostRestsOf b)) 32
   pub row-is : (t : ℕ) → t < 7 + n → getD row t 0 ≡ rowDuty b p 0 t
 
 -- what the code leans on
-pub record Small (m : Month) : Type 0 where
+pub record SmallMonth (m : Month) : Type 0 where
   pub few-days : m .days ≤ 31
   pub short : m .longest ≤ 6
 
@@ -43,7 +43,7 @@ dutyAt row q t = cond (ltb t 7) (getD row t 0) (cond (has q (t - 7)) 1 (getD row
 unfoldable pub choiceOf : Month → ℕ → Bool
 choiceOf m q =
     ltb q (2 ^ m .days)
-    && all (λ d. cond (started q d) (started (m .free) d) (not (started (m .fixed) d))) (upFrom 1 (m .days))
+    && all (λ d. cond (started q d) (started (m .available) d) (not (started (m .fixed) d))) (upFrom 1 (m .days))
 
 unfoldable pub ruleOf : Month → List ℕ → ℕ → Bool
 ruleOf m row q =

@@ -16,7 +16,7 @@ pub struct Month {
     pub longest: usize,
     pub least: u64,
     pub most: u64,
-    pub free: u64,
+    pub available: u64,
     pub fixed: u64,
     pub within: u64,
 }
@@ -81,13 +81,13 @@ pub(crate) fn sheet_of(b: &[u64], n: usize, longest: usize, p: u32) -> Sheet
 {
     let states = rows::states(b, n, p);
     let mut row = seven_days(b);
-    let mut free: u64 = 0;
+    let mut available: u64 = 0;
     let mut fixed: u64 = 0;
     let mut d: usize = 0;
     while d < n {
         let mark = nurse::mark(b, d);
         row[d + 7] = rows::duty_of(mark, states[d], false);
-        free = with_next(free, d as u64, rows::is_available(mark, states[d]));
+        available = with_next(available, d as u64, rows::is_available(mark, states[d]));
         fixed = with_next(fixed, d as u64, mark == 2);
         d = d + 1;
     }
@@ -98,7 +98,7 @@ pub(crate) fn sheet_of(b: &[u64], n: usize, longest: usize, p: u32) -> Sheet
         longest: longest,
         least: least,
         most: most,
-        free: free,
+        available: available,
         fixed: fixed,
         within: bounds(least, most),
     };

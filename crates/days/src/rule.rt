@@ -7,7 +7,7 @@ ghost use Prim.Native.Nat.{suc, _≤_, _<_};
 ghost use Rattle.numbers.specs.Range.{upFrom, all};
 ghost use Rattle.numbers.specs.Digits.{has};
 ghost use Rattle.days.specs.Days.{inRun, isRest, alternating, anyOf, same, window, windowsHold, rests};
-ghost use Rattle.days.specs.CodeMonth.{Small, dutyAt, choiceOf, restOn, ruleOf};
+ghost use Rattle.days.specs.CodeMonth.{SmallMonth, dutyAt, choiceOf, restOn, ruleOf};
 
 // The sequence of duties that no row has: rest, day, rest, day, rest.
 const FORBIDDEN: [u64; 5] = [0, 1, 0, 1, 0];
@@ -159,17 +159,17 @@ fn rests_of(row: &[u64; 38], q: u64, n: usize) -> u64
 // Day d is worked only where she is available, and is worked where it is marked 2.
 pub fn may_choose(m: Month, q: u64, d: usize) -> bool
     requires { ⌜ d < 32 ⌝ }
-    ensures { λ r. ⌜ r ≡ cond (has q d) (has (m .free) d) (not (has (m .fixed) d)) ⌝ }
+    ensures { λ r. ⌜ r ≡ cond (has q d) (has (m .available) d) (not (has (m .fixed) d)) ⌝ }
 {
     if has(q, d) {
-        return has(m.free, d);
+        return has(m.available, d);
     }
     !has(m.fixed, d)
 }
 
 // A set of available days with every mark 2 in it.
 fn choice_holds(m: Month, q: u64) -> bool
-    requires { ⌜ Small m ⌝ }
+    requires { ⌜ SmallMonth m ⌝ }
     ensures { λ r. ⌜ r ≡ choiceOf m q ⌝ }
 {
     let n = m.days;
@@ -190,7 +190,7 @@ fn choice_holds(m: Month, q: u64) -> bool
 
 // The day rule.
 pub(crate) fn rule_holds(m: Month, row: &[u64; 38], q: u64) -> bool
-    requires { ⌜ Small m ⌝ }
+    requires { ⌜ SmallMonth m ⌝ }
     ensures { λ r. ⌜ r ≡ ruleOf m (now (row .entry)) q ⌝ }
 {
     if choice_holds(m, q) {

@@ -1,4 +1,4 @@
--- What `least` takes is in its list, and goes before all else in it; `offers` lists exactly the free patterns.
+-- What `least` takes is in its list, and goes before all else in it; `offers` lists exactly the may patterns.
 use Prim.Native.Nat.{ℕ, zero, suc, _+_, _≤_, _<_}
 use mathlib.Core.Path.{_≡_, refl, sym, ap, subst}
 use mathlib.Core.Bool.{Bool, true, false, cond, _&&_, _||_}
@@ -99,20 +99,20 @@ module _ (cost : Step → ℕ) where
   least-first (x ∷ l) s e =
       rw (Option·some-injective _ s e) at (lesser-first x l (least cost l) (least-none l) (λ t. least-first l t))
 
--- what `offersTo free i ps` holds
+-- what `offersTo may i ps` holds
 abbrev pub Offered : (ℕ → ℕ → Bool) → ℕ → List ℕ → Step → Type 0
-Offered free i ps s = (s .nurse ≡ i) × List·Memᴰ (s .pattern) ps × (free i (s .pattern) ≡ true)
+Offered may i ps s = (s .nurse ≡ i) × List·Memᴰ (s .pattern) ps × (may i (s .pattern) ≡ true)
 
-module _ (free : ℕ → ℕ → Bool) (i : ℕ) where
-  pub offersTo-only : (ps : List ℕ) (s : Step) → List·Memᴰ s (offersTo free i ps) → Offered free i ps s
+module _ (may : ℕ → ℕ → Bool) (i : ℕ) where
+  pub offersTo-only : (ps : List ℕ) (s : Step) → List·Memᴰ s (offersTo may i ps) → Offered may i ps s
   offersTo-only [] s m = absurd (List·Memᴰ·not-nil m)
-  offersTo-only (p ∷ ps) s m = go (λ m. offersTo-only ps s m) (free i p) refl m
+  offersTo-only (p ∷ ps) s m = go (λ m. offersTo-only ps s m) (may i p) refl m
     where
-      deeper : Offered free i ps s → Offered free i (p ∷ ps) s
+      deeper : Offered may i ps s → Offered may i (p ∷ ps) s
       deeper r = (r .0, List·Memᴰ·tail (r .1), r .2)
 
-      go : (List·Memᴰ s (offersTo free i ps) → Offered free i ps s) → (b : Bool) → free i p ≡ b
-          → List·Memᴰ s (cond b (record { nurse = i; pattern = p } ∷ offersTo free i ps) (offersTo free i ps)) → Offered free i (p ∷ ps) s
+      go : (List·Memᴰ s (offersTo may i ps) → Offered may i ps s) → (b : Bool) → may i p ≡ b
+          → List·Memᴰ s (cond b (record { nurse = i; pattern = p } ∷ offersTo may i ps) (offersTo may i ps)) → Offered may i (p ∷ ps) s
       go ih true e m =
           ⊎-elim
           (λ q. (ap (λ (x : Step). x .nurse) q, List·Memᴰ·head (ap (λ (x : Step). x .pattern) q), rw q e))
@@ -120,34 +120,34 @@ module _ (free : ℕ → ℕ → Bool) (i : ℕ) where
           (List·Memᴰ·cases-cons m)
       go ih false e m = deeper (ih m)
 
-  offersTo-all : (ps : List ℕ) (p : ℕ) → List·Memᴰ p ps → free i p ≡ true → List·Memᴰ (record { nurse = i; pattern = p }) (offersTo free i ps)
+  offersTo-all : (ps : List ℕ) (p : ℕ) → List·Memᴰ p ps → may i p ≡ true → List·Memᴰ (record { nurse = i; pattern = p }) (offersTo may i ps)
   offersTo-all [] p m e = absurd (List·Memᴰ·not-nil m)
-  offersTo-all (q ∷ ps) p m e = go (λ m. offersTo-all ps p m e) (free i q) refl (List·Memᴰ·cases-cons m)
+  offersTo-all (q ∷ ps) p m e = go (λ m. offersTo-all ps p m e) (may i q) refl (List·Memᴰ·cases-cons m)
     where
-      go : (List·Memᴰ p ps → List·Memᴰ (record { nurse = i; pattern = p }) (offersTo free i ps)) → (b : Bool) → free i q ≡ b → (p ≡ q) ⊎ List·Memᴰ p ps
-          → List·Memᴰ (record { nurse = i; pattern = p }) (cond b (record { nurse = i; pattern = q } ∷ offersTo free i ps) (offersTo free i ps))
+      go : (List·Memᴰ p ps → List·Memᴰ (record { nurse = i; pattern = p }) (offersTo may i ps)) → (b : Bool) → may i q ≡ b → (p ≡ q) ⊎ List·Memᴰ p ps
+          → List·Memᴰ (record { nurse = i; pattern = p }) (cond b (record { nurse = i; pattern = q } ∷ offersTo may i ps) (offersTo may i ps))
       go ih true b (inl d) = List·Memᴰ·head (ap (λ (x : ℕ). record { nurse = i; pattern = x }) d)
       go ih true b (inr m) = List·Memᴰ·tail (ih m)
       go ih false b (inl d) = absurd (not-both e (rw d b))
       go ih false b (inr m) = ih m
 
-module _ (patterns : ℕ → List ℕ) (free : ℕ → ℕ → Bool) where
-  pub offers-only : (is : List ℕ) (s : Step) → List·Memᴰ s (offers patterns free is)
-      → List·Memᴰ (s .nurse) is × List·Memᴰ (s .pattern) (patterns (s .nurse)) × (free (s .nurse) (s .pattern) ≡ true)
+module _ (patterns : ℕ → List ℕ) (may : ℕ → ℕ → Bool) where
+  pub offers-only : (is : List ℕ) (s : Step) → List·Memᴰ s (offers patterns may is)
+      → List·Memᴰ (s .nurse) is × List·Memᴰ (s .pattern) (patterns (s .nurse)) × (may (s .nurse) (s .pattern) ≡ true)
   offers-only [] s m = absurd (List·Memᴰ·not-nil m)
   offers-only (i ∷ is) s m =
       ⊎-elim
-      (λ m. let o = offersTo-only free i (patterns i) s m in (List·Memᴰ·head (o .0), rw (o .0) (o .1), rw (o .0) (o .2)))
+      (λ m. let o = offersTo-only may i (patterns i) s m in (List·Memᴰ·head (o .0), rw (o .0) (o .1), rw (o .0) (o .2)))
       (λ m. let o = offers-only is s m in (List·Memᴰ·tail (o .0), o .1, o .2))
-      (List·Memᴰ·append-cases (offersTo free i (patterns i)) m)
+      (List·Memᴰ·append-cases (offersTo may i (patterns i)) m)
 
-  pub offers-all : (is : List ℕ) (s : Step) → List·Memᴰ (s .nurse) is → List·Memᴰ (s .pattern) (patterns (s .nurse)) → free (s .nurse) (s .pattern) ≡ true
-      → List·Memᴰ s (offers patterns free is)
+  pub offers-all : (is : List ℕ) (s : Step) → List·Memᴰ (s .nurse) is → List·Memᴰ (s .pattern) (patterns (s .nurse)) → may (s .nurse) (s .pattern) ≡ true
+      → List·Memᴰ s (offers patterns may is)
   offers-all [] s n m e = absurd (List·Memᴰ·not-nil n)
   offers-all (i ∷ is) s n m e =
       ⊎-elim
-      (λ q. Memᴰ·append-left (offers patterns free is) (subst (λ (j : ℕ). List·Memᴰ s (offersTo free j (patterns j))) q (offersTo-all free (s .nurse) (patterns (s .nurse)) (s .pattern) m e)))
-      (λ n. Memᴰ·append-right (offersTo free i (patterns i)) (offers-all is s n m e))
+      (λ q. Memᴰ·append-left (offers patterns may is) (subst (λ (j : ℕ). List·Memᴰ s (offersTo may j (patterns j))) q (offersTo-all may (s .nurse) (patterns (s .nurse)) (s .pattern) m e)))
+      (λ n. Memᴰ·append-right (offersTo may i (patterns i)) (offers-all is s n m e))
       (List·Memᴰ·cases-cons n)
 
 pub range-only : (a n i : ℕ) → List·Memᴰ i (upFrom a n) → (a ≤ i) × (i < a + n)

@@ -14,7 +14,7 @@ use Rattle.codec.specs.declared.Number.the-variants.{Value, Ended, Long}
 use Rattle.layout.specs.declared.Want.the-variants.{Next, Nothing}
 use Rattle.codec.specs.Groups.{decode, decodeGroups, final, under}
 use Rattle.layout.specs.Grammar.{Grammar, done, number, failedBy, fits, Read, good, bad, prepend, onPass, onNumber, read, check}
-use Rattle.layout.specs.CodeWant.{wanted, after, Within, Small}
+use Rattle.layout.specs.CodeWant.{wanted, after, Within, SmallField}
 
 -- a number that is failedBy nothing more is in its range
 pub in-range : (f : Field) (v : ℕ) → failedBy f v ≡ 0 → (f .least ≤ v) × (v ≤ f .most)
@@ -34,7 +34,7 @@ pub is-done : (g : Grammar) → wanted g ≡ Nothing → g ≡ done
 is-done done e = refl
 is-done (number f k) e = let z : _≡_ {A = ℕ} 0 1 = cc in absurd (omega arith)
 
-pub small : (n : ℕ) (g : Grammar) → Within n g → Small (wanted g)
+pub small : (n : ℕ) (g : Grammar) → Within n g → SmallField (wanted g)
 small n done h = tt
 small zero (number f k) h = absurd h
 small (suc n) (number f k) h = h .0

@@ -20,6 +20,6 @@ Within zero (number f k) = ⊥
 Within (suc n) (number f k) = (f .most < 2 ^ 49) × ((v : ℕ) → f .least ≤ v → v ≤ f .most → Within n (k v))
 
 -- a field's numbers fit seven groups
-abbrev pub Small : Want → Type 0
-Small (Next f) = f .most < 2 ^ 49
-Small Nothing = Unit
+abbrev pub SmallField : Want → Type 0
+SmallField (Next f) = f .most < 2 ^ 49
+SmallField Nothing = Unit

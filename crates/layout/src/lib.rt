@@ -3,7 +3,7 @@ use refusals::question;
 ghost use mathlib.Core.Path.{_≡_};
 ghost use Prim.Native.Nat.{_-_, _^_, _<_};
 ghost use Rattle.layout.specs.Grammar.{failedBy};
-ghost use Rattle.layout.specs.CodeWant.{wanted, after, Small};
+ghost use Rattle.layout.specs.CodeWant.{wanted, after, SmallField};
 ghost use Rattle.layout.specs.Layout;
 ghost use Rattle.layout.specs.CodePlace.{tree, moved, innerLeft, outerLeft, turn};
 
@@ -121,7 +121,7 @@ fn all(m: u64) -> u64
 
 // The field of the next number.
 pub fn wanted_at(c: Cursor) -> Want
-    requires { ⌜ Small (wanted (tree c)) ⌝ }
+    requires { ⌜ SmallField (wanted (tree c)) ⌝ }
     ensures { λ r. ⌜ r ≡ wanted (tree c) ⌝ }
 {
     let place = c.place;

@@ -7,6 +7,7 @@ use native.Mathlib.Numerals.{add-one}
 use native.Mathlib.Omega.{arith}
 use lib.ListN.{length, take, drop, set as setAt, replicate, length-replicate, replicate-append-replicate}
 use lib.Seq.{paste, paste-suc, take-at, drop-at, take-all, drop-append-add}
+use Rattle.fields.specs.Sizes.{letterPlaces}
 use Rattle.fields.specs.Fields.{Accepted, nurses, days, block}
 use Rattle.rows.specs.Rows.{dutyOn}
 use Rattle.letters.specs.Letters.{letter, rowLettersOf, rowLetters, letters}
@@ -17,7 +18,7 @@ use Rattle.letters.specs.declared.written.Roster.{Roster}
 -- ---- a row, put in over what stood at its places
 
 module _ (over : List ℕ) (at : ℕ) (b : List ℕ) (n p q d : ℕ) {row : List ℕ} (e : row ≡ paste over at (rowLettersOf b n p q) d) where
-  pub letter-put : {x : ℕ} → length over ≡ 1488 → at + n ≤ 1488 → d < n → x ≡ letter (dutyOn b p q (suc d)) → setAt row (at + d) x ≡ paste over at (rowLettersOf b n p q) (d + 1)
+  pub letter-put : {x : ℕ} → length over ≡ letterPlaces → at + n ≤ letterPlaces → d < n → x ≡ letter (dutyOn b p q (suc d)) → setAt row (at + d) x ≡ paste over at (rowLettersOf b n p q) (d + 1)
   letter-put {x} long fits h l =
       let s = rowLettersOf b n p q in
       let inside : d < length s = rw (row-length b n p q) h in
@@ -41,12 +42,12 @@ drop-zeros n k m e =
 module _ (w : List ℕ) (ps qs : ℕ → ℕ) where
   -- the first i rows, and 0 after them
   abbrev pub Rows : ℕ → List ℕ → Type 0
-  Rows i all = all ≡ letters w ps qs i ++ replicate (1488 - i * days w) 0
+  Rows i all = all ≡ letters w ps qs i ++ replicate (letterPlaces - i * days w) 0
 
-  pub rows-start : Rows 0 (replicate 1488 0)
+  pub rows-start : Rows 0 (replicate letterPlaces 0)
   unfolding letters
   rows-start =
-      let z : 1488 - 0 * days w ≡ 1488 = omega (arith, zero-mul (days w)) in
+      let z : letterPlaces - 0 * days w ≡ letterPlaces = omega (arith, zero-mul (days w)) in
       rw z
 
   row-over : (i : ℕ) (zeros row : List ℕ) → length row ≡ days w
@@ -60,38 +61,38 @@ module _ (w : List ℕ) (ps qs : ℕ → ℕ) where
       (ap (λ (x : ℕ). drop x (before ++ zeros)) back ∙ drop-append-add before zeros n)
       ∙ ap (λ (x : List ℕ). (before ++ x) ++ drop n zeros) (take-all n row (omega arith))
 
-  pub rows-turn : (i : ℕ) {all next : List ℕ} → Rows i all → i < nurses w → nurses w * days w ≤ 1488
+  pub rows-turn : (i : ℕ) {all next : List ℕ} → Rows i all → i < nurses w → nurses w * days w ≤ letterPlaces
       → next ≡ paste all (i * days w) (rowLetters w i (ps i) (qs i)) (days w) → Rows (i + 1) next
   unfolding letters
   rows-turn i e h fits q =
       let n = days w in
       let row = rowLetters w i (ps i) (qs i) in
-      let rest : 1488 - i * n ≡ n + (1488 - suc i * n) = omega (arith, row-fits (nurses w) n i h, suc-mul i n) in
+      let rest : letterPlaces - i * n ≡ n + (letterPlaces - suc i * n) = omega (arith, row-fits (nurses w) n i h, suc-mul i n) in
       q ∙ ap (λ (x : List ℕ). paste x (i * n) row n) e
-      ∙ row-over i (replicate (1488 - i * n) 0) row (row-length (block w i) n (ps i) (qs i))
-      ∙ ap (λ (x : List ℕ). (letters w ps qs i ++ row) ++ x) (drop-zeros n (1488 - i * n) (1488 - suc i * n) rest)
+      ∙ row-over i (replicate (letterPlaces - i * n) 0) row (row-length (block w i) n (ps i) (qs i))
+      ∙ ap (λ (x : List ℕ). (letters w ps qs i ++ row) ++ x) (drop-zeros n (letterPlaces - i * n) (letterPlaces - suc i * n) rest)
       ∙ rw (add-one i)
 
   pub rows-end : (i : ℕ) {all : List ℕ} → Rows i all → i ≤ nurses w → nurses w ≤ i → Rows (nurses w) all
   rows-end i e l g =
       let same : i ≡ nurses w = omega arith in
-      e ∙ ap (λ (k : ℕ). letters w ps qs k ++ replicate (1488 - k * days w) 0) same
+      e ∙ ap (λ (k : ℕ). letters w ps qs k ++ replicate (letterPlaces - k * days w) 0) same
 
 -- ---- the loop over the nurses
 
 pub record WrittenTo (w : List ℕ) (ps qs : ℕ → ℕ) (i : ℕ) (r : Roster) : Type 0 where
-  pub rows-in : r .letters ≡ letters w ps qs i ++ replicate (1488 - i * days w) 0
+  pub rows-in : r .letters ≡ letters w ps qs i ++ replicate (letterPlaces - i * days w) 0
   pub count-is : r .count ≡ i * days w
 
-all-room : (w : List ℕ) → Accepted w → nurses w * days w ≤ 1488
+all-room : (w : List ℕ) → Accepted w → nurses w * days w ≤ letterPlaces
 all-room w a = mul-le-mul (a .nurses-most) (a .days-most)
 
 module _ (w : List ℕ) (ps qs : ℕ → ℕ) where
-  pub written-start : (r : Roster) → r .letters ≡ replicate 1488 0 → r .count ≡ 0 → WrittenTo w ps qs 0 r
+  pub written-start : (r : Roster) → r .letters ≡ replicate letterPlaces 0 → r .count ≡ 0 → WrittenTo w ps qs 0 r
   written-start r e c = record { rows-in = e ∙ rows-start w ps qs; count-is = c ∙ sym (zero-mul (days w)) }
 
   module _ (i : ℕ) {r : Roster} (t : WrittenTo w ps qs i r) where
-    pub row-room : {n : ℕ} → Accepted w → i < nurses w → n ≡ days w → r .count + n ≤ 1488
+    pub row-room : {n : ℕ} → Accepted w → i < nurses w → n ≡ days w → r .count + n ≤ letterPlaces
     row-room a h e = omega (arith, t .count-is, row-fits (nurses w) (days w) i h, all-room w a)
 
     pub written-turn : (next : Roster) (b : List ℕ) (n : ℕ) → Accepted w → i < nurses w → b ≡ block w i → n ≡ days w

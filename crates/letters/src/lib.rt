@@ -9,7 +9,7 @@ ghost use Rattle.letters.specs.CodeLetters.{badFrom, foundOf};
 const LETTERS: [u8; 5] = [b'/', b'-', b'N', b'n', b'+'];
 
 // The letter of a duty.
-pub fn letter_of(duty: usize) -> u8
+pub(crate) fn letter_of(duty: usize) -> u8
     requires { ⌜ duty < 5 ⌝ }
     ensures { λ r. ⌜ r ≡ letter duty ⌝ }
 {

@@ -1,9 +1,13 @@
 // The roster that a choice of patterns makes.
 use fields::nurse;
+use fields::sizes::DAYS;
+use fields::sizes::LETTERS;
+use fields::sizes::NURSES;
 ghost use mathlib.Core.Path.{_≡_};
 ghost use Prim.Native.Nat.{ℕ, suc, _+_, _≤_, _<_};
 ghost use lib.ListN.{getD};
 ghost use lib.Seq.{paste};
+ghost use Rattle.fields.specs.Sizes.{letterPlaces};
 ghost use Rattle.fields.specs.Fields.{Accepted, Block};
 ghost use Rattle.rows.specs.Rows.{dutyOn};
 ghost use Rattle.letters.specs.Letters.{letter, rowLettersOf};
@@ -11,17 +15,17 @@ ghost use Rattle.letters.specs.CodeRoster.{Written};
 
 // Its letters from the start, 0 after them, and how many there are.
 pub struct Roster {
-    pub letters: [u8; 1488],
+    pub letters: [u8; LETTERS],
     pub count: usize,
 }
 
 // The letters of the row of night pattern p and day pattern q, and 0 after them.
-pub fn row_letters(b: &[u64], n: usize, p: u32, q: u32) -> [u8; 31]
+pub fn row_letters(b: &[u64], n: usize, p: u32, q: u32) -> [u8; DAYS]
     requires { ⌜ (n ≤ 31) × Block (now b) n ⌝ }
     ensures { λ r. ⌜ ((d : ℕ) → d < n → getD r d 0 ≡ letter (dutyOn (now (b .entry)) p q (suc d))) ⌝ }
 {
     let states = rows::states(b, n, p);
-    let mut row = [0u8; 31];
+    let mut row = [0u8; DAYS];
     let mut d: usize = 0;
     while d < n {
         let worked = numbers::has_bit(q, d as u64);
@@ -35,7 +39,7 @@ pub fn row_letters(b: &[u64], n: usize, p: u32, q: u32) -> [u8; 31]
 impl Roster {
     // With one row more, that of night pattern p and day pattern q.
     fn with_row(self, b: &[u64], n: usize, p: u32, q: u32) -> Roster
-        requires { ⌜ (n ≤ 31) × Block (now b) n × (self .count + n ≤ 1488) ⌝ }
+        requires { ⌜ (n ≤ 31) × Block (now b) n × (self .count + n ≤ letterPlaces) ⌝ }
         ensures { λ r. ⌜ (r .letters ≡ paste (self .letters) (self .count) (rowLettersOf (now (b .entry)) n p q) n) × (r .count ≡ self .count + n) ⌝ }
     {
         let row = row_letters(b, n, p, q);
@@ -52,14 +56,14 @@ impl Roster {
 }
 
 // The roster of everyone's night and day pattern.
-pub fn roster_of(w: &[u64], nights: [u32; 48], worked: [u32; 48]) -> Roster
+pub fn roster_of(w: &[u64], nights: [u32; NURSES], worked: [u32; NURSES]) -> Roster
     requires { ⌜ Accepted (now w) ⌝ }
     ensures { λ r. ⌜ Written (now (w .entry)) (λ i. getD nights i 0) (λ i. getD worked i 0) r ⌝ }
 {
     let m = fields::nurses(w);
     let n = fields::days(w);
     let mut roster = Roster {
-        letters: [0; 1488],
+        letters: [0; LETTERS],
         count: 0,
     };
     let mut i: usize = 0;

@@ -8,7 +8,7 @@ use Rattle.nightlists.specs.declared.State.{State}
 use Rattle.nightlists.specs.declared.Next.{Next}
 use Rattle.nightlists.specs.declared.Next.the-variants.{To, Never}
 use Rattle.fields.specs.Rules.{gap}
-use Rattle.fields.specs.CodeRules.{Small}
+use Rattle.fields.specs.CodeRules.{SmallRules}
 
 -- a run of so many starts is followed by a gap that is wide enough, or by nothing
 abbrev pub closed : Rules → ℕ → ℕ → Bool
@@ -39,6 +39,6 @@ listed r (suc d) a s = listed r d a s ++ onward (startAt r (suc d) s) (λ t. lis
 
 -- what the walk asks where `left` days are undecided and the others make the number a
 pub record Ready (r : Rules) (left a : ℕ) : Type 0 where
-  pub small : Small r
+  pub small : SmallRules r
   pub few-days : left ≤ 31
   pub fits : a + 2 ^ left ≤ 2 ^ 32

@@ -2,8 +2,8 @@
 use crate::Next;
 use crate::State;
 use fields::rules::Rules;
-use own::masks;
-use own::masks::Masks;
+use nursemasks::masks;
+use nursemasks::masks::Masks;
 ghost use mathlib.Core.Path.{_≡_};
 ghost use Prim.Native.Nat.{ℕ, _<_};
 ghost use lib.Dec.{ltb};
@@ -14,7 +14,7 @@ ghost use Rattle.fields.specs.Rules.{rulesOf};
 ghost use Rattle.nights.specs.CodeCommon.{Among};
 ghost use Rattle.nightlists.specs.CodeWalk.{listed, Ready};
 ghost use Rattle.nights.specs.Hers.{hersOf, nightList};
-ghost use Rattle.own.specs.CodeMasks.{masksOf, Masked};
+ghost use Rattle.nursemasks.specs.CodeMasks.{masksOf, Masked};
 
 // Whether one of the patterns below is hers.
 fn some(left: u64, from: u32, s: State, r: Rules, w: &[u64], m: Masks) -> bool

@@ -7,7 +7,7 @@ ghost use lib.ListN.{length};
 ghost use Rattle.fields.specs.Fields.{Accepted, Block, nurses};
 ghost use Rattle.rows.specs.Rows.{marksAllow};
 ghost use Rattle.nights.specs.Nights.{allowed, runWith, follow, starts};
-ghost use Rattle.fields.specs.CodeRules.{Small};
+ghost use Rattle.fields.specs.CodeRules.{SmallRules};
 ghost use Rattle.nights.specs.Hers.{shifted, lastRun, hers, hersOf};
 
 // The day of the last start, and how many starts its run has; 0 and 0 for none.
@@ -50,7 +50,7 @@ pub fn last_run(b: &[u64]) -> Run
 }
 
 fn is_allowed(r: Rules, prev: u64, run: u64, s: u64) -> bool
-    requires { ⌜ Small r ⌝ }
+    requires { ⌜ SmallRules r ⌝ }
     requires { ⌜ (prev ≤ 100) × (run ≤ 100) ⌝ }
     ensures { λ b. ⌜ b ≡ allowed r prev run s ⌝ }
 {
@@ -66,7 +66,7 @@ fn is_allowed(r: Rules, prev: u64, run: u64, s: u64) -> bool
 
 // Whether the starts of p, each `off` days on, follow the run that ends at `from`.
 pub fn keeps(r: Rules, from: Run, off: u64, n: u64, p: u32) -> bool
-    requires { ⌜ Small r ⌝ }
+    requires { ⌜ SmallRules r ⌝ }
     requires { ⌜ (n ≤ 31) × (off ≤ 7) × (from .prev ≤ 7) × (from .run ≤ 7) ⌝ }
     ensures { λ b. ⌜ b ≡ follow r (from .prev) (from .run) (shifted off (starts n p)) ⌝ }
 {
@@ -110,7 +110,7 @@ fn marks_allow(table: &[[u8; 4]; 7], b: &[u64], n: u64, p: u32) -> bool
 
 // Whether p is in the list of the nurse with block b.
 fn is_hers_by(table: &[[u8; 4]; 7], r: Rules, n: u64, b: &[u64], p: u32) -> bool
-    requires { ⌜ Small r ⌝ }
+    requires { ⌜ SmallRules r ⌝ }
     requires { ⌜ n ≤ 31 ⌝ }
     requires { ⌜ Block (now b) n ⌝ }
     ensures { λ h. ⌜ h ≡ hers (now (table .entry)) r n (now (b .entry)) p ⌝ }

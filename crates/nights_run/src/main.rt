@@ -4,7 +4,7 @@ use fields::rules::Rules;
 use refusals::Answer;
 ghost use Prim.Native.Nat.{_≤_, _<_};
 ghost use Rattle.fields.specs.Fields.{Accepted, nurses};
-ghost use Rattle.fields.specs.CodeRules.{Small};
+ghost use Rattle.fields.specs.CodeRules.{SmallRules};
 
 fn wide(x: u32) -> u64 {
     x as u64
@@ -18,7 +18,7 @@ fn number(n: u64) {
 // Writes the common list where the buffer holds it, and answers how many numbers it has; where the buffer is too short, one
 // more than its places.
 fn list(r: Rules, n: u64, buf: &mut [u32]) -> usize
-    requires { ⌜ Small r ⌝ }
+    requires { ⌜ SmallRules r ⌝ }
     requires { ⌜ n ≤ 31 ⌝ }
 {
     let cap = buf.len();
@@ -32,7 +32,7 @@ fn list(r: Rules, n: u64, buf: &mut [u32]) -> usize
 // Prints what `list` answers, the list's first and last number, and how many places still hold a 7, which no pattern is: it has
 // starts on days 1 and 2.
 fn show_list(r: Rules, n: u64, buf: &mut [u32]) -> usize
-    requires { ⌜ Small r ⌝ }
+    requires { ⌜ SmallRules r ⌝ }
     requires { ⌜ n ≤ 31 ⌝ }
 {
     let found = list(r, n, buf);
@@ -60,7 +60,7 @@ fn show_list(r: Rules, n: u64, buf: &mut [u32]) -> usize
 
 // Days 30, V 5, L 1, g1 3.
 fn thirty() -> Rules
-    ensures { λ r. ⌜ Small r ⌝ }
+    ensures { λ r. ⌜ SmallRules r ⌝ }
 {
     Rules {
         most: 5,
@@ -90,12 +90,12 @@ fn compare(w: &[u64], i: usize, list: &[u32]) -> Own
     requires { ⌜ Accepted (now w) ⌝ }
     requires { ⌜ i < nurses (now w) ⌝ }
 {
-    let m = own::masks::masks_of(w, i);
+    let m = nursemasks::masks::masks_of(w, i);
     let mut count: u64 = 0;
     let mut differ: u64 = 0;
     for k in 0..list.len() {
         let p = list[k];
-        let fast = own::masks::passes(w, m, p);
+        let fast = nursemasks::masks::passes(w, m, p);
         if fast {
             count = std::num::wrapping_add_u64(count, 1);
         }

@@ -12,7 +12,7 @@ use Rattle.numbers.specs.Digits.{has}
 use Rattle.numbers.proofs.SumLaws.{sum-add, sum-le, sum-change, count-le}
 use Rattle.fields.specs.Fields.{Accepted, nurses, days, groups, weight, memberSets, needs, need, low, high}
 use Rattle.history.specs.Slot.{Slot, isNone, exchanged}
-use Rattle.penalty.specs.Penalty.{rest, onDuty, members, shortOn, overOn, unplacedIn, atNight, free, atDay, nightParts, nightPenalty, dayParts, dayPenalty}
+use Rattle.penalty.specs.Penalty.{rest, onDuty, members, shortOn, overOn, unplacedIn, atNight, availableIn, atDay, nightParts, nightPenalty, dayParts, dayPenalty}
 use Rattle.penalty.proofs.ColumnLaws.{exchanged-here, exchanged-there}
 
 -- ---- one duty of one day
@@ -65,10 +65,10 @@ module _ (w : List ℕ) (slots : ℕ → Slot) (a : Accepted w) where
   pub night-rest-le : rest (nightParts w slots) ≤ 5059200
   unfolding nightParts
   night-rest-le =
-      let shorts : ℕ → ℕ = λ d. shortOn w 0 (atNight w slots d) d + shortOn w 1 (free w slots d) d in
+      let shorts : ℕ → ℕ = λ d. shortOn w 0 (atNight w slots d) d + shortOn w 1 (availableIn w slots d) d in
       let overs : ℕ → ℕ = λ d. overOn w 0 (atNight w slots d) d in
       let s = sum-le (days w) 163200 (λ d. shorts d + overs d)
-      (λ d l. omega (arith, duty-most w a 0 d (atNight w slots d) (omega arith) l, short-most w a 1 d (free w slots d) (omega arith) l)) in
+      (λ d l. omega (arith, duty-most w a 0 d (atNight w slots d) (omega arith) l, short-most w a 1 d (availableIn w slots d) (omega arith) l)) in
       omega (arith, s, sum-add (days w) shorts overs, a .days-most)
 
   pub day-rest-le : rest (dayParts w slots) ≤ 2529600

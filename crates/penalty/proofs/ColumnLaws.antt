@@ -20,8 +20,8 @@ use Rattle.fields.specs.Fields.{nurses, days, block}
 use Rattle.rows.specs.Rows.{availableOn}
 use Rattle.penalty.specs.declared.columns.Columns.{Columns}
 use Rattle.history.specs.Slot.{Slot, exchanged}
-use Rattle.penalty.specs.Penalty.{startsIn, workedIn, atNight, free, atDay}
-use Rattle.penalty.specs.CodeColumns.{Same, ShownNight, ShownDay, Empty, PutAt, NursePut, Frees}
+use Rattle.penalty.specs.Penalty.{startsIn, workedIn, atNight, availableIn, atDay}
+use Rattle.penalty.specs.CodeColumns.{Same, ShownNight, ShownDay, Empty, PutAt, NursePut, AvailableUnder}
 
 -- ---- who is on, below m
 
@@ -113,14 +113,14 @@ module _ (w : List ℕ) (slots : ℕ → Slot) where
   pub night-none : (c : Columns) → Empty c → ShownNight w slots 0 c
   night-none c e = record {
     night-shown = λ d l. same-none _ _ (e .no-nights d);
-    free-shown = λ d l. same-none _ _ (e .no-days d);
+    available-shown = λ d l. same-none _ _ (e .no-days d);
   }
 
-  pub night-more : (i : ℕ) (c r : Columns) {p set : ℕ} → ShownNight w slots i c → p ≡ startsIn w i (slots i) → Frees w i p set
+  pub night-more : (i : ℕ) (c r : Columns) {p set : ℕ} → ShownNight w slots i c → p ≡ startsIn w i (slots i) → AvailableUnder w i p set
       → NursePut c r (days w) i p set → ShownNight w slots (i + 1) r
   night-more i c r {p} {set} s e g q = record {
     night-shown = λ d l. same-more i _ _ (atNight w slots d) (s .night-shown d l) (q .night-put d l ∙ ap (λ (x : ℕ). put (has (getD (c .night) d 0)) i (has x d)) e);
-    free-shown = λ d l. same-more i _ _ (free w slots d) (s .free-shown d l)
+    available-shown = λ d l. same-more i _ _ (availableIn w slots d) (s .available-shown d l)
         (q .day-put d l ∙ ap (put (has (getD (c .day) d 0)) i) (g d l ∙ ap (λ (x : ℕ). availableOn (block w i) x (suc d)) e));
   }
 
@@ -153,9 +153,9 @@ module _ (w : List ℕ) (slots : ℕ → Slot) (i p : ℕ) (h : i < nurses w) wh
   pub night-after : (d : ℕ) (f : ℕ → Bool) → Same (nurses w) f (atNight w slots d) → Same (nurses w) (put f i (has p d)) (atNight w (exchanged slots i p) d)
   night-after d = slots-after (λ j x. has (startsIn w j x) d)
 
-  pub free-after : (d : ℕ) (f : ℕ → Bool) → Same (nurses w) f (free w slots d)
-      → Same (nurses w) (put f i (availableOn (block w i) p (suc d))) (free w (exchanged slots i p) d)
-  free-after d = slots-after (λ j x. availableOn (block w j) (startsIn w j x) (suc d))
+  pub available-after : (d : ℕ) (f : ℕ → Bool) → Same (nurses w) f (availableIn w slots d)
+      → Same (nurses w) (put f i (availableOn (block w i) p (suc d))) (availableIn w (exchanged slots i p) d)
+  available-after d = slots-after (λ j x. availableOn (block w j) (startsIn w j x) (suc d))
 
   pub day-after : (d : ℕ) (f : ℕ → Bool) → Same (nurses w) f (atDay w slots d) → Same (nurses w) (put f i (has p d)) (atDay w (exchanged slots i p) d)
   day-after d = slots-after (λ j x. has (workedIn w j x) d)

@@ -117,7 +117,7 @@ module _ (which : Search) (w nights worked : List ℕ) (n u : ℕ) where
 module _ (w : List ℕ) (cols : Columns) (a : Accepted w) (slots : ℕ → Slot) where
   shorts-are : (which : Search) → Shows which w slots cols → sumTo (days w) (shortAt which w (cols .night) (cols .day)) ≡ partsIn which w slots .short
   unfolding shortAt nightParts dayParts
-  shorts-are Nights g = sum-ext (days w) _ _ (λ d l. ap₂ (λ (x y : ℕ). x + y) (short-same w a 0 d _ _ (g .night-shown d l)) (short-same w a 1 d _ _ (g .free-shown d l)))
+  shorts-are Nights g = sum-ext (days w) _ _ (λ d l. ap₂ (λ (x y : ℕ). x + y) (short-same w a 0 d _ _ (g .night-shown d l)) (short-same w a 1 d _ _ (g .available-shown d l)))
   shorts-are Days g = sum-ext (days w) _ _ (λ d l. short-same w a 1 d _ _ (g .day-shown d l))
 
   overs-are : (which : Search) → Shows which w slots cols → sumTo (days w) (overAt which w (cols .night) (cols .day)) ≡ partsIn which w slots .over

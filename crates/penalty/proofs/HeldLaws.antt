@@ -9,7 +9,7 @@ use Rattle.numbers.specs.Sum.{sumTo, oneIf}
 use Rattle.numbers.proofs.SumLaws.{sum-none, sum-none-at}
 use Rattle.fields.specs.Fields.{Accepted, nurses, days, groups, weight, needs, need, low, high}
 use Rattle.history.specs.Slot.{Slot, isNone}
-use Rattle.penalty.specs.Penalty.{onDuty, members, shortOn, overOn, unplacedIn, atNight, free, atDay, nightParts, nightPenalty, dayParts, dayPenalty}
+use Rattle.penalty.specs.Penalty.{onDuty, members, shortOn, overOn, unplacedIn, atNight, availableIn, atDay, nightParts, nightPenalty, dayParts, dayPenalty}
 use Rattle.penalty.specs.Held.{LowsHeld, HighsHeld, AllPlaced, NightHeld, DayHeld}
 
 -- a weight is not zero
@@ -66,21 +66,21 @@ module _ (w : List ℕ) (slots : ℕ → Slot) where
   pub night-zero : Accepted w → nightPenalty w slots ≡ 0 → NightHeld w slots
   unfolding nightPenalty nightParts
   night-zero a e =
-      let s : sumTo (days w) (λ d. shortOn w 0 (atNight w slots d) d + shortOn w 1 (free w slots d) d) ≡ 0 = omega arith in
+      let s : sumTo (days w) (λ d. shortOn w 0 (atNight w slots d) d + shortOn w 1 (availableIn w slots d) d) ≡ 0 = omega arith in
       let o : sumTo (days w) (λ d. overOn w 0 (atNight w slots d) d) ≡ 0 = omega arith in
       let u : unplacedIn w slots ≡ 0 = omega arith in
       record {
         nights = λ d l. short-zero w 0 d (atNight w slots d) a (omega arith) (omega (arith, sum-none-at (days w) _ s d l));
         highs = λ d l. over-zero w 0 d (atNight w slots d) a (omega arith) (sum-none-at (days w) _ o d l);
-        frees = λ d l. short-zero w 1 d (free w slots d) a (omega arith) (omega (arith, sum-none-at (days w) _ s d l));
+        frees = λ d l. short-zero w 1 d (availableIn w slots d) a (omega arith) (omega (arith, sum-none-at (days w) _ s d l));
         placed = placed-zero u;
       }
 
   pub night-held : NightHeld w slots → nightPenalty w slots ≡ 0
   unfolding nightPenalty nightParts
   night-held h =
-      let s = sum-none (days w) (λ d. shortOn w 0 (atNight w slots d) d + shortOn w 1 (free w slots d) d)
-      (λ d l. omega (arith, short-held w 0 d (atNight w slots d) (h .nights d l), short-held w 1 d (free w slots d) (h .frees d l))) in
+      let s = sum-none (days w) (λ d. shortOn w 0 (atNight w slots d) d + shortOn w 1 (availableIn w slots d) d)
+      (λ d l. omega (arith, short-held w 0 d (atNight w slots d) (h .nights d l), short-held w 1 d (availableIn w slots d) (h .frees d l))) in
       let o = sum-none (days w) (λ d. overOn w 0 (atNight w slots d) d) (λ d l. over-held w 0 d (atNight w slots d) (h .highs d l)) in
       omega (arith, s, o, placed-held (h .placed))
 

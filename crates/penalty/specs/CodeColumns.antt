@@ -11,7 +11,7 @@ use Rattle.penalty.specs.declared.columns.Columns.{Columns}
 use Rattle.history.specs.declared.Search.{Search}
 use Rattle.history.specs.declared.Search.the-variants.{Nights, Days}
 use Rattle.history.specs.Slot.{Slot}
-use Rattle.penalty.specs.Penalty.{atNight, free, atDay}
+use Rattle.penalty.specs.Penalty.{atNight, availableIn, atDay}
 
 -- f is `on` below m, and false from m on
 pub record Same (m : ℕ) (f on : ℕ → Bool) : Type 0 where
@@ -21,7 +21,7 @@ pub record Same (m : ℕ) (f on : ℕ → Bool) : Type 0 where
 -- by night: the first m nurses on their N days in the night columns, and where they are available in the day columns
 pub record ShownNight (w : List ℕ) (slots : ℕ → Slot) (m : ℕ) (c : Columns) : Type 0 where
   pub night-shown : (d : ℕ) → d < days w → Same m (has (getD (c .night) d 0)) (atNight w slots d)
-  pub free-shown : (d : ℕ) → d < days w → Same m (has (getD (c .day) d 0)) (free w slots d)
+  pub available-shown : (d : ℕ) → d < days w → Same m (has (getD (c .day) d 0)) (availableIn w slots d)
 
 -- by day: the first m nurses on their worked days, in the day columns
 pub record ShownDay (w : List ℕ) (slots : ℕ → Slot) (m : ℕ) (c : Columns) : Type 0 where
@@ -46,10 +46,10 @@ abbrev pub PutAt : List ℕ → List ℕ → ℕ → ℕ → ℕ → Type 0
 PutAt l r i set d = has (getD r d 0) ≡ put (has (getD l d 0)) i (has set d)
 
 -- the columns r are those of c, with nurse i on in the first n days as the two sets say
-pub record NursePut (c r : Columns) (n i nights free : ℕ) : Type 0 where
+pub record NursePut (c r : Columns) (n i nights available : ℕ) : Type 0 where
   pub night-put : (d : ℕ) → d < n → PutAt (c .night) (r .night) i nights d
-  pub day-put : (d : ℕ) → d < n → PutAt (c .day) (r .day) i free d
+  pub day-put : (d : ℕ) → d < n → PutAt (c .day) (r .day) i available d
 
 -- the set of the days on which nurse i is available under the starts p
-abbrev pub Frees : List ℕ → ℕ → ℕ → ℕ → Type 0
-Frees w i p set = (d : ℕ) → d < days w → has set d ≡ availableOn (block w i) p (suc d)
+abbrev pub AvailableUnder : List ℕ → ℕ → ℕ → ℕ → Type 0
+AvailableUnder w i p set = (d : ℕ) → d < days w → has set d ≡ availableOn (block w i) p (suc d)

@@ -5,7 +5,7 @@ use mathlib.Core.List.{List}
 use Prim.Native.Nat.{ℕ, _≤_, _<_}
 use Rattle.fields.specs.Fields.{nurses, days, groups, needs, need, low, high}
 use Rattle.history.specs.Slot.{Slot, isNone}
-use Rattle.penalty.specs.Penalty.{onDuty, members, atNight, free, atDay}
+use Rattle.penalty.specs.Penalty.{onDuty, members, atNight, availableIn, atDay}
 
 -- one duty of one day, with highs left out or not
 pub record LowsHeld (w : List ℕ) (k : ℕ) (on : ℕ → Bool) (d : ℕ) : Type 0 where
@@ -21,7 +21,7 @@ AllPlaced w slots = (i : ℕ) → i < nurses w → isNone (slots i) ≡ false
 pub record NightHeld (w : List ℕ) (slots : ℕ → Slot) : Type 0 where
   pub nights : (d : ℕ) → d < days w → LowsHeld w 0 (atNight w slots d) d
   pub highs : (d : ℕ) → d < days w → HighsHeld w 0 (atNight w slots d) d
-  pub frees : (d : ℕ) → d < days w → LowsHeld w 1 (free w slots d) d
+  pub frees : (d : ℕ) → d < days w → LowsHeld w 1 (availableIn w slots d) d
   pub placed : AllPlaced w slots
 
 pub record DayHeld (w : List ℕ) (slots : ℕ → Slot) : Type 0 where

@@ -64,12 +64,12 @@ startsIn w i none = numberOf (fixedNight (block w i)) (days w)
 abbrev pub atNight : List ℕ → (ℕ → Slot) → ℕ → ℕ → Bool
 atNight w slots d i = has (startsIn w i (slots i)) d
 
-abbrev pub free : List ℕ → (ℕ → Slot) → ℕ → ℕ → Bool
-free w slots d i = availableOn (block w i) (startsIn w i (slots i)) (suc d)
+abbrev pub availableIn : List ℕ → (ℕ → Slot) → ℕ → ℕ → Bool
+availableIn w slots d i = availableOn (block w i) (startsIn w i (slots i)) (suc d)
 
 unfoldable pub nightParts : List ℕ → (ℕ → Slot) → Parts
 nightParts w slots = record {
-  short = sumTo (days w) (λ d. shortOn w 0 (atNight w slots d) d + shortOn w 1 (free w slots d) d);
+  short = sumTo (days w) (λ d. shortOn w 0 (atNight w slots d) d + shortOn w 1 (availableIn w slots d) d);
   over = sumTo (days w) (λ d. overOn w 0 (atNight w slots d) d);
   unplaced = unplacedIn w slots;
 }

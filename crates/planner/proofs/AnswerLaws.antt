@@ -15,7 +15,7 @@ use Rattle.refusals.specs.declared.Refusal.{Refusal}
 use Rattle.refusals.specs.declared.Answer.the-variants.{Yes, No}
 use Rattle.ward.specs.declared.Reading.{Reading}
 use Rattle.letters.specs.Letters.{misplaced}
-use Rattle.rosters.specs.CodeCheck.{holds}
+use Rattle.rostercheck.specs.CodeCheck.{holds}
 use Rattle.letters.specs.CodeLetters.{foundOf}
 use Rattle.letters.specs.declared.Place.{Place}
 use Rattle.letters.specs.declared.Place.the-variants.{At, Nowhere}

@@ -25,7 +25,7 @@ use Rattle.nights.specs.NightRule.{NightHers}
 use Rattle.nights.proofs.RuleLaws.{hers-when}
 use Rattle.penalty.specs.Penalty.{nightPenalty}
 use Rattle.letters.specs.Letters.{misplaced}
-use Rattle.rosters.specs.CodeCheck.{holds}
+use Rattle.rostercheck.specs.CodeCheck.{holds}
 use Rattle.history.specs.Phase.{Phase, Call, Answer, refused, ended, End·zero, End·asked, End·none, refusal}
 use Rattle.refusals.proofs.OrderLaws.{first-last}
 use Rattle.refusals.specs.declared.Refusal.{Refusal}

@@ -20,9 +20,9 @@ use Rattle.penalty.proofs.HeldLaws.{night-zero, night-held, day-zero, day-held}
 use Rattle.penalty.proofs.BoundLaws.{night-total-le, day-total-le}
 use Rattle.letters.specs.Letters.{misplaced}
 use Rattle.letters.proofs.LetterLaws.{placed-long}
-use Rattle.rosters.specs.Check.{Holds}
-use Rattle.rosters.specs.CodeCheck.{holds}
-use Rattle.rosters.proofs.CheckLaws.{holds-sound, holds-complete}
+use Rattle.rostercheck.specs.Check.{Holds}
+use Rattle.rostercheck.specs.CodeCheck.{holds}
+use Rattle.rostercheck.proofs.CheckLaws.{holds-sound, holds-complete}
 use Rattle.planner.specs.declared.Checked.{Checked}
 use Rattle.planner.specs.declared.Checked.the-variants.{Refused, Passed, Broken}
 use Rattle.planner.specs.Answers.{checkLetters, checkOver, checkSays}

@@ -36,8 +36,8 @@ use Rattle.history.proofs.WithoutLaws.{all-refused, refusing}
 use Rattle.search.proofs.AdvanceLaws.{stored-without, demand3-stored}
 use Rattle.refusals.proofs.OrderLaws.{first-none, unless-none}
 use Rattle.letters.specs.Letters.{misplaced}
-use Rattle.rosters.specs.CodeCheck.{holds}
-use Rattle.rosters.proofs.GivenLaws.{duty-alike, members-alike, Patterns, placedAll, given-at-zero}
+use Rattle.rostercheck.specs.CodeCheck.{holds}
+use Rattle.rostercheck.proofs.GivenLaws.{duty-alike, members-alike, Patterns, placedAll, given-at-zero}
 use Rattle.phases.specs.Phases.{nightPhase, nightsOpen, listsFit, dayListOver, dayPhase, nightOf}
 use Rattle.planner.specs.Advances.{advanceOver, advanceNights, advanceDays}
 use Rattle.planner.specs.declared.Checked.the-variants.{Passed}

@@ -9,7 +9,7 @@ use Rattle.fields.specs.Fields.{nurses, days}
 use Rattle.layout.specs.Grammar.{Read, good, bad}
 use Rattle.ward.specs.Answers.{readWard}
 use Rattle.letters.specs.Letters.{misplaced}
-use Rattle.rosters.specs.CodeCheck.{holds}
+use Rattle.rostercheck.specs.CodeCheck.{holds}
 use Rattle.planner.specs.declared.Checked.{Checked}
 use Rattle.planner.specs.declared.Checked.the-variants.{Refused, Passed, Broken}
 

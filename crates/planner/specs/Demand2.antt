@@ -23,7 +23,7 @@ use Rattle.history.specs.Slot.{Slot}
 use Rattle.penalty.specs.Penalty.{nightPenalty, dayPenalty}
 use Rattle.penalty.specs.Held.{NightHeld, DayHeld}
 use Rattle.letters.specs.Letters.{misplaced}
-use Rattle.rosters.specs.Check.{Holds}
+use Rattle.rostercheck.specs.Check.{Holds}
 use Rattle.planner.specs.Answers.{checkSays}
 use Rattle.planner.specs.declared.Checked.the-variants.{Passed}
 

@@ -20,8 +20,8 @@ use Rattle.days.specs.Days.{dayList, dayRule, choice, rowDuty, same, anyOf, fre
 use Rattle.daylists.specs.Lists.{upTo, firstOver}
 use Rattle.penalty.specs.Penalty.{onDuty, members, shortOn, overOn, unplacedIn, nightParts, nightPenalty, dayParts, dayPenalty}
 use Rattle.letters.specs.Letters.{letters, rowLettersOf, letter, isLetter, firstBad, misplaced}
-use Rattle.rosters.specs.Check.{lettered}
-use Rattle.rosters.specs.CodeCheck.{lettersIn, sameRow, rowHolds, rowsHold, groupHolds, dutyHolds, dayHolds, daysHold, holds}
+use Rattle.rostercheck.specs.Check.{lettered}
+use Rattle.rostercheck.specs.CodeCheck.{lettersIn, sameRow, rowHolds, rowsHold, groupHolds, dutyHolds, dayHolds, daysHold, holds}
 use Rattle.refusals.specs.Refusals.{numbered}
 use Rattle.history.specs.Phase.{Step, Call, Answer, refused, ended, End·zero, End·asked, End·none, run, refusal, given, inTurn}
 use Rattle.history.specs.History.{History, penalty, allowed, next, extend, reply, advance, answers, history}

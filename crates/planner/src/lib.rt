@@ -51,7 +51,7 @@ fn check_letters(w: &[u64], roster: &[u8]) -> Checked
             place,
         }),
         Place::Nowhere => {
-            if rosters::roster_holds(w, roster) {
+            if rostercheck::roster_holds(w, roster) {
                 return Checked::Passed;
             }
             Checked::Broken

@@ -1,5 +1,6 @@
 // A nurse's row, day by day: its state, what a mark allows, availability, and the duty.
 use fields::nurse;
+use fields::sizes::DAYS;
 ghost use mathlib.Core.Path.{_≡_};
 ghost use Prim.Native.Nat.{ℕ, suc, _≤_, _<_};
 ghost use lib.ListN.{length, getD};
@@ -32,7 +33,7 @@ pub fn mark_allows(table: &[[u8; 4]; 7], mark: usize, state: usize) -> bool
 }
 
 // The state of a day after that of the day before.
-pub fn state_after(before: usize, started: bool) -> usize
+fn state_after(before: usize, started: bool) -> usize
     ensures is { λ s. ⌜ s ≡ stateAfter before started ⌝ }
     ensures small { λ s. ⌜ s < 4 ⌝ }
 {
@@ -49,7 +50,7 @@ pub fn state_after(before: usize, started: bool) -> usize
 }
 
 // The state of day 0, by its duty.
-pub fn day_zero(duty: u64) -> usize
+fn day_zero(duty: u64) -> usize
     ensures is { λ s. ⌜ s ≡ dayZero duty ⌝ }
     ensures small { λ s. ⌜ s < 3 ⌝ }
 {
@@ -63,12 +64,12 @@ pub fn day_zero(duty: u64) -> usize
 }
 
 // The state of every day of a month of n days under night pattern p, and 0 after them.
-pub fn states(b: &[u64], n: usize, p: u32) -> [usize; 31]
+pub fn states(b: &[u64], n: usize, p: u32) -> [usize; DAYS]
     requires { ⌜ (n ≤ 31) × (7 ≤ length (now b)) ⌝ }
     ensures are { λ r. ⌜ ((d : ℕ) → d < n → getD r d 0 ≡ rowState (now (b .entry)) p (suc d)) ⌝ }
     ensures small { λ r. ⌜ ((d : ℕ) → d < n → getD r d 0 < 4) ⌝ }
 {
-    let mut states = [0usize; 31];
+    let mut states = [0usize; DAYS];
     let mut state = day_zero(nurse::last_duty(b));
     let mut d: usize = 0;
     while d < n {

@@ -15,11 +15,11 @@ use Rattle.numbers.specs.Digits.{numberOf}
 use Rattle.numbers.proofs.SumLaws.{sum-ext}
 use Rattle.numbers.proofs.DigitLaws.{number-lt, number-suc}
 use Rattle.fields.specs.Fields.{Accepted, Block, nurses, days, tabu, block, markOn}
-use Rattle.own.specs.declared.masks.Masks.{Masks}
+use Rattle.nursemasks.specs.declared.masks.Masks.{Masks}
 use Rattle.fields.specs.Rules.{rulesOf}
 use Rattle.nights.specs.Nights.{commonOf, inCommon}
 use Rattle.nights.specs.Hers.{hersOf}
-use Rattle.own.specs.CodeMasks.{masksOf, Masked, AvailableDays}
+use Rattle.nursemasks.specs.CodeMasks.{masksOf, Masked, AvailableDays}
 use Rattle.fields.proofs.RuleLaws.{block-as}
 use Rattle.nights.proofs.ListLaws.{common-below, common-keeps}
 use Rattle.penalty.specs.declared.Penalty.{Penalty}
@@ -30,7 +30,7 @@ use Rattle.history.specs.declared.Search.the-variants.{Nights, Days}
 use Rattle.history.specs.Slot.{Slot, isNone, exchanged}
 use Rattle.penalty.specs.Penalty.{partsOf, total, rest, unplacedIn, startsIn, workedIn, partsIn, nightPenalty, dayPenalty}
 use Rattle.penalty.specs.CodeColumns.{Shown, Shows, Empty, NursePut}
-use Rattle.trials.specs.CodeCosts.{Small, Chunks, ChunksSmall, trialOf}
+use Rattle.trials.specs.CodeCosts.{SmallCosts, Chunks, ChunksSmall, trialOf}
 use Rattle.penalty.proofs.ColumnLaws.{night-none, night-more, day-none, day-more}
 use Rattle.penalty.proofs.BoundLaws.{night-split, day-split, unplaced-after}
 use Rattle.history.specs.Phase.{Phase}
@@ -153,15 +153,15 @@ common-at w list k e l =
     (common-below (rulesOf w) (days w) k h, common-keeps (rulesOf w) (days w) k h)
 
 -- what a trial by her table costs, with the unplaced nurses besides her
-pub trial-costs : {t : List ℕ} (nights free : ℕ) {x r : ℕ} (others : ℕ) → tableTrial t nights free x
-    → ((c : Costs) (n : ℕ) → Small c n → Chunks c t → r ≡ trialOf c n nights free) → r + 10000000 * others ≡ x + 10000000 * others
-trial-costs nights free others y f = ap (λ (z : ℕ). z + 10000000 * others) (f (y .0) (y .1) (y .2) (y .3) ∙ y .4)
+pub trial-costs : {t : List ℕ} (nights available : ℕ) {x r : ℕ} (others : ℕ) → tableTrial t nights available x
+    → ((c : Costs) (n : ℕ) → SmallCosts c n → Chunks c t → r ≡ trialOf c n nights available) → r + 10000000 * others ≡ x + 10000000 * others
+trial-costs nights available others y f = ap (λ (z : ℕ). z + 10000000 * others) (f (y .0) (y .1) (y .2) (y .3) ∙ y .4)
 
-pub night-costs : {w list : List ℕ} {masks : Masks} {t : List ℕ} {others tl i : ℕ} (n : NightsNeeds w list masks t others tl i) (p : ℕ) {cost : ℕ → ℕ} {free r : ℕ}
-    → NightTrials w i t cost → ((k : ℕ) (b : List ℕ) → k ≤ 31 → masks ≡ masksOf (rulesOf w) k b → AvailableDays b k p free)
-    → ((c : Costs) (k : ℕ) → Small c k → Chunks c t → r ≡ trialOf c k p free) → r + 10000000 * others ≡ cost p + 10000000 * others
-night-costs {w} {others = others} {i = i} n p {free = free} y av f =
-    trial-costs p free others (y .started p free (av (days w) (block w i) (n .ward .days-most) (n .masks-are) .each)) f
+pub night-costs : {w list : List ℕ} {masks : Masks} {t : List ℕ} {others tl i : ℕ} (n : NightsNeeds w list masks t others tl i) (p : ℕ) {cost : ℕ → ℕ} {available r : ℕ}
+    → NightTrials w i t cost → ((k : ℕ) (b : List ℕ) → k ≤ 31 → masks ≡ masksOf (rulesOf w) k b → AvailableDays b k p available)
+    → ((c : Costs) (k : ℕ) → SmallCosts c k → Chunks c t → r ≡ trialOf c k p available) → r + 10000000 * others ≡ cost p + 10000000 * others
+night-costs {w} {others = others} {i = i} n p {available = available} y av f =
+    trial-costs p available others (y .started p available (av (days w) (block w i) (n .ward .days-most) (n .masks-are) .each)) f
 
 module _ (hers may : ℕ → Bool) (cost : ℕ → ℕ) (i : ℕ) (b₀ : Best) (ps : List ℕ) (k : ℕ) {b : Best} (l : k < length ps)
     (e : b ≡ overList (λ p. hers p && may p) cost i b₀ (take k ps)) where

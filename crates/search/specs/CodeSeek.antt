@@ -11,8 +11,8 @@ use Rattle.fields.specs.Fields.{Accepted, nurses, days, tabu, block}
 use Rattle.fields.specs.Rules.{rulesOf}
 use Rattle.nights.specs.Nights.{commonOf}
 use Rattle.nights.specs.Hers.{hersOf}
-use Rattle.own.specs.CodeMasks.{masksOf, Masked}
-use Rattle.own.specs.declared.masks.Masks.{Masks}
+use Rattle.nursemasks.specs.CodeMasks.{masksOf, Masked}
+use Rattle.nursemasks.specs.declared.masks.Masks.{Masks}
 use Rattle.history.specs.declared.Search.{Search}
 use Rattle.history.specs.declared.Search.the-variants.{Nights, Days}
 use Rattle.history.specs.Slot.{Slot}

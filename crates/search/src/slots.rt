@@ -58,9 +58,9 @@ fn with_row(cols: Columns, w: &[u64], rec: Record, i: usize, search: Search) -> 
     let p = pattern_in(w, rec, i, search);
     match search {
         Search::Nights => {
-            let masks = own::masks::masks_of(w, i);
-            let free = own::masks::available_days(masks, p);
-            cols.with_nurse(n, i, p, free)
+            let masks = nursemasks::masks::masks_of(w, i);
+            let available = nursemasks::masks::available_days(masks, p);
+            cols.with_nurse(n, i, p, available)
         }
         Search::Days => cols.with_nurse(n, i, 0, p),
     }

@@ -4,7 +4,7 @@ use crate::slots;
 use best::Best;
 use fields::sizes::ENDS;
 use history::Search;
-use own::masks::Masks;
+use nursemasks::masks::Masks;
 use penalty::Penalty;
 use penalty::columns::Columns;
 ghost use mathlib.Core.Path.{_≡_};
@@ -90,9 +90,9 @@ fn over_nights(
     let mut best = held;
     for k in 0..list.len() {
         let p = list[k];
-        if own::masks::passes(w, masks, p) {
-            let free = own::masks::available_days(masks, p);
-            let c = trials::chunks::chunk_trial(t, p, free) + Penalty::UNPLACED * others;
+        if nursemasks::masks::passes(w, masks, p) {
+            let available = nursemasks::masks::available_days(masks, p);
+            let c = trials::chunks::chunk_trial(t, p, available) + Penalty::UNPLACED * others;
             if best::improves(best, c) {
                 best = consider(best, rec, tl, i, p, c);
             }
@@ -136,7 +136,7 @@ fn over_nurse(
     let others = others_than(rec, unplaced, i);
     match search {
         Search::Nights => {
-            let masks = own::masks::masks_of(w, i);
+            let masks = nursemasks::masks::masks_of(w, i);
             over_nights(w, lists, masks, &t, others, rec, tl, i, held)
         }
         Search::Days => {

@@ -14,7 +14,7 @@ use Rattle.numbers.specs.Digits.{has}
 use Rattle.numbers.proofs.SumLaws.{sum-ext, sum-cut, loop-start, loop-turn}
 use Rattle.numbers.proofs.DigitLaws.{part-digit}
 use Rattle.trials.specs.declared.costs.Costs.{Costs}
-use Rattle.trials.specs.CodeCosts.{Small, trialAt, trialOf, stateAt, chunkOf, chunkPlace, Chunks, ChunksSmall}
+use Rattle.trials.specs.CodeCosts.{SmallCosts, trialAt, trialOf, stateAt, chunkOf, chunkPlace, Chunks, ChunksSmall}
 
 -- ---- filling
 
@@ -27,15 +27,15 @@ pub record ChunksTo (c : Costs) (t : List ℕ) (e : ℕ) : Type 0 where
 pub chunks-start : (c : Costs) (t : List ℕ) → length t ≡ 704 → ChunksTo c t 0
 chunks-start c t l = record { inside = omega arith; long = l; done = λ k q. absurd (not-suc-le-zero q) }
 
-state-most : (c : Costs) (n p f j d : ℕ) → Small c n → stateAt c p f j d ≤ 371200
+state-most : (c : Costs) (n p f j d : ℕ) → SmallCosts c n → stateAt c p f j d ≤ 371200
 state-most c n p f j d s = go (has p j) (has f j)
   where
-    go : (a b : Bool) → cond a (getD (c .night) d 0) (cond b (getD (c .free) d 0) (getD (c .none) d 0)) ≤ 371200
+    go : (a b : Bool) → cond a (getD (c .night) d 0) (cond b (getD (c .available) d 0) (getD (c .none) d 0)) ≤ 371200
     go true b = s .night-small d
-    go false true = s .free-small d
+    go false true = s .available-small d
     go false false = s .none-small d
 
-pub chunk-is : (c : Costs) (n b p f : ℕ) {x y z : ℕ} → Small c n → x ≡ stateAt c p f 0 (3 * b) → y ≡ stateAt c p f 1 (3 * b + 1) → z ≡ stateAt c p f 2 (3 * b + 2)
+pub chunk-is : (c : Costs) (n b p f : ℕ) {x y z : ℕ} → SmallCosts c n → x ≡ stateAt c p f 0 (3 * b) → y ≡ stateAt c p f 1 (3 * b + 1) → z ≡ stateAt c p f 2 (3 * b + 2)
     → Is (x + y + z) (chunkOf c b p f) 1113600
 unfolding chunkOf
 chunk-is c n b p f s ex ey ez = record {
@@ -91,7 +91,7 @@ at-place c t b x y h k l m =
 state-day : (c : Costs) (p f b j d : ℕ) → j < 3 → 3 * b + j ≡ d → stateAt c (p / 2 ^ (3 * b) % 8) (f / 2 ^ (3 * b) % 8) j d ≡ trialAt c p f d
 unfolding trialAt
 state-day c p f b j d h e =
-    ap₂ (λ (s t : Bool). cond s (getD (c .night) d 0) (cond t (getD (c .free) d 0) (getD (c .none) d 0)))
+    ap₂ (λ (s t : Bool). cond s (getD (c .night) d 0) (cond t (getD (c .available) d 0) (getD (c .none) d 0)))
     (part-digit p (3 * b) 3 j h ∙ ap (has p) e) (part-digit f (3 * b) 3 j h ∙ ap (has f) e)
 
 -- three days of a trial
@@ -115,7 +115,7 @@ sum-threes (suc k) g =
     rw (e, a, b) (omega (arith, sum-threes k g))
 
 pub chunk-end : (t : List ℕ) (p f : ℕ) {r b : ℕ} → Is r (0 + sumTo b (readAt t p f)) (0 + 1113600 * b) → b ≡ 11
-    → (c : Costs) (n : ℕ) → Small c n → Chunks c t → r ≡ trialOf c n p f
+    → (c : Costs) (n : ℕ) → SmallCosts c n → Chunks c t → r ≡ trialOf c n p f
 unfolding trialOf threeDays
 chunk-end t p f h e c n s k =
     let l : n ≤ 33 = omega (arith, s .at-most) in

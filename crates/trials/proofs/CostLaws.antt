@@ -25,12 +25,12 @@ use Rattle.trials.specs.declared.costs.Three.{Three}
 use Rattle.history.specs.declared.Search.{Search}
 use Rattle.history.specs.declared.Search.the-variants.{Nights, Days}
 use Rattle.history.specs.Slot.{Slot, exchanged}
-use Rattle.penalty.specs.Penalty.{shortOn, overOn, atNight, free, atDay, nightParts, dayParts}
+use Rattle.penalty.specs.Penalty.{shortOn, overOn, atNight, availableIn, atDay, nightParts, dayParts}
 use Rattle.penalty.specs.CodeColumns.{Shows}
-use Rattle.trials.specs.CodeCosts.{trialAt, trialOf, Small, TrialsNight, TrialsDay, Trials}
+use Rattle.trials.specs.CodeCosts.{trialAt, trialOf, SmallCosts, TrialsNight, TrialsDay, Trials}
 use Rattle.penalty.specs.CodeCounts.{weightsOf, noHigh, dutyCost}
 use Rattle.trials.specs.CodeEntries.{Tells, dayWith, Entries, Filled}
-use Rattle.penalty.proofs.ColumnLaws.{zeros, night-after, free-after, day-after}
+use Rattle.penalty.proofs.ColumnLaws.{zeros, night-after, available-after, day-after}
 use Rattle.penalty.proofs.CountLaws.{short-same, over-same, cost-both, cost-low}
 
 -- ---- one day, from what the calls gave
@@ -51,19 +51,19 @@ wider h = record { is = h .is; most = omega (arith, h .most) }
 pub night-three : (w : List ℕ) (d i night day : ℕ) {a b : Pair}
     → Tells a (λ x. dutyCost (weightsOf w 0) (memberSets w) (needs w d) 0 (put (has night) i x)) 185600
     → Tells b (λ x. dutyCost (noHigh (weightsOf w 1)) (memberSets w) (needs w d) 1 (put (has day) i x)) 185600
-    → Entries Nights w d i night day (record { night = a .on + b .off; free = a .off + b .on; none = a .off + b .off })
+    → Entries Nights w d i night day (record { night = a .on + b .off; available = a .off + b .on; none = a .off + b .off })
 unfolding dayWith
 night-three w d i night day x y = record {
   at-night = both (x .on-is) (y .off-is);
-  at-free = both (x .off-is) (y .on-is);
+  at-available = both (x .off-is) (y .on-is);
   at-none = both (x .off-is) (y .off-is);
 }
 
 pub day-three : (w : List ℕ) (d i day : ℕ) {b : Pair}
     → Tells b (λ x. dutyCost (weightsOf w 1) (memberSets w) (needs w d) 1 (put (has day) i x)) 185600
-    → (night : ℕ) → Entries Days w d i night day (record { night = b .off; free = b .on; none = b .off })
+    → (night : ℕ) → Entries Days w d i night day (record { night = b .off; available = b .on; none = b .off })
 unfolding dayWith
-day-three w d i day y night = record { at-night = wider (y .off-is); at-free = wider (y .on-is); at-none = wider (y .off-is) }
+day-three w d i day y night = record { at-night = wider (y .off-is); at-available = wider (y .on-is); at-none = wider (y .off-is) }
 
 -- in the search that was told
 pub entries-as : (which b : Search) (w : List ℕ) (d i night day : ℕ) {r : Three} → which ≡ b → Entries b w d i night day r → Entries which w d i night day r
@@ -103,22 +103,22 @@ entryAt which w c i a b d = dayWith which w d i a b (getD (c .night) d 0) (getD 
 pub record Table (which : Search) (w : List ℕ) (c : Columns) (i n d : ℕ) (t : Costs) : Type 0 where
   pub inside : d ≤ n
   pub nights : Filled (t .night) (entryAt which w c i true false) 371200 d
-  pub frees : Filled (t .free) (entryAt which w c i false true) 371200 d
+  pub frees : Filled (t .available) (entryAt which w c i false true) 371200 d
   pub nones : Filled (t .none) (entryAt which w c i false false) 371200 d
 
 module _ (which : Search) (w : List ℕ) (c : Columns) (i n : ℕ) where
-  pub table-start : Table which w c i n 0 (record { night = replicate 33 0; free = replicate 33 0; none = replicate 33 0 })
+  pub table-start : Table which w c i n 0 (record { night = replicate 33 0; available = replicate 33 0; none = replicate 33 0 })
   table-start = record { inside = omega arith; nights = fill-start _ _; frees = fill-start _ _; nones = fill-start _ _ }
 
   pub table-turn : (d : ℕ) (t : Costs) {r : Three} → Table which w c i n d t → d < n → n ≤ 31 → Entries which w d i (getD (c .night) d 0) (getD (c .day) d 0) r
-      → Table which w c i n (d + 1) (record { night = set (t .night) d (r .night); free = set (t .free) d (r .free); none = set (t .none) d (r .none) })
+      → Table which w c i n (d + 1) (record { night = set (t .night) d (r .night); available = set (t .available) d (r .available); none = set (t .none) d (r .none) })
   unfolding entryAt
   table-turn d t k l m r =
       let low : d < 31 = omega arith in
       record {
         inside = omega arith;
         nights = fill-turn _ _ _ _ (k .nights) low (r .at-night);
-        frees = fill-turn _ _ _ _ (k .frees) low (r .at-free);
+        frees = fill-turn _ _ _ _ (k .frees) low (r .at-available);
         nones = fill-turn _ _ _ _ (k .nones) low (r .at-none);
       }
 
@@ -127,12 +127,12 @@ all-zero true b h k l = h
 all-zero false true h k l = k
 all-zero false false h k l = l
 
-pub table-small : (which : Search) (w : List ℕ) (c : Columns) (i : ℕ) (t : Costs) {n d m : ℕ} → Table which w c i n d t → n ≤ d → n ≡ m → m ≤ 31 → Small t m
+pub table-small : (which : Search) (w : List ℕ) (c : Columns) (i : ℕ) (t : Costs) {n d m : ℕ} → Table which w c i n d t → n ≤ d → n ≡ m → m ≤ 31 → SmallCosts t m
 unfolding trialAt
 table-small which w c i t {n} {d} {m} k l e q = record {
   at-most = q;
   night-small = fill-small _ _ _ _ (k .nights);
-  free-small = fill-small _ _ _ _ (k .frees);
+  available-small = fill-small _ _ _ _ (k .frees);
   none-small = fill-small _ _ _ _ (k .nones);
   past = λ p s x r.
       let z : d ≤ x = omega (arith, k .inside) in
@@ -151,13 +151,13 @@ module _ (w : List ℕ) (c : Columns) (i : ℕ) (slots : ℕ → Slot) (a : Acce
   -- by night
   night-cost : Shows Nights w slots c → (p d : ℕ) → d < days w
       → entryAt Nights w c i (has p d) (availableOn (block w i) p (suc d)) d
-      ≡ (shortOn w 0 (atNight w (exchanged slots i p) d) d + shortOn w 1 (free w (exchanged slots i p) d) d) + overOn w 0 (atNight w (exchanged slots i p) d) d
+      ≡ (shortOn w 0 (atNight w (exchanged slots i p) d) d + shortOn w 1 (availableIn w (exchanged slots i p) d) d) + overOn w 0 (atNight w (exchanged slots i p) d) d
   unfolding entryAt dayWith
   night-cost s p d h =
       let f = put (has (getD (c .night) d 0)) i (has p d) in
       let g = put (has (getD (c .day) d 0)) i (availableOn (block w i) p (suc d)) in
       let x = night-after w slots i p l d _ (s .night-shown d h) in
-      let y = free-after w slots i p l d _ (s .free-shown d h) in
+      let y = available-after w slots i p l d _ (s .available-shown d h) in
       omega (
         arith,
         cost-both (weightsOf w 0) (memberSets w) (needs w d) 0 f,
@@ -173,7 +173,7 @@ module _ (w : List ℕ) (c : Columns) (i : ℕ) (slots : ℕ → Slot) (a : Acce
     afresh = λ p set g.
         sum-ext (days w) _ _ (λ d h.
         let b : d < e = omega arith in
-        ap (λ (x : Bool). cond (has p d) (getD (t .night) d 0) (cond x (getD (t .free) d 0) (getD (t .none) d 0))) (g d h)
+        ap (λ (x : Bool). cond (has p d) (getD (t .night) d 0) (cond x (getD (t .available) d 0) (getD (t .none) d 0))) (g d h)
         ∙ state-is (λ x y. entryAt Nights w c i x y d) (has p d) (availableOn (block w i) p (suc d)) (started-busy (block w i) p d)
         (k .nights .done d b .is) (k .frees .done d b .is) (k .nones .done d b .is)
         ∙ night-cost s p d h)

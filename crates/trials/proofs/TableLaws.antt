@@ -8,10 +8,10 @@ use Rattle.fields.specs.Fields.{days}
 use Rattle.penalty.specs.declared.columns.Columns.{Columns}
 use Rattle.penalty.specs.CodeColumns.{Shows}
 use Rattle.trials.specs.declared.costs.Costs.{Costs}
-use Rattle.trials.specs.CodeCosts.{Trials, Small, Chunks}
+use Rattle.trials.specs.CodeCosts.{Trials, SmallCosts, Chunks}
 use Rattle.trials.specs.CodeTables.{Tables}
 
-module _ (w : List ℕ) (cols : Columns) (i : ℕ) {c : Costs} {t : List ℕ} (small : Small c (days w)) (sums : Chunks c t) where
+module _ (w : List ℕ) (cols : Columns) (i : ℕ) {c : Costs} {t : List ℕ} (small : SmallCosts c (days w)) (sums : Chunks c t) where
   pub tables : (which : Search) → ((l : ℕ → Slot) → Shows which w l cols → Trials which w l i c) → Tables which w cols i t
-  tables Nights f slots s = record { started = λ p free y. (c, days w, small, sums, f slots s .afresh p free y) }
+  tables Nights f slots s = record { started = λ p available y. (c, days w, small, sums, f slots s .afresh p available y) }
   tables Days f slots s = record { worked = λ q. (c, days w, small, sums, f slots s .afresh q) }

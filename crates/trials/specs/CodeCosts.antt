@@ -12,28 +12,28 @@ use Rattle.history.specs.declared.Search.{Search}
 use Rattle.history.specs.declared.Search.the-variants.{Nights, Days}
 use Rattle.history.specs.Slot.{Slot, exchanged}
 use Rattle.penalty.specs.Penalty.{rest, nightParts, dayParts}
-use Rattle.penalty.specs.CodeColumns.{Frees}
+use Rattle.penalty.specs.CodeColumns.{AvailableUnder}
 
--- a day of a trial: N if in nights, else available if in free, else neither
+-- a day of a trial: N if in nights, else available if in available, else neither
 unfoldable pub trialAt : Costs → ℕ → ℕ → ℕ → ℕ
-trialAt c nights free d = cond (has nights d) (getD (c .night) d 0) (cond (has free d) (getD (c .free) d 0) (getD (c .none) d 0))
+trialAt c nights available d = cond (has nights d) (getD (c .night) d 0) (cond (has available d) (getD (c .available) d 0) (getD (c .none) d 0))
 
 unfoldable pub trialOf : Costs → ℕ → ℕ → ℕ → ℕ
 unfolding trialAt
-trialOf c n nights free = sumTo n (trialAt c nights free)
+trialOf c n nights available = sumTo n (trialAt c nights available)
 
 -- the table of n days: entries small enough to be added up, and 0 past the month
-pub record Small (c : Costs) (n : ℕ) : Type 0 where
+pub record SmallCosts (c : Costs) (n : ℕ) : Type 0 where
   pub at-most : n ≤ 31
   pub night-small : (d : ℕ) → getD (c .night) d 0 ≤ 371200
-  pub free-small : (d : ℕ) → getD (c .free) d 0 ≤ 371200
+  pub available-small : (d : ℕ) → getD (c .available) d 0 ≤ 371200
   pub none-small : (d : ℕ) → getD (c .none) d 0 ≤ 371200
-  pub past : (nights free d : ℕ) → n ≤ d → trialAt c nights free d ≡ 0
+  pub past : (nights available d : ℕ) → n ≤ d → trialAt c nights available d ≡ 0
 
 -- A trial by the table is the penalty counted afresh over the whole ward after the exchange: by night for the starts p, with the days
 -- on which they leave her available; by day for the worked days q.
 pub record TrialsNight (w : List ℕ) (slots : ℕ → Slot) (i : ℕ) (c : Costs) : Type 0 where
-  pub afresh : (p free : ℕ) → Frees w i p free → trialOf c (days w) p free ≡ rest (nightParts w (exchanged slots i p))
+  pub afresh : (p available : ℕ) → AvailableUnder w i p available → trialOf c (days w) p available ≡ rest (nightParts w (exchanged slots i p))
 
 pub record TrialsDay (w : List ℕ) (slots : ℕ → Slot) (i : ℕ) (c : Costs) : Type 0 where
   pub afresh : (q : ℕ) → trialOf c (days w) 0 q ≡ rest (dayParts w (exchanged slots i q))
@@ -47,15 +47,15 @@ Trials Days w slots i c = TrialsDay w slots i c
 
 -- day d in the state that bit j of two sets says
 abbrev pub stateAt : Costs → ℕ → ℕ → ℕ → ℕ → ℕ
-stateAt c nights free j d = cond (has nights j) (getD (c .night) d 0) (cond (has free j) (getD (c .free) d 0) (getD (c .none) d 0))
+stateAt c nights available j d = cond (has nights j) (getD (c .night) d 0) (cond (has available j) (getD (c .available) d 0) (getD (c .none) d 0))
 
 -- the three days from 3 * b on, by two sets of three
 unfoldable pub chunkOf : Costs → ℕ → ℕ → ℕ → ℕ
-chunkOf c b nights free = stateAt c nights free 0 (3 * b) + stateAt c nights free 1 (3 * b + 1) + stateAt c nights free 2 (3 * b + 2)
+chunkOf c b nights available = stateAt c nights available 0 (3 * b) + stateAt c nights available 1 (3 * b + 1) + stateAt c nights available 2 (3 * b + 2)
 
 -- their place in the list of all of them
 abbrev pub chunkPlace : ℕ → ℕ → ℕ → ℕ
-chunkPlace b nights free = 64 * b + 8 * nights + free
+chunkPlace b nights available = 64 * b + 8 * nights + available
 
 -- the list t holds them all: place e is that of e / 64, e / 8 % 8 and e % 8
 pub record Chunks (c : Costs) (t : List ℕ) : Type 0 where

@@ -31,7 +31,7 @@ dayWith Days w d i a b night day = dutyCost (weightsOf w 1) (memberSets w) (need
 -- the three entries of a day
 pub record Entries (which : Search) (w : List ℕ) (d i night day : ℕ) (t : Three) : Type 0 where
   pub at-night : Is (t .night) (dayWith which w d i true false night day) 371200
-  pub at-free : Is (t .free) (dayWith which w d i false true night day) 371200
+  pub at-available : Is (t .available) (dayWith which w d i false true night day) 371200
   pub at-none : Is (t .none) (dayWith which w d i false false night day) 371200
 
 -- the first d places of l hold f, each at most b, and the others 0

@@ -7,20 +7,20 @@ use Rattle.history.specs.declared.Search.the-variants.{Nights, Days}
 use Rattle.history.specs.Slot.{Slot, exchanged}
 use Rattle.penalty.specs.declared.columns.Columns.{Columns}
 use Rattle.penalty.specs.Penalty.{rest, partsIn}
-use Rattle.penalty.specs.CodeColumns.{Shows, Frees}
+use Rattle.penalty.specs.CodeColumns.{Shows, AvailableUnder}
 use Rattle.trials.specs.declared.costs.Costs.{Costs}
-use Rattle.trials.specs.CodeCosts.{Small, Chunks, trialOf}
+use Rattle.trials.specs.CodeCosts.{SmallCosts, Chunks, trialOf}
 
 -- a trial by the sums of a nurse's table comes to x
 abbrev pub tableTrial : List ℕ → ℕ → ℕ → ℕ → Type 0
-tableTrial t nights free x = (c : Costs) × (n : ℕ) × Small c n × Chunks c t × (trialOf c n nights free ≡ x)
+tableTrial t nights available x = (c : Costs) × (n : ℕ) × SmallCosts c n × Chunks c t × (trialOf c n nights available ≡ x)
 
 -- what a trial by nurse i's table costs, by the pattern that she takes
 pub record DayTrials (t : List ℕ) (cost : ℕ → ℕ) : Type 0 where
   pub worked : (q : ℕ) → tableTrial t 0 q (cost q)
 
 pub record NightTrials (w : List ℕ) (i : ℕ) (t : List ℕ) (cost : ℕ → ℕ) : Type 0 where
-  pub started : (p free : ℕ) → Frees w i p free → tableTrial t p free (cost p)
+  pub started : (p available : ℕ) → AvailableUnder w i p available → tableTrial t p available (cost p)
 
 -- by night or by day
 abbrev pub TableTrials : Search → List ℕ → ℕ → List ℕ → (ℕ → ℕ) → Type 0

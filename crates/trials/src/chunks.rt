@@ -5,47 +5,47 @@ ghost use mathlib.Core.Bool.{cond};
 ghost use Prim.Native.Nat.{ℕ, _<_, _≤_};
 ghost use Rattle.trials.specs.declared.costs.Costs.{Costs};
 ghost use Rattle.numbers.specs.Digits.{has};
-ghost use Rattle.trials.specs.CodeCosts.{Small, trialOf, Chunks, ChunksSmall};
+ghost use Rattle.trials.specs.CodeCosts.{SmallCosts, trialOf, Chunks, ChunksSmall};
 
 // A day's cost in the state that bit j of the two sets says.
-fn by_bit(nights: u32, spare: u32, j: u64, night: u64, free: u64, none: u64) -> u64
+fn by_bit(nights: u32, spare: u32, j: u64, night: u64, available: u64, none: u64) -> u64
     requires { ⌜ j < 32 ⌝ }
-    ensures { λ r. ⌜ r ≡ cond (has nights j) night (cond (has spare j) free none) ⌝ }
+    ensures { λ r. ⌜ r ≡ cond (has nights j) night (cond (has spare j) available none) ⌝ }
 {
     if numbers::has_bit(nights, j) {
         return night;
     }
     if numbers::has_bit(spare, j) {
-        return free;
+        return available;
     }
     none
 }
 
 // The sums of every three days in every state.
 pub(crate) fn chunks(c: Costs, n: usize) -> [u64; 704]
-    requires { ⌜ Small c n ⌝ }
+    requires { ⌜ SmallCosts c n ⌝ }
     ensures { λ r. ⌜ Chunks c r ⌝ }
 {
     let mut t = [0u64; 704];
     for e in 0..704 {
         let d = 3 * (e / 64);
         let nights = (e / 8 % 8) as u32;
-        let free = (e % 8) as u32;
-        let x = by_bit(nights, free, 0, c.night[d], c.free[d], c.none[d]);
+        let available = (e % 8) as u32;
+        let x = by_bit(nights, available, 0, c.night[d], c.available[d], c.none[d]);
         let y = by_bit(
             nights,
-            free,
+            available,
             1,
             c.night[d + 1],
-            c.free[d + 1],
+            c.available[d + 1],
             c.none[d + 1],
         );
         let z = by_bit(
             nights,
-            free,
+            available,
             2,
             c.night[d + 2],
-            c.free[d + 2],
+            c.available[d + 2],
             c.none[d + 2],
         );
         t[e] = x + y + z;
@@ -53,17 +53,17 @@ pub(crate) fn chunks(c: Costs, n: usize) -> [u64; 704]
     t
 }
 
-// What the ward's days cost after an exchange, from the sums of the nurse's table: nights are her starts, free the days that they leave
+// What the ward's days cost after an exchange, from the sums of the nurse's table: nights are her starts, available the days that they leave
 // her available.
-pub fn chunk_trial(t: &[u64; 704], nights: u32, free: u32) -> u64
+pub fn chunk_trial(t: &[u64; 704], nights: u32, available: u32) -> u64
     requires { ⌜ ChunksSmall (now t) ⌝ }
-    ensures is { λ r. ⌜ ((c : Costs) (n : ℕ) → Small c n → Chunks c (now (t .entry)) → r ≡ trialOf c n nights free) ⌝ }
+    ensures is { λ r. ⌜ ((c : Costs) (n : ℕ) → SmallCosts c n → Chunks c (now (t .entry)) → r ≡ trialOf c n nights available) ⌝ }
     ensures most { λ r. ⌜ r ≤ 12249600 ⌝ }
 {
     let mut total = 0;
     for b in 0..11 {
         let x = ((nights >> (3 * b)) % 8) as usize;
-        let y = ((free >> (3 * b)) % 8) as usize;
+        let y = ((available >> (3 * b)) % 8) as usize;
         total = total + t[64 * b + 8 * x + y];
     }
     total

@@ -8,21 +8,21 @@ ghost use Rattle.fields.specs.Fields.{Accepted, nurses, days};
 ghost use Rattle.history.specs.declared.Search.the-variants.{Nights, Days};
 ghost use Rattle.history.specs.Slot.{Slot};
 ghost use Rattle.penalty.specs.CodeColumns.{Shows};
-ghost use Rattle.trials.specs.CodeCosts.{Small, Trials};
+ghost use Rattle.trials.specs.CodeCosts.{SmallCosts, Trials};
 ghost use Rattle.trials.specs.CodeEntries.{Entries};
 
-// Each day's cost, short and over together: with her at night, available, or neither. By day: free is worked.
+// Each day's cost, short and over together: with her at night, available, or neither. By day: available is worked.
 // Eleven groups of three days; 0 past the month.
 pub struct Costs {
     pub night: [u64; 33],
-    pub free: [u64; 33],
+    pub available: [u64; 33],
     pub none: [u64; 33],
 }
 
 // One day of them.
 pub struct Three {
     pub night: u64,
-    pub free: u64,
+    pub available: u64,
     pub none: u64,
 }
 
@@ -37,7 +37,7 @@ fn night_day(w: &[u64], d: usize, i: usize, night: u64, day: u64) -> Three
     let b = pairs::pair_on(weights::low_weights(w, 1), sets, needs, 1, day, i);
     Three {
         night: a.on + b.off,
-        free: a.off + b.on,
+        available: a.off + b.on,
         none: a.off + b.off,
     }
 }
@@ -52,7 +52,7 @@ fn day_day(w: &[u64], d: usize, i: usize, day: u64) -> Three
     let b = pairs::pair_on(weights::weights(w, 1), sets, needs, 1, day, i);
     Three {
         night: b.off,
-        free: b.on,
+        available: b.on,
         none: b.off,
     }
 }
@@ -71,19 +71,19 @@ fn on_day(w: &[u64], d: usize, i: usize, night: u64, day: u64, search: Search) -
 // The table of nurse i, by night or by day.
 pub(crate) fn nurse_costs(w: &[u64], cols: Columns, i: usize, search: Search) -> Costs
     requires { ⌜ Accepted (now w) × (i < nurses (now w)) ⌝ }
-    ensures small { λ r. ⌜ Small r (days (now (w .entry))) ⌝ }
+    ensures small { λ r. ⌜ SmallCosts r (days (now (w .entry))) ⌝ }
     ensures trials { λ r. ⌜ ((slots : ℕ → Slot) → Shows search (now (w .entry)) slots cols → Trials search (now (w .entry)) slots i r) ⌝ }
 {
     let mut c = Costs {
         night: [0; 33],
-        free: [0; 33],
+        available: [0; 33],
         none: [0; 33],
     };
     let n = fields::days(w);
     for d in 0..n {
         let t = on_day(w, d, i, cols.night[d], cols.day[d], search);
         c.night[d] = t.night;
-        c.free[d] = t.free;
+        c.available[d] = t.available;
         c.none[d] = t.none;
     }
     c

@@ -17,7 +17,7 @@ use Rattle.refusals.specs.declared.Answer.the-variants.{Yes}
 use Rattle.layout.specs.declared.Want.the-variants.{Next, Nothing}
 use Rattle.codec.specs.Groups.{encode}
 use Rattle.layout.specs.Grammar.{Grammar, failedBy, good, bad, prepend, check, bytesOf}
-use Rattle.layout.specs.CodeWant.{wanted, after, Within, Small}
+use Rattle.layout.specs.CodeWant.{wanted, after, Within, SmallField}
 use Rattle.layout.specs.Layout.{ward}
 use Rattle.ward.specs.Answers.{counted, checkWard, unwritten}
 use Rattle.ward.specs.CodeChecked.{checkedOf}
@@ -109,7 +109,7 @@ module _ (w : Ward) (i bytes : ℕ) (g : Grammar) (so : Walked w i bytes g) wher
         pub below : getD (w .numbers) i 0 < 2 ^ 49
         below =
             let r = in-range f _ a in
-            let s : f .most < 2 ^ 49 = subst Small e (small (numberPlaces - i) g (so .room)) in
+            let s : f .most < 2 ^ 49 = subst SmallField e (small (numberPlaces - i) g (so .room)) in
             omega arith
 
         pub turn : Walked w (i + 1) (bytes + length (encode (getD (w .numbers) i 0))) (after g (getD (w .numbers) i 0))

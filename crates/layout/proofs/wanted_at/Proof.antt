@@ -1,7 +1,7 @@
 -- `layout::wanted_at` meets its contract: each place has the field that the layout has there.
 use Prim.Native.Nat.{ℕ}
 use mathlib.Core.Path.{_∙_, ap, subst⁻¹}
-use Rattle.layout.specs.CodeWant.{Small}
+use Rattle.layout.specs.CodeWant.{SmallField}
 use Rattle.layout.specs.Layout.{ward, range}
 use Rattle.layout.specs.declared.Want.the-variants.{Next}
 use Rattle.layout.proofs.PlaceLaws.{wanted-at}
@@ -106,7 +106,7 @@ enum-told-17 : tie.Need-enum-told-17
 enum-told-17 c = search needs
 
 all-requires : tie.Need-all-requires
-all-requires c κs = let at-match = c .before in let start = at-match .before in subst⁻¹ Small (wanted-at _ (c .enum-told17 .given .1)) (start .pre)
+all-requires c κs = let at-match = c .before in let start = at-match .before in subst⁻¹ SmallField (wanted-at _ (c .enum-told17 .given .1)) (start .pre)
 
 range-requires-16 : tie.Need-range-requires-16
 range-requires-16 c κs = search needs

@@ -1,7 +1,7 @@
 -- `trials::table` meets its contract.
 use mathlib.Core.Path.{sym, subst}
 use Prim.Native.Nat.{ℕ}
-use Rattle.trials.specs.CodeCosts.{Small}
+use Rattle.trials.specs.CodeCosts.{SmallCosts}
 use Rattle.trials.proofs.ChunkLaws.{chunks-small}
 use Rattle.trials.proofs.TableLaws.{tables}
 use borrow.Author.Needs.{needs}
@@ -15,7 +15,7 @@ nurse-costs-requires : tie.Need-nurse-costs-requires
 nurse-costs-requires c κs = search needs
 
 chunks-requires : tie.Need-chunks-requires
-chunks-requires c κs = subst (λ (k : ℕ). Small (c .nurse-costs .result) k) (sym (c .before .days .ensures .0)) (c .nurse-costs .ensures .0)
+chunks-requires c κs = subst (λ (k : ℕ). SmallCosts (c .nurse-costs .result) k) (sym (c .before .days .ensures .0)) (c .nurse-costs .ensures .0)
 
 returns : tie.Need-returns
 returns c = (chunks-small _ _ (c .chunks .ensures), tables (c .before .before .before .before .args .w .now) (c .before .before .before .before .args .cols) (c .before .before .before .before .args .i) (c .before .nurse-costs .ensures .0) (c .chunks .ensures) (c .before .before .before .before .args .search) (c .before .nurse-costs .ensures .1))

@@ -6,16 +6,16 @@ use lib.ListN.{length}
 use Rattle.numbers.specs.Digits.{numberOf}
 use Rattle.rows.specs.Rows.{availableOn, fixedDay}
 use Rattle.days.specs.CodeMonth.{inBounds}
-use Rattle.days.proofs.MonthLaws.{MonthAt, month-start, month-turn, free-fits, fixed-fits}
+use Rattle.days.proofs.MonthLaws.{MonthAt, month-start, month-turn, available-fits, fixed-fits}
 use borrow.Author.Needs.{needs}
 use Rattle.days.proofs.month.sheet_of.Statement.{statement}
 use Rattle.days.proofs.month.sheet_of.Tie as tie
 
 abbrev Inv-loop : tie.InvT-loop
-Inv-loop b n longest p states row₀ free₀ fixed₀ d₀ row free fixed d = MonthAt b p n d row free fixed
+Inv-loop b n longest p states row₀ available₀ fixed₀ d₀ row available fixed d = MonthAt b p n d row available fixed
 
 abbrev μ-loop : tie.MeasureT-loop
-μ-loop b n longest p states row₀ free₀ fixed₀ d₀ row free fixed d = n - d
+μ-loop b n longest p states row₀ available₀ fixed₀ d₀ row available fixed d = n - d
 
 -- the places of the function, each from the next
 abbrev at-start : tie.After-states Inv-loop μ-loop → tie.Start Inv-loop μ-loop
@@ -83,7 +83,7 @@ with-next-requires c κs =
     let states = at-states loop in
     let start = at-start states in
     let s = start .args in
-    (omega (arith, in-loop .loop-test .taken, start .pre .1), free-fits (s .b .now) (s .p) (s .n) (loop .loop .d) (loop .loop .inv))
+    (omega (arith, in-loop .loop-test .taken, start .pre .1), available-fits (s .b .now) (s .p) (s .n) (loop .loop .d) (loop .loop .inv))
 
 with-next-requires-2 : tie.Need-with-next-requires-2 Inv-loop μ-loop
 with-next-requires-2 c κs =
@@ -143,7 +143,7 @@ returns c =
       longest-is = refl;
       least-is = least-rests .least-rests .ensures;
       most-is = most-rests .most-rests .ensures;
-      free-is = l .inv .free-is ∙ ap (numberOf (λ e. availableOn (s .b .now) (s .p) (suc e))) done;
+      available-days = l .inv .available-days ∙ ap (numberOf (λ e. availableOn (s .b .now) (s .p) (suc e))) done;
       fixed-is = l .inv .fixed-is ∙ ap (numberOf (fixedDay (s .b .now))) done;
       within-is = c .bounds .ensures ∙ ap₂ (λ (x y : ℕ). numberOf (inBounds x y) 32) (least-rests .least-rests .ensures) (most-rests .most-rests .ensures);
       row-is = λ t h. l .inv .row-is t (omega (arith, done));

@@ -17,7 +17,7 @@ use Rattle.nightlists.proofs.some.some.Kinds as some-kinds
 use Rattle.nightlists.proofs.some.+some.Lts-some as lts
 use Rattle.nightlists.proofs.is_closed.Reads as is-closed-reads
 use Rattle.nightlists.proofs.start.Reads as start-reads
-use Rattle.own.proofs.masks.passes.Reads as passes-reads
+use Rattle.nursemasks.proofs.masks.passes.Reads as passes-reads
 use Rattle.numbers.proofs.bit.Reads as bit-reads
 use Rattle.nightlists.proofs.some.+some.{statement}
 use Rattle.nightlists.proofs.some.+some.Tie.{close}

@@ -6,8 +6,8 @@ use Rattle.search.proofs.slots.with_row.Statement.{statement}
 use Rattle.search.proofs.slots.with_row.Tie as tie
 use Rattle.search.proofs.slots.with_row.Reads as reads
 use Rattle.search.proofs.slots.with_row.Lts as lts
-use Rattle.own.proofs.masks.available_days.Reads as available-days-reads
-use Rattle.own.proofs.masks.masks_of.Reads as masks-of-reads
+use Rattle.nursemasks.proofs.masks.available_days.Reads as available-days-reads
+use Rattle.nursemasks.proofs.masks.masks_of.Reads as masks-of-reads
 use Rattle.penalty.proofs.columns.Columns.with_nurse.Reads as with-nurse-reads
 use Rattle.search.proofs.slots.pattern_in.Reads as pattern-in-reads
 use Rattle.fields.proofs.days.Reads as days-reads

@@ -18,8 +18,8 @@ use Rattle.search.proofs.tries.over_nights.Statement.{statement}
 use Rattle.search.proofs.tries.over_nights.Tie as tie
 use Rattle.search.proofs.tries.over_nights.Reads as reads
 use Rattle.search.proofs.tries.over_nights.Lts as lts
-use Rattle.own.proofs.masks.available_days.Reads as available-days-reads
-use Rattle.own.proofs.masks.passes.Reads as passes-reads
+use Rattle.nursemasks.proofs.masks.available_days.Reads as available-days-reads
+use Rattle.nursemasks.proofs.masks.passes.Reads as passes-reads
 use Rattle.trials.proofs.chunks.chunk_trial.Reads as chunk-trial-reads
 use Rattle.search.proofs.tries.consider.Reads as consider-reads
 use Rattle.best.proofs.improves.Reads as improves-reads
@@ -94,13 +94,13 @@ loop-again c = let inside = in-loop (c .before) in
           let hers = hersOf (a .w .now) (a .i) in
           let so-far = loop .loop .inv .1 m cost l t in
           ⊎-elim
-          (λ x. let hers-here = x .0 .taken in let free = x .1 .ensures in let trial = x .2 .ensures in
+          (λ x. let hers-here = x .0 .taken in let available = x .1 .ensures in let trial = x .2 .ensures in
           hers-considered hers may (λ p. cost p + 10000000 * a .others) (a .i) (a .held) (a .list .now) (loop .loop .k) taken so-far hers-is hers-here
-          (night-costs (start .pre) _ t (free (rulesOf (a .w .now))) (trial .0)) (x .6) (x .5 .ensures m l))
+          (night-costs (start .pre) _ t (available (rulesOf (a .w .now))) (trial .0)) (x .6) (x .5 .ensures m l))
           (λ y. ⊎-elim
-          (λ x. let free = x .1 .ensures in let trial = x .2 .ensures in let worse = x .4 .left in
+          (λ x. let available = x .1 .ensures in let trial = x .2 .ensures in let worse = x .4 .left in
           x .5 ∙ no-better hers may (λ p. cost p + 10000000 * a .others) (a .i) (a .held) (a .list .now) (loop .loop .k) taken so-far
-          (night-costs (start .pre) _ t (free (rulesOf (a .w .now))) (trial .0)) (x .3 .ensures) worse)
+          (night-costs (start .pre) _ t (available (rulesOf (a .w .now))) (trial .0)) (x .3 .ensures) worse)
           (λ x. x .1 ∙ not-hers hers may (λ p. cost p + 10000000 * a .others) (a .i) (a .held) (a .list .now) (loop .loop .k) taken so-far hers-is (x .0 .left))
           y)
           (c .if1 .came),

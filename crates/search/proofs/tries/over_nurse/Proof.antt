@@ -8,7 +8,7 @@ use Rattle.search.proofs.tries.over_nurse.Statement.{statement}
 use Rattle.search.proofs.tries.over_nurse.Tie as tie
 use Rattle.search.proofs.tries.over_nurse.Reads as reads
 use Rattle.search.proofs.tries.over_nurse.Lts as lts
-use Rattle.own.proofs.masks.masks_of.Reads as masks-of-reads
+use Rattle.nursemasks.proofs.masks.masks_of.Reads as masks-of-reads
 use Rattle.search.proofs.tries.others_than.Reads as others-than-reads
 use Rattle.search.proofs.tries.over_days.Reads as over-days-reads
 use Rattle.search.proofs.tries.over_nights.Reads as over-nights-reads

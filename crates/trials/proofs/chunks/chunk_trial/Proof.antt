@@ -9,10 +9,10 @@ use Rattle.trials.proofs.chunks.chunk_trial.Statement.{statement}
 use Rattle.trials.proofs.chunks.chunk_trial.Tie as tie
 
 abbrev Inv-loop : tie.InvT-loop
-Inv-loop t nights free total₀ b₀ total b = (b ≤ 11) × Is total (0 + sumTo b (readAt t nights free)) (0 + 1113600 * b)
+Inv-loop t nights available total₀ b₀ total b = (b ≤ 11) × Is total (0 + sumTo b (readAt t nights available)) (0 + 1113600 * b)
 
 abbrev μ-loop : tie.MeasureT-loop
-μ-loop t nights free total₀ b₀ total b = 11 - b
+μ-loop t nights available total₀ b₀ total b = 11 - b
 
 loop-holds : tie.Need-loop-holds Inv-loop μ-loop
 loop-holds c = (search needs, read-start _ _ _)
@@ -60,7 +60,7 @@ element-copy-out-total : tie.Need-element-copy-out-total Inv-loop μ-loop
 element-copy-out-total c = search needs
 
 add-total-3 : tie.Need-add-total-3 Inv-loop μ-loop
-add-total-3 c = omega (arith, read-is (c .before .before .before .args .t .now) (c .before .before .before .args .nights) (c .before .before .before .args .free) (c .before .before .loop .b) (c .before .before .before .pre) (c .before .loop-test .taken) .most, c .before .before .loop .inv .1 .most)
+add-total-3 c = omega (arith, read-is (c .before .before .before .args .t .now) (c .before .before .before .args .nights) (c .before .before .before .args .available) (c .before .before .loop .b) (c .before .before .before .pre) (c .before .loop-test .taken) .most, c .before .before .loop .inv .1 .most)
 
 add-b : tie.Need-add-b Inv-loop μ-loop
 add-b c = search needs

@@ -63,8 +63,8 @@ mul-d c = search needs
 cast-nights : tie.Need-cast-nights Inv-loop μ-loop
 cast-nights c = search needs
 
-cast-free : tie.Need-cast-free Inv-loop μ-loop
-cast-free c = search needs
+cast-available : tie.Need-cast-available Inv-loop μ-loop
+cast-available c = search needs
 
 mul-by-bit : tie.Need-mul-by-bit Inv-loop μ-loop
 mul-by-bit c = search needs
@@ -186,7 +186,7 @@ chunks-spec =
     loop-holds
     mul-d
     cast-nights
-    cast-free
+    cast-available
     mul-by-bit
     element-copy-out-by-bit
     mul-by-bit-2

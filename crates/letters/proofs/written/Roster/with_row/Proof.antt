@@ -4,6 +4,7 @@ use mathlib.Core.Path.{_≡_, refl}
 use native.Mathlib.Omega.{arith}
 use lib.ListN.{length}
 use lib.Seq.{paste, paste-zero}
+use Rattle.fields.specs.Sizes.{letterPlaces}
 use Rattle.letters.specs.Letters.{rowLettersOf}
 use Rattle.letters.proofs.WriteLaws.{letter-put, row-put}
 use borrow.Author.Needs.{needs}
@@ -20,7 +21,7 @@ abbrev μ-loop : tie.MeasureT-loop
 abbrev at-start : tie.After-row-letters Inv-loop μ-loop → tie.Start Inv-loop μ-loop
 at-start c = c .before .before
 
-long : (c : tie.Start Inv-loop μ-loop) → length (c .args .self .letters) ≡ 1488
+long : (c : tie.Start Inv-loop μ-loop) → length (c .args .self .letters) ≡ letterPlaces
 long c = search needs
 
 row-letters-requires : tie.Need-row-letters-requires Inv-loop μ-loop

@@ -7,10 +7,10 @@ use Rattle.penalty.proofs.columns.Columns.with_nurse.Statement.{stateme
 use Rattle.penalty.proofs.columns.Columns.with_nurse.Tie as tie
 
 abbrev Inv-loop : tie.InvT-loop
-Inv-loop n i nights free next₀ d₀ next d = (d ≤ n) × PutUpTo (next₀ .night) (next .night) i nights d × PutUpTo (next₀ .day) (next .day) i free d
+Inv-loop n i nights available next₀ d₀ next d = (d ≤ n) × PutUpTo (next₀ .night) (next .night) i nights d × PutUpTo (next₀ .day) (next .day) i available d
 
 abbrev μ-loop : tie.MeasureT-loop
-μ-loop n i nights free next₀ d₀ next d = n - d
+μ-loop n i nights available next₀ d₀ next d = n - d
 
 loop-holds : tie.Need-loop-holds Inv-loop μ-loop
 loop-holds c = (search needs, put-start _ _ _ (search needs), put-start _ _ _ (search needs))

@@ -1,0 +1,50 @@
+-- `nursemasks::masks::masks_of` meets its contract.
+use mathlib.Core.Path.{_∙_}
+use Rattle.nursemasks.proofs.MaskLaws.{masks-as}
+use Rattle.fields.proofs.RuleLaws.{rules-small, block-as}
+use borrow.Author.Needs.{needs}
+use Rattle.nursemasks.proofs.masks.masks_of.Statement.{statement}
+use Rattle.nursemasks.proofs.masks.masks_of.Tie as tie
+
+-- the places of the function, each from the next
+abbrev at-start : tie.After-allow-table → tie.Start
+at-start c = c .before .before
+
+abbrev at-rules-of : tie.After-days → tie.After-rules-of
+at-rules-of c = c .before .before
+
+allow-table-requires : tie.Need-allow-table-requires
+allow-table-requires c κs = search needs
+
+rules-of-requires : tie.Need-rules-of-requires
+rules-of-requires c κs = search needs
+
+days-requires : tie.Need-days-requires
+days-requires c κs = search needs
+
+block-requires : tie.Need-block-requires
+block-requires c κs = search needs
+
+masks-by-requires : tie.Need-masks-by-requires
+masks-by-requires c κs =
+    let days = c .before in
+    let rules-of = at-rules-of days in
+    let allow-table = rules-of .before in
+    let start = at-start allow-table in
+    let s = start .args in
+    let ok = start .pre .0 in
+    let n = days .days .ensures in
+    (rules-small (s .w .now) _ ok (rules-of .rules-of .ensures), (n .1, block-as (s .w .now) (s .i) ok (start .pre .1) (c .block .ensures) (n .0)))
+
+returns : tie.Need-returns
+returns c =
+    let block = c .before in
+    let days = block .before in
+    let rules-of = at-rules-of days in
+    let allow-table = rules-of .before in
+    let start = at-start allow-table in
+    let s = start .args in
+    (c .masks-by .ensures .0 ∙ masks-as (s .w .now) (s .i) (allow-table .allow-table .ensures) (rules-of .rules-of .ensures) (days .days .ensures .0) (block .block .ensures), c .masks-by .ensures .1)
+
+pub masks-of-spec : {M : Type 1} → statement M
+masks-of-spec = tie.close (tie.spec allow-table-requires rules-of-requires days-requires block-requires masks-by-requires returns)
