@@ -305,7 +305,7 @@ fn chain(trial: &mut Trial, dice: &mut Dice, search: &Search) -> Option<Left> {
 /// The check: the planned roster, one from a search, and those beside them.
 pub fn checking(trial: &mut Trial, dice: &mut Dice, size: &Size) {
     let planned = any_ward(dice, size);
-    let plan = rostercheck::of_plan(&planned);
+    let plan = rosters::of_plan(&planned);
     check_around(trial, dice, &planned, "planned roster", &plan);
     if let Some(roster) = searched(trial, dice, &planned) {
         check_around(trial, dice, &planned, "roster given out", &roster);
@@ -325,7 +325,7 @@ fn check_around(
     let case = |roster: Vec<u8>| Case::Check { file: planned.file.clone(), roster };
     trial.compare(kind, &case(roster.to_vec()));
     for _ in 0..9 {
-        let (kind, changed) = rostercheck::changed(dice, roster, planned.ward.day_count);
+        let (kind, changed) = rosters::changed(dice, roster, planned.ward.day_count);
         trial.compare(kind, &case(changed));
     }
 }

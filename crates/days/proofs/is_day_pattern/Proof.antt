@@ -10,14 +10,20 @@ nurse-sheet-requires : tie.Need-nurse-sheet-requires
 nurse-sheet-requires c κs = search needs
 
 rule-holds-requires : tie.Need-rule-holds-requires
-rule-holds-requires c κs = let s = c .before .before .before .before .before .args in
-    let t = c .before .before .before .nurse-sheet .result in
-    sheet-small (block (s .w .now) (s .i)) (days (s .w .now)) (longestDays (s .w .now)) (s .p) (t .month) (t .row) (c .before .before .before .nurse-sheet .ensures) (c .before .before .before .before .before .pre .0 .days-most) (c .before .before .before .before .before .pre .0 .day-run-most)
+rule-holds-requires c κs =
+    let at-nurse-sheet : tie.After-nurse-sheet = search in
+    let start : tie.Start = search in
+    let s = start .args in
+    let t = at-nurse-sheet .nurse-sheet .result in
+    sheet-small (block (s .w .now) (s .i)) (days (s .w .now)) (longestDays (s .w .now)) (s .p) (t .month) (t .row) (at-nurse-sheet .nurse-sheet .ensures) (start .pre .0 .days-most) (start .pre .0 .day-run-most)
 
 returns : tie.Need-returns
-returns c = let s = c .before .before .before .before .before .before .args in
-    let t = c .before .before .before .before .nurse-sheet .result in
-    c .rule-holds .ensures ∙ sym (rule-is (block (s .w .now) (s .i)) (days (s .w .now)) (longestDays (s .w .now)) (s .p) (t .month) (t .row) (c .before .before .before .before .nurse-sheet .ensures) (c .before .before .before .before .before .before .pre .0 .day-run-most) (s .q))
+returns c =
+    let at-nurse-sheet : tie.After-nurse-sheet = search in
+    let start : tie.Start = search in
+    let s = start .args in
+    let t = at-nurse-sheet .nurse-sheet .result in
+    c .rule-holds .ensures ∙ sym (rule-is (block (s .w .now) (s .i)) (days (s .w .now)) (longestDays (s .w .now)) (s .p) (t .month) (t .row) (at-nurse-sheet .nurse-sheet .ensures) (start .pre .0 .day-run-most) (s .q))
 
 pub is-day-pattern-spec : {M : Type 1} → statement M
 is-day-pattern-spec = tie.close (tie.spec nurse-sheet-requires rule-holds-requires returns)

@@ -31,13 +31,26 @@ loop-less : tie.Need-loop-less Inv-loop μ-loop
 loop-less c = search needs
 
 loop-again : tie.Need-loop-again Inv-loop μ-loop
-loop-again c = (omega arith, bad-more (c .before .before .before .before .before .before .args .roster .now) (c .before .before .before .before .loop .i) (c .before .before .before .before .loop .inv .1) (c .before .before .before .loop-test .taken) (sym (c .before .is-letter .ensures) ∙ c .if1 .taken))
+loop-again c =
+    let at-is-letter : tie.After-is-letter Inv-loop μ-loop = search in
+    let turn : tie.In-loop Inv-loop μ-loop = search in
+    let at-loop : tie.At-loop Inv-loop μ-loop = search in
+    let start : tie.Start Inv-loop μ-loop = search in
+    (omega arith, bad-more (start .args .roster .now) (at-loop .loop .i) (at-loop .loop .inv .1) (turn .loop-test .taken) (sym (at-is-letter .is-letter .ensures) ∙ c .if1 .taken))
 
 returns : tie.Need-returns Inv-loop μ-loop
-returns c = bad-stop (c .before .before .before .before .before .before .args .roster .now) (c .before .before .before .before .loop .i) (c .before .before .before .before .loop .inv .1) (c .before .before .before .loop-test .taken) (sym (c .before .is-letter .ensures) ∙ c .if1 .left)
+returns c =
+    let at-is-letter : tie.After-is-letter Inv-loop μ-loop = search in
+    let turn : tie.In-loop Inv-loop μ-loop = search in
+    let at-loop : tie.At-loop Inv-loop μ-loop = search in
+    let start : tie.Start Inv-loop μ-loop = search in
+    bad-stop (start .args .roster .now) (at-loop .loop .i) (at-loop .loop .inv .1) (turn .loop-test .taken) (sym (at-is-letter .is-letter .ensures) ∙ c .if1 .left)
 
 returns-2 : tie.Need-returns-2 Inv-loop μ-loop
-returns-2 c = bad-end (c .before .before .before .args .roster .now) (c .before .loop .i) (c .before .loop .inv .1) (c .loop-test .left)
+returns-2 c =
+    let at-loop : tie.At-loop Inv-loop μ-loop = search in
+    let start : tie.Start Inv-loop μ-loop = search in
+    bad-end (start .args .roster .now) (at-loop .loop .i) (at-loop .loop .inv .1) (c .loop-test .left)
 
 pub first-bad-spec : {M : Type 1} → statement M
 first-bad-spec =

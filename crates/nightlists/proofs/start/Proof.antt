@@ -12,25 +12,40 @@ add-count : tie.Need-add-count
 add-count c = search needs
 
 returns-2 : tie.Need-returns-2
-returns-2 c = simp (lt-leb _ _ (c .before .before .before .if1 .left), eq-eqb _ _ (c .if2 .taken))
+returns-2 c =
+    let at-if1 : tie.Else1 = search in
+    simp (lt-leb _ _ (at-if1 .if1 .left), eq-eqb _ _ (c .if2 .taken))
 
 add-if3 : tie.Need-add-if3
 add-if3 c = search needs
 
 returns-3 : tie.Need-returns-3
-returns-3 c = simp (lt-leb _ _ (c .before .before .before .before .before .before .before .before .if1 .left), ne-eqb _ _ (c .before .before .before .before .before .if2 .left), eq-eqb _ _ (c .before .before .before .if3 .taken), le-leb _ _ (c .if4 .taken))
+returns-3 c =
+    let at-if3 : tie.Then3 = search in
+    let at-if2 : tie.Else2 = search in
+    let at-if1 : tie.Else1 = search in
+    simp (lt-leb _ _ (at-if1 .if1 .left), ne-eqb _ _ (at-if2 .if2 .left), eq-eqb _ _ (at-if3 .if3 .taken), le-leb _ _ (c .if4 .taken))
 
 add-t9 : tie.Need-add-t9
 add-t9 c = search needs
 
 returns-4 : tie.Need-returns-4
-returns-4 c = simp (lt-leb _ _ (c .before .before .before .before .before .before .before .before .before .if1 .left), ne-eqb _ _ (c .before .before .before .before .before .before .if2 .left), eq-eqb _ _ (c .before .before .before .before .if3 .taken), lt-leb _ _ (c .before .if4 .left))
+returns-4 c =
+    let at-if4 : tie.Else4 = search in
+    let at-if3 : tie.Then3 = search in
+    let at-if2 : tie.Else2 = search in
+    let at-if1 : tie.Else1 = search in
+    simp (lt-leb _ _ (at-if1 .if1 .left), ne-eqb _ _ (at-if2 .if2 .left), eq-eqb _ _ (at-if3 .if3 .taken), lt-leb _ _ (at-if4 .if4 .left))
 
 add-if5 : tie.Need-add-if5
 add-if5 c = search needs
 
 returns-5 : tie.Need-returns-5
-returns-5 c = simp (lt-leb _ _ (c .before .before .before .before .before .before .before .if1 .left), ne-eqb _ _ (c .before .before .before .before .if2 .left), ne-eqb _ _ (c .before .before .if3 .left), lt-ltb _ _ (c .if5 .taken))
+returns-5 c =
+    let at-if3 : tie.Else3 = search in
+    let at-if2 : tie.Else2 = search in
+    let at-if1 : tie.Else1 = search in
+    simp (lt-leb _ _ (at-if1 .if1 .left), ne-eqb _ _ (at-if2 .if2 .left), ne-eqb _ _ (at-if3 .if3 .left), lt-ltb _ _ (c .if5 .taken))
 
 is-closed-requires : tie.Need-is-closed-requires
 is-closed-requires c κs = search needs
@@ -39,10 +54,23 @@ sub-t12 : tie.Need-sub-t12
 sub-t12 c = search needs
 
 returns-6 : tie.Need-returns-6
-returns-6 c = simp (lt-leb _ _ (c .before .before .before .before .before .before .before .before .before .before .if1 .left), ne-eqb _ _ (c .before .before .before .before .before .before .before .if2 .left), ne-eqb _ _ (c .before .before .before .before .before .if3 .left), le-ltb _ _ (c .before .before .before .if5 .left), sym (c .before .before .is-closed .ensures) ∙ c .before .if6 .taken)
+returns-6 c =
+    let at-if6 : tie.Then6 = search in
+    let at-is-closed : tie.After-is-closed = search in
+    let at-if5 : tie.Else5 = search in
+    let at-if3 : tie.Else3 = search in
+    let at-if2 : tie.Else2 = search in
+    let at-if1 : tie.Else1 = search in
+    simp (lt-leb _ _ (at-if1 .if1 .left), ne-eqb _ _ (at-if2 .if2 .left), ne-eqb _ _ (at-if3 .if3 .left), le-ltb _ _ (at-if5 .if5 .left), sym (at-is-closed .is-closed .ensures) ∙ at-if6 .if6 .taken)
 
 returns-7 : tie.Need-returns-7
-returns-7 c = simp (lt-leb _ _ (c .before .before .before .before .before .before .before .before .before .if1 .left), ne-eqb _ _ (c .before .before .before .before .before .before .if2 .left), ne-eqb _ _ (c .before .before .before .before .if3 .left), le-ltb _ _ (c .before .before .if5 .left), sym (c .before .is-closed .ensures) ∙ c .if6 .left)
+returns-7 c =
+    let at-is-closed : tie.After-is-closed = search in
+    let at-if5 : tie.Else5 = search in
+    let at-if3 : tie.Else3 = search in
+    let at-if2 : tie.Else2 = search in
+    let at-if1 : tie.Else1 = search in
+    simp (lt-leb _ _ (at-if1 .if1 .left), ne-eqb _ _ (at-if2 .if2 .left), ne-eqb _ _ (at-if3 .if3 .left), le-ltb _ _ (at-if5 .if5 .left), sym (at-is-closed .is-closed .ensures) ∙ c .if6 .left)
 
 pub start-spec : {M : Type 1} → statement M
 start-spec =

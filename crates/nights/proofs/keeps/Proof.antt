@@ -37,11 +37,18 @@ run-with-requires : tie.Need-run-with-requires Inv-loop μ-loop
 run-with-requires c κs = search needs
 
 returns : tie.Need-returns Inv-loop μ-loop
-returns c = let s = c .before .before .before .before .before .before .args in
-    let l = c .before .before .before .before .before .loop in
+returns c =
+    let at-is-allowed : tie.After-is-allowed Inv-loop μ-loop = search in
+    let at-if1 : tie.Then1 Inv-loop μ-loop = search in
+    let at-has-bit : tie.After-has-bit Inv-loop μ-loop = search in
+    let turn : tie.In-loop Inv-loop μ-loop = search in
+    let at-loop : tie.At-loop Inv-loop μ-loop = search in
+    let start : tie.Start Inv-loop μ-loop = search in
+    let s = start .args in
+    let l = at-loop .loop in
     sym (l .inv .3
-    ∙ follow-yes (s .r) (l .prev) (l .run) (s .off) (s .p) (s .n) (l .day) (c .before .before .before .before .loop-test .taken) (sym (c .before .before .before .has-bit .ensures) ∙ c .before .before .if1 .taken)
-    ∙ rw (sym (c .before .is-allowed .ensures) ∙ c .if2 .left))
+    ∙ follow-yes (s .r) (l .prev) (l .run) (s .off) (s .p) (s .n) (l .day) (turn .loop-test .taken) (sym (at-has-bit .has-bit .ensures) ∙ at-if1 .if1 .taken)
+    ∙ rw (sym (at-is-allowed .is-allowed .ensures) ∙ c .if2 .left))
 
 add-day : tie.Need-add-day Inv-loop μ-loop
 add-day c = search needs
@@ -50,15 +57,20 @@ loop-less : tie.Need-loop-less Inv-loop μ-loop
 loop-less c = search needs
 
 loop-again : tie.Need-loop-again Inv-loop μ-loop
-loop-again c = let s = c .before .before .before .before .args in
-    let l = c .before .before .before .loop in
+loop-again c =
+    let at-has-bit : tie.After-has-bit Inv-loop μ-loop = search in
+    let turn : tie.In-loop Inv-loop μ-loop = search in
+    let at-loop : tie.At-loop Inv-loop μ-loop = search in
+    let start : tie.Start Inv-loop μ-loop = search in
+    let s = start .args in
+    let l = at-loop .loop in
     ⊎-elim
     (λ w. (
       omega arith,
       omega (arith, w .4),
       omega (arith, w .5, w .3 .ensures .1),
       rw (w .4, w .5, w .3 .ensures .0) (l .inv .3
-          ∙ follow-yes (s .r) (l .prev) (l .run) (s .off) (s .p) (s .n) (l .day) (c .before .before .loop-test .taken) (sym (c .before .has-bit .ensures) ∙ w .0 .taken)
+          ∙ follow-yes (s .r) (l .prev) (l .run) (s .off) (s .p) (s .n) (l .day) (turn .loop-test .taken) (sym (at-has-bit .has-bit .ensures) ∙ w .0 .taken)
           ∙ rw (sym (w .1 .ensures) ∙ w .2 .taken)),
     ))
     (λ w. (
@@ -66,13 +78,16 @@ loop-again c = let s = c .before .before .before .before .args in
       omega (arith, w .1),
       omega (arith, w .2),
       rw (w .1, w .2) (l .inv .3
-          ∙ follow-no (s .r) (l .prev) (l .run) (s .off) (s .p) (s .n) (l .day) (c .before .before .loop-test .taken) (sym (c .before .has-bit .ensures) ∙ w .0 .left)),
+          ∙ follow-no (s .r) (l .prev) (l .run) (s .off) (s .p) (s .n) (l .day) (turn .loop-test .taken) (sym (at-has-bit .has-bit .ensures) ∙ w .0 .left)),
     ))
     (c .if1 .came)
 
 returns-2 : tie.Need-returns-2 Inv-loop μ-loop
-returns-2 c = let s = c .before .before .args in
-    let l = c .before .loop in
+returns-2 c =
+    let at-loop : tie.At-loop Inv-loop μ-loop = search in
+    let start : tie.Start Inv-loop μ-loop = search in
+    let s = start .args in
+    let l = at-loop .loop in
     sym (l .inv .3 ∙ follow-done (s .r) (l .prev) (l .run) (s .off) (s .p) (s .n) (l .day) (c .loop-test .left))
 
 pub keeps-spec : {M : Type 1} → statement M

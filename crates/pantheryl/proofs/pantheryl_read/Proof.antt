@@ -17,10 +17,19 @@ enum-told-2 : tie.Need-enum-told-2
 enum-told-2 c = search needs
 
 returns : tie.Need-returns
-returns c = read-refused (c .before .before .before .before .before .args .numbers .now) (c .before .before .before .read .ensures) (c .before .before .count-words .ensures) (c .enum-told .given .1)
+returns c =
+    let at-count-words : tie.After-count-words = search in
+    let at-read : tie.After-read = search in
+    let start : tie.Start = search in
+    read-refused (start .args .numbers .now) (at-read .read .ensures) (at-count-words .count-words .ensures) (c .enum-told .given .1)
 
 returns-2 : tie.Need-returns-2
-returns-2 c = read-done (c .before .before .before .before .before .before .args .numbers .now) (c .before .before .before .before .read .ensures) (c .before .before .before .count-words .ensures) (c .before .enum-told2 .given .1)
+returns-2 c =
+    let at-enum-told2 : tie.After-enum-told2 = search in
+    let at-count-words : tie.After-count-words = search in
+    let at-read : tie.After-read = search in
+    let start : tie.Start = search in
+    read-done (start .args .numbers .now) (at-read .read .ensures) (at-count-words .count-words .ensures) (at-enum-told2 .enum-told2 .given .1)
 
 pub pantheryl-read-spec : {M : Type 1} → statement M
 pantheryl-read-spec =

@@ -16,10 +16,18 @@ needs-requires : tie.Need-needs-requires
 needs-requires c κs = search needs
 
 on-column-requires : tie.Need-on-column-requires
-on-column-requires c κs = (light-of _ _ (c .before .before .before .before .pre .0) (omega arith) (c .before .before .weights .ensures), needs-of _ _ (c .before .before .before .before .pre .0) (c .before .before .before .before .pre .1) (c .before .member-sets .ensures) (c .needs .ensures), search needs)
+on-column-requires c κs =
+    let at-member-sets : tie.After-member-sets = search in
+    let at-weights : tie.After-weights = search in
+    let start : tie.Start = search in
+    (light-of _ _ (start .pre .0) (omega arith) (at-weights .weights .ensures), needs-of _ _ (start .pre .0) (start .pre .1) (at-member-sets .member-sets .ensures) (c .needs .ensures), search needs)
 
 returns : tie.Need-returns
-returns c = worked-of _ _ _ (duty-of _ _ _ _ (c .before .before .before .weights .ensures) (c .before .before .member-sets .ensures) (c .before .needs .ensures) (c .on-column .ensures))
+returns c =
+    let at-needs : tie.After-needs = search in
+    let at-member-sets : tie.After-member-sets = search in
+    let at-weights : tie.After-weights = search in
+    worked-of _ _ _ (duty-of _ _ _ _ (at-weights .weights .ensures) (at-member-sets .member-sets .ensures) (at-needs .needs .ensures) (c .on-column .ensures))
 
 pub day-day-spec : {M : Type 1} → statement M
 day-day-spec =

@@ -21,7 +21,10 @@ days-requires : tie.Need-days-requires Inv-loop μ-loop
 days-requires c κs = search needs
 
 loop-holds : tie.Need-loop-holds Inv-loop μ-loop
-loop-holds c = month-start (c .before .before .before .args .search) _ _ _ _ _ (ap (λ (p : Penalty). p .short) (c .before .fresh .ensures)) (ap (λ (p : Penalty). p .over) (c .before .fresh .ensures)) refl
+loop-holds c =
+    let at-fresh : tie.After-fresh Inv-loop μ-loop = search in
+    let start : tie.Start Inv-loop μ-loop = search in
+    month-start (start .args .search) _ _ _ _ _ (ap (λ (p : Penalty). p .short) (at-fresh .fresh .ensures)) (ap (λ (p : Penalty). p .over) (at-fresh .fresh .ensures)) refl
 
 mul-on-day : tie.Need-mul-on-day Inv-loop μ-loop
 mul-on-day c = search needs
@@ -51,13 +54,21 @@ loop-less : tie.Need-loop-less Inv-loop μ-loop
 loop-less c = search needs
 
 loop-again : tie.Need-loop-again Inv-loop μ-loop
-loop-again c = month-turn (c .before .before .before .before .before .before .before .before .before .before .before .before .args .search) _ _ _ _ _ (c .before .before .before .before .before .before .before .before .loop .inv) (c .before .before .before .before .before .before .before .loop-test .taken) (c .before .before .before .before .on-day .ensures)
+loop-again c =
+    let at-on-day : tie.After-on-day Inv-loop μ-loop = search in
+    let turn : tie.In-loop Inv-loop μ-loop = search in
+    let at-loop : tie.At-loop Inv-loop μ-loop = search in
+    let start : tie.Start Inv-loop μ-loop = search in
+    month-turn (start .args .search) _ _ _ _ _ (at-loop .loop .inv) (turn .loop-test .taken) (at-on-day .on-day .ensures)
 
 returns : tie.Need-returns Inv-loop μ-loop
-returns c = (
-  month-bounded (c .before .before .before .before .before .args .search) _ _ _ _ _ (c .before .loop .inv) (omega (arith, c .before .before .days .ensures .0, c .before .before .before .before .before .pre .0 .days-most)) (c .before .before .before .before .before .pre .1),
-  λ slots g q. month-is (c .before .before .before .before .before .args .w .now) (c .before .before .before .before .before .args .t2) (c .before .before .before .before .before .pre .0) slots (c .before .before .before .before .before .args .search) (c .before .loop .inv) (c .loop-test .left) (c .before .before .days .ensures .0) g q,
-)
+returns c =
+    let at-loop : tie.At-loop Inv-loop μ-loop = search in
+    let at-days : tie.After-days Inv-loop μ-loop = search in
+    let start : tie.Start Inv-loop μ-loop = search in (
+      month-bounded (start .args .search) _ _ _ _ _ (at-loop .loop .inv) (omega (arith, at-days .days .ensures .0, start .pre .0 .days-most)) (start .pre .1),
+      λ slots g q. month-is (start .args .w .now) (start .args .t2) (start .pre .0) slots (start .args .search) (at-loop .loop .inv) (c .loop-test .left) (at-days .days .ensures .0) g q,
+    )
 
 pub parts-spec : {M : Type 1} → statement M
 parts-spec =

@@ -33,8 +33,12 @@ bars-requires c κs = search needs
 
 returns : tie.Need-returns Inv-loop μ-loop
 returns c =
-    let long : length (c .before .before .before .before .before .args .t1) ≡ removalPlaces = search needs in
-    barred-found (c .before .before .before .before .before .args .nurse) (c .before .before .before .before .before .args .pattern) (c .before .before .before .before .before .args .t1) (c .before .before .before .before .loop .k) (c .before .before .before .before .before .args .held) _ (c .before .before .before .loop-test .taken) (omega arith) (c .before .bars .ensures) (c .if1 .taken)
+    let at-bars : tie.After-bars Inv-loop μ-loop = search in
+    let turn : tie.In-loop Inv-loop μ-loop = search in
+    let at-loop : tie.At-loop Inv-loop μ-loop = search in
+    let start : tie.Start Inv-loop μ-loop = search in
+    let long : length (start .args .t1) ≡ removalPlaces = search needs in
+    barred-found (start .args .nurse) (start .args .pattern) (start .args .t1) (at-loop .loop .k) (start .args .held) _ (turn .loop-test .taken) (omega arith) (at-bars .bars .ensures) (c .if1 .taken)
 
 add-k : tie.Need-add-k Inv-loop μ-loop
 add-k c = search needs
@@ -44,13 +48,18 @@ loop-less c = search needs
 
 loop-again : tie.Need-loop-again Inv-loop μ-loop
 loop-again c =
-    let long : length (c .before .before .before .before .before .args .t1) ≡ removalPlaces = search needs in
-    (omega arith, barred-turn (c .before .before .before .before .before .args .nurse) (c .before .before .before .before .before .args .pattern) (c .before .before .before .before .before .args .t1) (c .before .before .before .before .loop .k) _ (omega arith) (c .before .before .before .before .loop .inv .1) (c .before .bars .ensures) (c .if1 .left))
+    let at-bars : tie.After-bars Inv-loop μ-loop = search in
+    let at-loop : tie.At-loop Inv-loop μ-loop = search in
+    let start : tie.Start Inv-loop μ-loop = search in
+    let long : length (start .args .t1) ≡ removalPlaces = search needs in
+    (omega arith, barred-turn (start .args .nurse) (start .args .pattern) (start .args .t1) (at-loop .loop .k) _ (omega arith) (at-loop .loop .inv .1) (at-bars .bars .ensures) (c .if1 .left))
 
 returns-2 : tie.Need-returns-2 Inv-loop μ-loop
 returns-2 c =
-    let e : c .before .loop .k ≡ c .before .before .args .held = omega arith in
-    rw (← e) (sym (c .before .loop .inv .1))
+    let at-loop : tie.At-loop Inv-loop μ-loop = search in
+    let start : tie.Start Inv-loop μ-loop = search in
+    let e : at-loop .loop .k ≡ start .args .held = omega arith in
+    rw (← e) (sym (at-loop .loop .inv .1))
 
 pub barred-spec : {M : Type 1} → statement M
 barred-spec =

@@ -12,10 +12,17 @@ days-hold-requires : tie.Need-days-hold-requires
 days-hold-requires c κs = search needs
 
 returns : tie.Need-returns
-returns c = rows-and-days (c .before .before .before .before .before .args .w .now) (c .before .before .before .before .before .args .roster .now) (sym (c .before .before .rows-hold .ensures) ∙ c .before .if1 .taken) (c .days-hold .ensures)
+returns c =
+    let at-if1 : tie.Then1 = search in
+    let at-rows-hold : tie.After-rows-hold = search in
+    let start : tie.Start = search in
+    rows-and-days (start .args .w .now) (start .args .roster .now) (sym (at-rows-hold .rows-hold .ensures) ∙ at-if1 .if1 .taken) (c .days-hold .ensures)
 
 returns-2 : tie.Need-returns-2
-returns-2 c = rows-fail (c .before .before .before .before .args .w .now) (c .before .before .before .before .args .roster .now) (sym (c .before .rows-hold .ensures) ∙ c .if1 .left)
+returns-2 c =
+    let at-rows-hold : tie.After-rows-hold = search in
+    let start : tie.Start = search in
+    rows-fail (start .args .w .now) (start .args .roster .now) (sym (at-rows-hold .rows-hold .ensures) ∙ c .if1 .left)
 
 pub roster-holds-spec : {M : Type 1} → statement M
 roster-holds-spec = tie.close (tie.spec rows-hold-requires days-hold-requires returns returns-2)

@@ -15,10 +15,15 @@ nurse-costs-requires : tie.Need-nurse-costs-requires
 nurse-costs-requires c κs = search needs
 
 chunks-requires : tie.Need-chunks-requires
-chunks-requires c κs = subst (λ (k : ℕ). SmallCosts (c .nurse-costs .result) k) (sym (c .before .days .ensures .0)) (c .nurse-costs .ensures .0)
+chunks-requires c κs =
+    let at-days : tie.After-days = search in
+    subst (λ (k : ℕ). SmallCosts (c .nurse-costs .result) k) (sym (at-days .days .ensures .0)) (c .nurse-costs .ensures .0)
 
 returns : tie.Need-returns
-returns c = (chunks-small _ _ (c .chunks .ensures), tables (c .before .before .before .before .args .w .now) (c .before .before .before .before .args .cols) (c .before .before .before .before .args .i) (c .before .nurse-costs .ensures .0) (c .chunks .ensures) (c .before .before .before .before .args .search) (c .before .nurse-costs .ensures .1))
+returns c =
+    let at-nurse-costs : tie.After-nurse-costs = search in
+    let start : tie.Start = search in
+    (chunks-small _ _ (c .chunks .ensures), tables (start .args .w .now) (start .args .cols) (start .args .i) (at-nurse-costs .nurse-costs .ensures .0) (c .chunks .ensures) (start .args .search) (at-nurse-costs .nurse-costs .ensures .1))
 
 pub table-spec : {M : Type 1} → statement M
 table-spec = tie.close (tie.spec days-requires nurse-costs-requires chunks-requires returns)

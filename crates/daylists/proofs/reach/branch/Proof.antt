@@ -23,12 +23,20 @@ shr-result : tie.Need-shr-result
 shr-result c = search needs
 
 returns : tie.Need-returns
-returns c = let s = c .before .before .before .before .before .args in
-    branch-yes (s .m) (s .row .now) (s .table .now) (s .d) (s .q) (c .before .before .before .before .before .pre .1 .1) (c .before .before .before .before .step-holds .ensures) (c .before .before .before .if1 .taken) (c .before .before .place .ensures) (c .rest-on .ensures .0)
+returns c =
+    let at-place : tie.After-place = search in
+    let at-if1 : tie.Then1 = search in
+    let at-step-holds : tie.After-step-holds = search in
+    let start : tie.Start = search in
+    let s = start .args in
+    branch-yes (s .m) (s .row .now) (s .table .now) (s .d) (s .q) (start .pre .1 .1) (at-step-holds .step-holds .ensures) (at-if1 .if1 .taken) (at-place .place .ensures) (c .rest-on .ensures .0)
 
 returns-2 : tie.Need-returns-2
-returns-2 c = let s = c .before .before .args in
-    branch-no (s .m) (s .row .now) (s .table .now) (s .d) (s .q) (c .before .step-holds .ensures) (c .if1 .left)
+returns-2 c =
+    let at-step-holds : tie.After-step-holds = search in
+    let start : tie.Start = search in
+    let s = start .args in
+    branch-no (s .m) (s .row .now) (s .table .now) (s .d) (s .q) (at-step-holds .step-holds .ensures) (c .if1 .left)
 
 pub branch-spec : {M : Type 1} → statement M
 branch-spec =

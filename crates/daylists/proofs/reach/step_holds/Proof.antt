@@ -11,8 +11,12 @@ add-if2 : tie.Need-add-if2
 add-if2 c = search needs
 
 returns : tie.Need-returns
-returns c = let s = c .before .before .before .before .args in
-    step-late (s .m) (s .row .now) (s .d) (s .q) (c .before .before .before .may-choose .ensures) (c .before .before .if1 .taken) (c .if2 .taken)
+returns c =
+    let at-if1 : tie.Then1 = search in
+    let at-may-choose : tie.After-may-choose = search in
+    let start : tie.Start = search in
+    let s = start .args in
+    step-late (s .m) (s .row .now) (s .d) (s .q) (at-may-choose .may-choose .ensures) (at-if1 .if1 .taken) (c .if2 .taken)
 
 add-windows-hold : tie.Need-add-windows-hold
 add-windows-hold c = search needs
@@ -21,12 +25,20 @@ windows-hold-requires : tie.Need-windows-hold-requires
 windows-hold-requires c κs = search needs
 
 returns-2 : tie.Need-returns-2
-returns-2 c = let s = c .before .before .before .before .before .args in
-    step-window (s .m) (s .row .now) (s .d) (s .q) (c .before .before .before .before .may-choose .ensures) (c .before .before .before .if1 .taken) (c .before .if2 .left) (c .windows-hold .ensures)
+returns-2 c =
+    let at-if2 : tie.Else2 = search in
+    let at-if1 : tie.Then1 = search in
+    let at-may-choose : tie.After-may-choose = search in
+    let start : tie.Start = search in
+    let s = start .args in
+    step-window (s .m) (s .row .now) (s .d) (s .q) (at-may-choose .may-choose .ensures) (at-if1 .if1 .taken) (at-if2 .if2 .left) (c .windows-hold .ensures)
 
 returns-3 : tie.Need-returns-3
-returns-3 c = let s = c .before .before .args in
-    step-no (s .m) (s .row .now) (s .d) (s .q) (c .before .may-choose .ensures) (c .if1 .left)
+returns-3 c =
+    let at-may-choose : tie.After-may-choose = search in
+    let start : tie.Start = search in
+    let s = start .args in
+    step-no (s .m) (s .row .now) (s .d) (s .q) (at-may-choose .may-choose .ensures) (c .if1 .left)
 
 pub step-holds-spec : {M : Type 1} → statement M
 step-holds-spec =

@@ -25,13 +25,21 @@ add-if1 : tie.Need-add-if1 Inv-loop μ-loop
 add-if1 c = search needs
 
 entry-requires : tie.Need-entry-requires Inv-loop μ-loop
-entry-requires c κs = (c .before .before .before .before .pre, (c .before .if1 .taken, c .before .before .before .loop .inv .2))
+entry-requires c κs =
+    let at-if1 : tie.Then1 Inv-loop μ-loop = search in
+    let at-loop : tie.At-loop Inv-loop μ-loop = search in
+    let start : tie.Start Inv-loop μ-loop = search in
+    (start .pre, (at-if1 .if1 .taken, at-loop .loop .inv .2))
 
 mul-table : tie.Need-mul-table Inv-loop μ-loop
 mul-table c = search needs
 
 array-write-table : tie.Need-array-write-table Inv-loop μ-loop
-array-write-table c = omega (arith, c .before .before .before .before .loop .inv .1, c .before .before .if1 .taken, c .before .before .before .before .before .pre .few-days)
+array-write-table c =
+    let at-if1 : tie.Then1 Inv-loop μ-loop = search in
+    let at-loop : tie.At-loop Inv-loop μ-loop = search in
+    let start : tie.Start Inv-loop μ-loop = search in
+    omega (arith, at-loop .loop .inv .1, at-if1 .if1 .taken, start .pre .few-days)
 
 add-i : tie.Need-add-i Inv-loop μ-loop
 add-i c = search needs
@@ -40,13 +48,20 @@ loop-less : tie.Need-loop-less Inv-loop μ-loop
 loop-less c = search needs
 
 loop-again : tie.Need-loop-again Inv-loop μ-loop
-loop-again c = let l = c .before .before .before .before .loop in
-    let s = c .before .before .before .before .before .args in
-    (omega (arith, c .before .before .if1 .taken), length-set (l .table) (l .i) _ ∙ l .inv .1, filled-turn (s .m) (s .row .now) (l .table) (l .i) _ (l .inv .2) (omega (arith, l .inv .1, c .before .before .if1 .taken, c .before .before .before .before .before .pre .few-days)) (c .entry .ensures))
+loop-again c =
+    let at-if1 : tie.Then1 Inv-loop μ-loop = search in
+    let at-loop : tie.At-loop Inv-loop μ-loop = search in
+    let start : tie.Start Inv-loop μ-loop = search in
+    let l = at-loop .loop in
+    let s = start .args in
+    (omega (arith, at-if1 .if1 .taken), length-set (l .table) (l .i) _ ∙ l .inv .1, filled-turn (s .m) (s .row .now) (l .table) (l .i) _ (l .inv .2) (omega (arith, l .inv .1, at-if1 .if1 .taken, start .pre .few-days)) (c .entry .ensures))
 
 returns : tie.Need-returns Inv-loop μ-loop
-returns c = let l = c .before .before .loop in
-    let s = c .before .before .before .args in
+returns c =
+    let at-loop : tie.At-loop Inv-loop μ-loop = search in
+    let start : tie.Start Inv-loop μ-loop = search in
+    let l = at-loop .loop in
+    let s = start .args in
     filled-less (s .m) (s .row .now) (l .table) (l .i) (64 * s .m .days + 64) (l .inv .2) (c .if1 .left)
 
 pub table-of-spec : {M : Type 1} → statement M

@@ -23,7 +23,11 @@ in-bounds-requires : tie.Need-in-bounds-requires Inv-loop μ-loop
 in-bounds-requires c κs = search needs
 
 with-next-requires : tie.Need-with-next-requires Inv-loop μ-loop
-with-next-requires c κs = (c .before .loop-test .taken, next-fits (inBounds (c .before .before .before .args .least) (c .before .before .before .args .most)) (c .before .before .loop .i) (c .before .before .loop .inv .1))
+with-next-requires c κs =
+    let turn : tie.In-loop Inv-loop μ-loop = search in
+    let at-loop : tie.At-loop Inv-loop μ-loop = search in
+    let start : tie.Start Inv-loop μ-loop = search in
+    (turn .loop-test .taken, next-fits (inBounds (start .args .least) (start .args .most)) (at-loop .loop .i) (at-loop .loop .inv .1))
 
 add-i : tie.Need-add-i Inv-loop μ-loop
 add-i c = search needs
@@ -32,11 +36,18 @@ loop-less : tie.Need-loop-less Inv-loop μ-loop
 loop-less c = search needs
 
 loop-again : tie.Need-loop-again Inv-loop μ-loop
-loop-again c = (omega arith, next-is (inBounds (c .before .before .before .before .args .least) (c .before .before .before .before .args .most)) (c .before .before .before .loop .i) (c .before .before .before .loop .inv .1) (c .with-next .ensures) (c .before .in-bounds .ensures))
+loop-again c =
+    let at-in-bounds : tie.After-in-bounds Inv-loop μ-loop = search in
+    let at-loop : tie.At-loop Inv-loop μ-loop = search in
+    let start : tie.Start Inv-loop μ-loop = search in
+    (omega arith, next-is (inBounds (start .args .least) (start .args .most)) (at-loop .loop .i) (at-loop .loop .inv .1) (c .with-next .ensures) (at-in-bounds .in-bounds .ensures))
 
 returns : tie.Need-returns Inv-loop μ-loop
-returns c = let e : c .before .loop .i ≡ 32 = omega arith in
-    c .before .loop .inv .1 ∙ ap (numberOf (inBounds (c .before .before .args .least) (c .before .before .args .most))) e
+returns c =
+    let at-loop : tie.At-loop Inv-loop μ-loop = search in
+    let start : tie.Start Inv-loop μ-loop = search in
+    let e : at-loop .loop .i ≡ 32 = omega arith in
+    at-loop .loop .inv .1 ∙ ap (numberOf (inBounds (start .args .least) (start .args .most))) e
 
 pub bounds-spec : {M : Type 1} → statement M
 bounds-spec =

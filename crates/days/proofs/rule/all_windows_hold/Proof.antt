@@ -32,16 +32,29 @@ loop-less : tie.Need-loop-less Inv-loop μ-loop
 loop-less c = search needs
 
 loop-again : tie.Need-loop-again Inv-loop μ-loop
-loop-again c = let s = c .before .before .before .before .args in
-    (omega arith, c .before .before .before .loop .inv .1 ∙ all-yes (windowsHold (dutyAt (s .row .now) (s .q)) (s .longest)) (s .count) (c .before .before .before .loop .d) (c .before .before .loop-test .taken) (c .before .windows-hold .ensures) (c .if1 .taken))
+loop-again c =
+    let at-windows-hold : tie.After-windows-hold Inv-loop μ-loop = search in
+    let turn : tie.In-loop Inv-loop μ-loop = search in
+    let at-loop : tie.At-loop Inv-loop μ-loop = search in
+    let start : tie.Start Inv-loop μ-loop = search in
+    let s = start .args in
+    (omega arith, at-loop .loop .inv .1 ∙ all-yes (windowsHold (dutyAt (s .row .now) (s .q)) (s .longest)) (s .count) (at-loop .loop .d) (turn .loop-test .taken) (at-windows-hold .windows-hold .ensures) (c .if1 .taken))
 
 returns : tie.Need-returns Inv-loop μ-loop
-returns c = let s = c .before .before .before .before .args in
-    sym (c .before .before .before .loop .inv .1 ∙ all-no (windowsHold (dutyAt (s .row .now) (s .q)) (s .longest)) (s .count) (c .before .before .before .loop .d) (c .before .before .loop-test .taken) (c .before .windows-hold .ensures) (c .if1 .left))
+returns c =
+    let at-windows-hold : tie.After-windows-hold Inv-loop μ-loop = search in
+    let turn : tie.In-loop Inv-loop μ-loop = search in
+    let at-loop : tie.At-loop Inv-loop μ-loop = search in
+    let start : tie.Start Inv-loop μ-loop = search in
+    let s = start .args in
+    sym (at-loop .loop .inv .1 ∙ all-no (windowsHold (dutyAt (s .row .now) (s .q)) (s .longest)) (s .count) (at-loop .loop .d) (turn .loop-test .taken) (at-windows-hold .windows-hold .ensures) (c .if1 .left))
 
 returns-2 : tie.Need-returns-2 Inv-loop μ-loop
-returns-2 c = let s = c .before .before .args in
-    sym (c .before .loop .inv .1 ∙ all-done (windowsHold (dutyAt (s .row .now) (s .q)) (s .longest)) (s .count) (c .before .loop .d) (c .loop-test .left))
+returns-2 c =
+    let at-loop : tie.At-loop Inv-loop μ-loop = search in
+    let start : tie.Start Inv-loop μ-loop = search in
+    let s = start .args in
+    sym (at-loop .loop .inv .1 ∙ all-done (windowsHold (dutyAt (s .row .now) (s .q)) (s .longest)) (s .count) (at-loop .loop .d) (c .loop-test .left))
 
 pub all-windows-hold-spec : {M : Type 1} → statement M
 all-windows-hold-spec =

@@ -21,10 +21,16 @@ cast-most : tie.Need-cast-most Inv-loop μ-loop
 cast-most c = search needs
 
 returns : tie.Need-returns Inv-loop μ-loop
-returns c = sym (choice-over (c .before .before .args .m) (c .before .before .args .q) (c .before .bit .ensures) (c .if1 .taken))
+returns c =
+    let at-bit : tie.After-bit Inv-loop μ-loop = search in
+    let start : tie.Start Inv-loop μ-loop = search in
+    sym (choice-over (start .args .m) (start .args .q) (at-bit .bit .ensures) (c .if1 .taken))
 
 loop-holds : tie.Need-loop-holds Inv-loop μ-loop
-loop-holds c = (omega arith, choice-start (c .before .before .args .m) (c .before .before .args .q) (c .before .bit .ensures) (c .if1 .left))
+loop-holds c =
+    let at-bit : tie.After-bit Inv-loop μ-loop = search in
+    let start : tie.Start Inv-loop μ-loop = search in
+    (omega arith, choice-start (start .args .m) (start .args .q) (at-bit .bit .ensures) (c .if1 .left))
 
 may-choose-requires : tie.Need-may-choose-requires Inv-loop μ-loop
 may-choose-requires c κs = search needs
@@ -36,16 +42,29 @@ loop-less : tie.Need-loop-less Inv-loop μ-loop
 loop-less c = search needs
 
 loop-again : tie.Need-loop-again Inv-loop μ-loop
-loop-again c = let s = c .before .before .before .before .before .before .args in
-    (omega arith, c .before .before .before .loop .inv .1 ∙ choice-yes (s .m) (s .q) (c .before .before .before .loop .d) (c .before .before .loop-test .taken) (c .before .may-choose .ensures) (c .if2 .taken))
+loop-again c =
+    let at-may-choose : tie.After-may-choose Inv-loop μ-loop = search in
+    let turn : tie.In-loop Inv-loop μ-loop = search in
+    let at-loop : tie.At-loop Inv-loop μ-loop = search in
+    let start : tie.Start Inv-loop μ-loop = search in
+    let s = start .args in
+    (omega arith, at-loop .loop .inv .1 ∙ choice-yes (s .m) (s .q) (at-loop .loop .d) (turn .loop-test .taken) (at-may-choose .may-choose .ensures) (c .if2 .taken))
 
 returns-2 : tie.Need-returns-2 Inv-loop μ-loop
-returns-2 c = let s = c .before .before .before .before .before .before .args in
-    sym (c .before .before .before .loop .inv .1 ∙ choice-no (s .m) (s .q) (c .before .before .before .loop .d) (c .before .before .loop-test .taken) (c .before .may-choose .ensures) (c .if2 .left))
+returns-2 c =
+    let at-may-choose : tie.After-may-choose Inv-loop μ-loop = search in
+    let turn : tie.In-loop Inv-loop μ-loop = search in
+    let at-loop : tie.At-loop Inv-loop μ-loop = search in
+    let start : tie.Start Inv-loop μ-loop = search in
+    let s = start .args in
+    sym (at-loop .loop .inv .1 ∙ choice-no (s .m) (s .q) (at-loop .loop .d) (turn .loop-test .taken) (at-may-choose .may-choose .ensures) (c .if2 .left))
 
 returns-3 : tie.Need-returns-3 Inv-loop μ-loop
-returns-3 c = let s = c .before .before .before .before .args in
-    sym (c .before .loop .inv .1 ∙ choice-done (s .m) (s .q) (c .before .loop .d) (c .loop-test .left))
+returns-3 c =
+    let at-loop : tie.At-loop Inv-loop μ-loop = search in
+    let start : tie.Start Inv-loop μ-loop = search in
+    let s = start .args in
+    sym (at-loop .loop .inv .1 ∙ choice-done (s .m) (s .q) (at-loop .loop .d) (c .loop-test .left))
 
 pub choice-holds-spec : {M : Type 1} → statement M
 choice-holds-spec =

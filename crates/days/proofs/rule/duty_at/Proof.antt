@@ -13,13 +13,20 @@ element-copy-out-result : tie.Need-element-copy-out-result
 element-copy-out-result c = search needs
 
 returns : tie.Need-returns
-returns c = duty-before (c .before .before .args .row .now) (c .before .before .args .q) (c .before .before .args .t) (c .before .if1 .taken)
+returns c =
+    let at-if1 : tie.Then1 = search in
+    let start : tie.Start = search in
+    duty-before (start .args .row .now) (start .args .q) (start .args .t) (at-if1 .if1 .taken)
 
 has-requires : tie.Need-has-requires
 has-requires c κs = search needs
 
 returns-2 : tie.Need-returns-2
-returns-2 c = duty-worked (c .before .before .before .args .row .now) (c .before .before .before .args .q) (c .before .before .before .args .t) (c .before .before .if1 .left) (sym (c .before .has .ensures) ∙ c .if2 .taken)
+returns-2 c =
+    let at-has : tie.After-has = search in
+    let at-if1 : tie.Else1 = search in
+    let start : tie.Start = search in
+    duty-worked (start .args .row .now) (start .args .q) (start .args .t) (at-if1 .if1 .left) (sym (at-has .has .ensures) ∙ c .if2 .taken)
 
 mul-result-2 : tie.Need-mul-result-2
 mul-result-2 c = search needs
@@ -28,7 +35,12 @@ element-copy-out-result-2 : tie.Need-element-copy-out-result-2
 element-copy-out-result-2 c = search needs
 
 returns-3 : tie.Need-returns-3
-returns-3 c = duty-idle (c .before .before .before .before .args .row .now) (c .before .before .before .before .args .q) (c .before .before .before .before .args .t) (c .before .before .before .if1 .left) (sym (c .before .before .has .ensures) ∙ c .before .if2 .left)
+returns-3 c =
+    let at-if2 : tie.Else2 = search in
+    let at-has : tie.After-has = search in
+    let at-if1 : tie.Else1 = search in
+    let start : tie.Start = search in
+    duty-idle (start .args .row .now) (start .args .q) (start .args .t) (at-if1 .if1 .left) (sym (at-has .has .ensures) ∙ at-if2 .if2 .left)
 
 pub duty-at-spec : {M : Type 1} → statement M
 duty-at-spec =

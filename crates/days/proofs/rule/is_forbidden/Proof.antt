@@ -40,16 +40,29 @@ loop-less : tie.Need-loop-less Inv-loop μ-loop
 loop-less c = search needs
 
 loop-again : tie.Need-loop-again Inv-loop μ-loop
-loop-again c = let s = c .before .before .before .before .args in
-    (omega arith, c .before .before .before .loop .inv .1 ∙ same-yes (dutyAt (s .row .now) (s .q)) alternating (s .t - 4) (c .before .before .before .loop .j) (c .before .before .loop-test .taken) (c .before .duty-at .ensures) (c .if1 .taken))
+loop-again c =
+    let at-duty-at : tie.After-duty-at Inv-loop μ-loop = search in
+    let turn : tie.In-loop Inv-loop μ-loop = search in
+    let at-loop : tie.At-loop Inv-loop μ-loop = search in
+    let start : tie.Start Inv-loop μ-loop = search in
+    let s = start .args in
+    (omega arith, at-loop .loop .inv .1 ∙ same-yes (dutyAt (s .row .now) (s .q)) alternating (s .t - 4) (at-loop .loop .j) (turn .loop-test .taken) (at-duty-at .duty-at .ensures) (c .if1 .taken))
 
 returns : tie.Need-returns Inv-loop μ-loop
-returns c = let s = c .before .before .before .before .args in
-    sym (c .before .before .before .loop .inv .1 ∙ same-no (dutyAt (s .row .now) (s .q)) alternating (s .t - 4) (c .before .before .before .loop .j) (c .before .before .loop-test .taken) (c .before .duty-at .ensures) (c .if1 .left))
+returns c =
+    let at-duty-at : tie.After-duty-at Inv-loop μ-loop = search in
+    let turn : tie.In-loop Inv-loop μ-loop = search in
+    let at-loop : tie.At-loop Inv-loop μ-loop = search in
+    let start : tie.Start Inv-loop μ-loop = search in
+    let s = start .args in
+    sym (at-loop .loop .inv .1 ∙ same-no (dutyAt (s .row .now) (s .q)) alternating (s .t - 4) (at-loop .loop .j) (turn .loop-test .taken) (at-duty-at .duty-at .ensures) (c .if1 .left))
 
 returns-2 : tie.Need-returns-2 Inv-loop μ-loop
-returns-2 c = let s = c .before .before .args in
-    sym (c .before .loop .inv .1 ∙ same-done (dutyAt (s .row .now) (s .q)) alternating (s .t - 4) (c .before .loop .j) (c .loop-test .left))
+returns-2 c =
+    let at-loop : tie.At-loop Inv-loop μ-loop = search in
+    let start : tie.Start Inv-loop μ-loop = search in
+    let s = start .args in
+    sym (at-loop .loop .inv .1 ∙ same-done (dutyAt (s .row .now) (s .q)) alternating (s .t - 4) (at-loop .loop .j) (c .loop-test .left))
 
 pub is-forbidden-spec : {M : Type 1} → statement M
 is-forbidden-spec =

@@ -17,16 +17,31 @@ in-bounds-requires : tie.Need-in-bounds-requires
 in-bounds-requires c κs = search needs
 
 returns : tie.Need-returns
-returns c = let s = c .before .before .before .before .before .before .args in
-    rule-rests (s .m) (s .row .now) (s .q) (c .before .before .before .before .before .choice-holds .ensures) (c .before .before .before .before .if1 .taken) (c .before .before .before .all-windows-hold .ensures) (c .before .before .if2 .taken) (c .before .rests-of .ensures) (c .in-bounds .ensures)
+returns c =
+    let at-rests-of : tie.After-rests-of = search in
+    let at-if2 : tie.Then2 = search in
+    let at-all-windows-hold : tie.After-all-windows-hold = search in
+    let at-if1 : tie.Then1 = search in
+    let at-choice-holds : tie.After-choice-holds = search in
+    let start : tie.Start = search in
+    let s = start .args in
+    rule-rests (s .m) (s .row .now) (s .q) (at-choice-holds .choice-holds .ensures) (at-if1 .if1 .taken) (at-all-windows-hold .all-windows-hold .ensures) (at-if2 .if2 .taken) (at-rests-of .rests-of .ensures) (c .in-bounds .ensures)
 
 returns-2 : tie.Need-returns-2
-returns-2 c = let s = c .before .before .before .before .args in
-    rule-window (s .m) (s .row .now) (s .q) (c .before .before .before .choice-holds .ensures) (c .before .before .if1 .taken) (c .before .all-windows-hold .ensures) (c .if2 .left)
+returns-2 c =
+    let at-all-windows-hold : tie.After-all-windows-hold = search in
+    let at-if1 : tie.Then1 = search in
+    let at-choice-holds : tie.After-choice-holds = search in
+    let start : tie.Start = search in
+    let s = start .args in
+    rule-window (s .m) (s .row .now) (s .q) (at-choice-holds .choice-holds .ensures) (at-if1 .if1 .taken) (at-all-windows-hold .all-windows-hold .ensures) (c .if2 .left)
 
 returns-3 : tie.Need-returns-3
-returns-3 c = let s = c .before .before .args in
-    rule-unchosen (s .m) (s .row .now) (s .q) (c .before .choice-holds .ensures) (c .if1 .left)
+returns-3 c =
+    let at-choice-holds : tie.After-choice-holds = search in
+    let start : tie.Start = search in
+    let s = start .args in
+    rule-unchosen (s .m) (s .row .now) (s .q) (at-choice-holds .choice-holds .ensures) (c .if1 .left)
 
 pub rule-holds-spec : {M : Type 1} → statement M
 rule-holds-spec =

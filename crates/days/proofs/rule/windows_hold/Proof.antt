@@ -9,8 +9,11 @@ long-run-requires : tie.Need-long-run-requires
 long-run-requires c κs = search needs
 
 returns : tie.Need-returns
-returns c = let s = c .before .before .args in
-    hold-run (dutyAt (s .row .now) (s .q)) (s .longest) (s .t) (c .before .long-run .ensures) (c .if1 .taken)
+returns c =
+    let at-long-run : tie.After-long-run = search in
+    let start : tie.Start = search in
+    let s = start .args in
+    hold-run (dutyAt (s .row .now) (s .q)) (s .longest) (s .t) (at-long-run .long-run .ensures) (c .if1 .taken)
 
 rested-requires : tie.Need-rested-requires
 rested-requires c κs = search needs
@@ -19,12 +22,23 @@ is-forbidden-requires : tie.Need-is-forbidden-requires
 is-forbidden-requires c κs = search needs
 
 returns-2 : tie.Need-returns-2
-returns-2 c = let s = c .before .before .before .before .before .args in
-    hold-rested (dutyAt (s .row .now) (s .q)) (s .longest) (s .t) (c .before .before .before .before .long-run .ensures) (c .before .before .before .if1 .left) (c .before .before .rested .ensures) (c .before .if2 .taken) (c .is-forbidden .ensures)
+returns-2 c =
+    let at-if2 : tie.Then2 = search in
+    let at-rested : tie.After-rested = search in
+    let at-if1 : tie.Else1 = search in
+    let at-long-run : tie.After-long-run = search in
+    let start : tie.Start = search in
+    let s = start .args in
+    hold-rested (dutyAt (s .row .now) (s .q)) (s .longest) (s .t) (at-long-run .long-run .ensures) (at-if1 .if1 .left) (at-rested .rested .ensures) (at-if2 .if2 .taken) (c .is-forbidden .ensures)
 
 returns-3 : tie.Need-returns-3
-returns-3 c = let s = c .before .before .before .before .args in
-    hold-unrested (dutyAt (s .row .now) (s .q)) (s .longest) (s .t) (c .before .before .before .long-run .ensures) (c .before .before .if1 .left) (c .before .rested .ensures) (c .if2 .left)
+returns-3 c =
+    let at-rested : tie.After-rested = search in
+    let at-if1 : tie.Else1 = search in
+    let at-long-run : tie.After-long-run = search in
+    let start : tie.Start = search in
+    let s = start .args in
+    hold-unrested (dutyAt (s .row .now) (s .q)) (s .longest) (s .t) (at-long-run .long-run .ensures) (at-if1 .if1 .left) (at-rested .rested .ensures) (c .if2 .left)
 
 pub windows-hold-spec : {M : Type 1} → statement M
 windows-hold-spec =

@@ -40,7 +40,11 @@ array-read-with-row-2 : tie.Need-array-read-with-row-2 Inv-loop μ-loop
 array-read-with-row-2 c = search needs
 
 with-row-requires : tie.Need-with-row-requires Inv-loop μ-loop
-with-row-requires c κs = (c .before .before .before .days .ensures .1, block-as (c .before .before .before .before .before .before .args .w .now) (c .before .before .loop .i) (c .before .before .before .before .before .before .pre) (search needs) (c .block .ensures) (c .before .before .before .days .ensures .0), row-room _ _ _ _ (c .before .before .loop .inv .1) (c .before .before .before .before .before .before .pre) (omega arith) (c .before .before .before .days .ensures .0))
+with-row-requires c κs =
+    let at-loop : tie.At-loop Inv-loop μ-loop = search in
+    let at-days : tie.After-days Inv-loop μ-loop = search in
+    let start : tie.Start Inv-loop μ-loop = search in
+    (at-days .days .ensures .1, block-as (start .args .w .now) (at-loop .loop .i) (start .pre) (search needs) (c .block .ensures) (at-days .days .ensures .0), row-room _ _ _ _ (at-loop .loop .inv .1) (start .pre) (omega arith) (at-days .days .ensures .0))
 
 add-i : tie.Need-add-i Inv-loop μ-loop
 add-i c = search needs
@@ -49,10 +53,18 @@ loop-less : tie.Need-loop-less Inv-loop μ-loop
 loop-less c = search needs
 
 loop-again : tie.Need-loop-again Inv-loop μ-loop
-loop-again c = (omega arith, written-turn _ _ _ _ (c .before .before .before .loop .inv .1) _ _ _ (c .before .before .before .before .before .before .before .pre) (omega arith) (c .before .block .ensures) (c .before .before .before .before .days .ensures .0) (c .with-row .ensures .0) (c .with-row .ensures .1))
+loop-again c =
+    let at-block : tie.After-block Inv-loop μ-loop = search in
+    let at-loop : tie.At-loop Inv-loop μ-loop = search in
+    let at-days : tie.After-days Inv-loop μ-loop = search in
+    let start : tie.Start Inv-loop μ-loop = search in
+    (omega arith, written-turn _ _ _ _ (at-loop .loop .inv .1) _ _ _ (start .pre) (omega arith) (at-block .block .ensures) (at-days .days .ensures .0) (c .with-row .ensures .0) (c .with-row .ensures .1))
 
 returns : tie.Need-returns Inv-loop μ-loop
-returns c = written-end _ _ _ _ (c .before .loop .inv .1) (c .before .before .before .nurses .ensures .0) (c .before .loop .inv .0) (c .loop-test .left)
+returns c =
+    let at-loop : tie.At-loop Inv-loop μ-loop = search in
+    let at-nurses : tie.After-nurses Inv-loop μ-loop = search in
+    written-end _ _ _ _ (at-loop .loop .inv .1) (at-nurses .nurses .ensures .0) (at-loop .loop .inv .0) (c .loop-test .left)
 
 pub roster-of-spec : {M : Type 1} → statement M
 roster-of-spec =

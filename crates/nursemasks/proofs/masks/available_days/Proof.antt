@@ -11,13 +11,19 @@ row-of-requires : tie.Need-row-of-requires
 row-of-requires c κs = search needs
 
 cast-result : tie.Need-cast-result
-cast-result c = let x = c .before .before .before .row-of .result in
-    omega (arith, masked-half (c .before .before .before .before .args .m .workable) ((2 ^ 64 - 1) - bitOr (bitOr (x .night) (x .second)) (x .rest)) (c .before .before .before .before .pre .workable))
+cast-result c =
+    let at-row-of : tie.After-row-of = search in
+    let start : tie.Start = search in
+    let x = at-row-of .row-of .result in
+    omega (arith, masked-half (start .args .m .workable) ((2 ^ 64 - 1) - bitOr (bitOr (x .night) (x .second)) (x .rest)) (start .pre .workable))
 
 returns : tie.Need-returns
-returns c = let s = c .before .before .before .before .args in
-    let x = c .before .before .before .row-of .result in
-    λ r n b small is. masks-available r n (s .p) b (s .m) is small x (masks-row r n (s .p) b (s .m) is x (c .before .before .before .row-of .ensures b))
+returns c =
+    let at-row-of : tie.After-row-of = search in
+    let start : tie.Start = search in
+    let s = start .args in
+    let x = at-row-of .row-of .result in
+    λ r n b small is. masks-available r n (s .p) b (s .m) is small x (masks-row r n (s .p) b (s .m) is x (at-row-of .row-of .ensures b))
 
 pub available-days-spec : {M : Type 1} → statement M
 available-days-spec = tie.close (tie.spec row-of-requires cast-result returns)

@@ -8,9 +8,12 @@ row-of-requires : tie.Need-row-of-requires
 row-of-requires c κs = search needs
 
 returns : tie.Need-returns
-returns c = let s = c .before .before .before .before .before .before .before .before .before .before .args in
-    let x = c .before .before .before .before .before .before .before .before .before .row-of .result in
-    λ r n b small is. masks-allow r n (s .p) b (s .m) is small x (masks-row r n (s .p) b (s .m) is x (c .before .before .before .before .before .before .before .before .before .row-of .ensures b))
+returns c =
+    let at-row-of : tie.After-row-of = search in
+    let start : tie.Start = search in
+    let s = start .args in
+    let x = at-row-of .row-of .result in
+    λ r n b small is. masks-allow r n (s .p) b (s .m) is small x (masks-row r n (s .p) b (s .m) is x (at-row-of .row-of .ensures b))
 
 pub marks-pass-spec : {M : Type 1} → statement M
 marks-pass-spec = tie.close (tie.spec row-of-requires returns)

@@ -16,7 +16,10 @@ element-copy-out-result : tie.Need-element-copy-out-result
 element-copy-out-result c = search needs
 
 returns : tie.Need-returns
-returns c = word-pattern (c .before .before .args .t1) (sized (c .before .before)) (c .before .before .args .i) (c .before .if1 .taken)
+returns c =
+    let at-if1 : tie.Then1 = search in
+    let start : tie.Start = search in
+    word-pattern (start .args .t1) (sized (c .before .before)) (start .args .i) (at-if1 .if1 .taken)
 
 element-copy-out-flag-word : tie.Need-element-copy-out-flag-word
 element-copy-out-flag-word c = search needs
@@ -25,7 +28,11 @@ flag-word-requires : tie.Need-flag-word-requires
 flag-word-requires c κs = search needs
 
 returns-2 : tie.Need-returns-2
-returns-2 c = word-flag (c .before .before .before .before .args .t1) (sized (c .before .before .before .before)) (c .before .before .before .before .args .i) (c .before .before .before .if1 .left) (c .before .before .if2 .taken) (c .flag-word .ensures)
+returns-2 c =
+    let at-if2 : tie.Then2 = search in
+    let at-if1 : tie.Else1 = search in
+    let start : tie.Start = search in
+    word-flag (start .args .t1) (sized (c .before .before .before .before)) (start .args .i) (at-if1 .if1 .left) (at-if2 .if2 .taken) (c .flag-word .ensures)
 
 mul-x : tie.Need-mul-x
 mul-x c = search needs
@@ -37,10 +44,16 @@ removal-word-requires : tie.Need-removal-word-requires
 removal-word-requires c κs = search needs
 
 returns-3 : tie.Need-returns-3
-returns-3 c = word-removal (c .before .before .before .before .before .args .t1) (sized (c .before .before .before .before .before)) (c .before .before .before .before .before .args .i) (c .before .before .before .if2 .left) (c .before .before .if3 .taken) (c .removal-word .ensures)
+returns-3 c =
+    let at-if3 : tie.Then3 = search in
+    let at-if2 : tie.Else2 = search in
+    let start : tie.Start = search in
+    word-removal (start .args .t1) (sized (c .before .before .before .before .before)) (start .args .i) (at-if2 .if2 .left) (at-if3 .if3 .taken) (c .removal-word .ensures)
 
 returns-4 : tie.Need-returns-4
-returns-4 c = word-steps (c .before .before .before .args .t1) (sized (c .before .before .before)) (c .before .before .before .args .i) (c .if3 .left) (search needs)
+returns-4 c =
+    let start : tie.Start = search in
+    word-steps (start .args .t1) (sized (c .before .before .before)) (start .args .i) (c .if3 .left) (search needs)
 
 pub word-of-spec : {M : Type 1} → statement M
 word-of-spec =

@@ -13,19 +13,29 @@ less-requires-2 : tie.Need-less-requires-2
 less-requires-2 c κs = search needs
 
 mul-t7 : tie.Need-mul-t7
-mul-t7 c = let h : c .before .before .less .result ≤ 48 = omega arith in
-    omega (arith, u-le (c .before .before .before .pre .0) h)
+mul-t7 c =
+    let at-less : tie.After-less = search in
+    let start : tie.Start = search in
+    let h : at-less .less .result ≤ 48 = omega arith in
+    omega (arith, u-le (start .pre .0) h)
 
 mul-t8 : tie.Need-mul-t8
-mul-t8 c = let h : c .before .before .less2 .result ≤ 65 = omega arith in
-    omega (arith, v-le (c .before .before .before .before .pre .0) h)
+mul-t8 c =
+    let at-less2 : tie.After-less2 = search in
+    let start : tie.Start = search in
+    let h : at-less2 .less2 .result ≤ 65 = omega arith in
+    omega (arith, v-le (start .pre .0) h)
 
 returns : tie.Need-returns
-returns c = let h : c .before .before .before .less .result ≤ 48 = omega arith in
-    let k : c .before .before .less2 .result ≤ 65 = omega arith in
+returns c =
+    let at-less2 : tie.After-less2 = search in
+    let at-less : tie.After-less = search in
+    let start : tie.Start = search in
+    let h : at-less .less .result ≤ 48 = omega arith in
+    let k : at-less2 .less2 .result ≤ 65 = omega arith in
     record {
-      short-is = record { is = rw (c .before .before .before .less .ensures); most = u-le (c .before .before .before .before .pre .0) h };
-      over-is = record { is = rw (c .before .before .less2 .ensures); most = v-le (c .before .before .before .before .pre .0) k };
+      short-is = record { is = rw (at-less .less .ensures); most = u-le (start .pre .0) h };
+      over-is = record { is = rw (at-less2 .less2 .ensures); most = v-le (start .pre .0) k };
     }
 
 pub group-term-spec : {M : Type 1} → statement M

@@ -12,7 +12,9 @@ penalty-of-requires : tie.Need-penalty-of-requires
 penalty-of-requires c κs = search needs
 
 returns : tie.Need-returns
-returns c = c .penalty-of .ensures _ (everyone-placed (c .before .before .before .before .args .w .now) (c .before .before .before .before .args .nights .now) _ (c .before .before .before .before .pre) refl refl)
+returns c =
+    let start : tie.Start = search in
+    c .penalty-of .ensures _ (everyone-placed (start .args .w .now) (start .args .nights .now) _ (start .pre) refl refl)
 
 pub night-penalty-spec : {M : Type 1} → statement M
 night-penalty-spec = tie.close (tie.spec fresh-requires penalty-of-requires returns)

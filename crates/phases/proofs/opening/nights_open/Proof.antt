@@ -11,10 +11,17 @@ night-penalty-requires : tie.Need-night-penalty-requires
 night-penalty-requires c κs = search needs
 
 returns : tie.Need-returns
-returns c = opens-at-zero (c .before .before .before .before .args .w .now) (c .before .before .before .before .args .nights .now) (c .before .before .nights-hers .ensures) (c .before .if1 .taken) (c .night-penalty .ensures)
+returns c =
+    let at-if1 : tie.Then1 = search in
+    let at-nights-hers : tie.After-nights-hers = search in
+    let start : tie.Start = search in
+    opens-at-zero (start .args .w .now) (start .args .nights .now) (at-nights-hers .nights-hers .ensures) (at-if1 .if1 .taken) (c .night-penalty .ensures)
 
 returns-2 : tie.Need-returns-2
-returns-2 c = stays-shut (c .before .before .before .args .w .now) (c .before .before .before .args .nights .now) (c .before .nights-hers .ensures) (c .if1 .left)
+returns-2 c =
+    let at-nights-hers : tie.After-nights-hers = search in
+    let start : tie.Start = search in
+    stays-shut (start .args .w .now) (start .args .nights .now) (at-nights-hers .nights-hers .ensures) (c .if1 .left)
 
 pub nights-open-spec : {M : Type 1} → statement M
 nights-open-spec =

@@ -20,13 +20,31 @@ removals-name-requires : tie.Need-removals-name-requires
 removals-name-requires c κs = search needs
 
 returns : tie.Need-returns
-returns c = sound-unused _ _ _ _ (c .before .before .before .before .before .before .before .before .pre) (c .before .before .before .before .unused-zero .ensures .1) (c .before .before .before .slots-hers .ensures) (c .before .before .if1 .taken) (c .before .removals-name .ensures) (c .if2 .taken) (c .before .before .before .before .before .before .nurses .ensures .0) (c .before .before .before .before .before .tabu .ensures .0) (c .before .before .before .before .unused-zero .ensures .0)
+returns c =
+    let at-removals-name : tie.After-removals-name = search in
+    let at-if1 : tie.Then1 = search in
+    let at-slots-hers : tie.After-slots-hers = search in
+    let at-unused-zero : tie.After-unused-zero = search in
+    let at-tabu : tie.After-tabu = search in
+    let at-nurses : tie.After-nurses = search in
+    let start : tie.Start = search in
+    sound-unused _ _ _ _ (start .pre) (at-unused-zero .unused-zero .ensures .1) (at-slots-hers .slots-hers .ensures) (at-if1 .if1 .taken) (at-removals-name .removals-name .ensures) (c .if2 .taken) (at-nurses .nurses .ensures .0) (at-tabu .tabu .ensures .0) (at-unused-zero .unused-zero .ensures .0)
 
 returns-2 : tie.Need-returns-2
-returns-2 c = sound-removals _ _ _ _ (c .before .before .before .before .before .before .before .before .pre) (c .before .before .before .before .unused-zero .ensures .1) (c .before .before .before .slots-hers .ensures) (c .before .before .if1 .taken) (c .before .removals-name .ensures) (c .if2 .left)
+returns-2 c =
+    let at-removals-name : tie.After-removals-name = search in
+    let at-if1 : tie.Then1 = search in
+    let at-slots-hers : tie.After-slots-hers = search in
+    let at-unused-zero : tie.After-unused-zero = search in
+    let start : tie.Start = search in
+    sound-removals _ _ _ _ (start .pre) (at-unused-zero .unused-zero .ensures .1) (at-slots-hers .slots-hers .ensures) (at-if1 .if1 .taken) (at-removals-name .removals-name .ensures) (c .if2 .left)
 
 returns-3 : tie.Need-returns-3
-returns-3 c = sound-slots _ _ _ _ (c .before .before .before .before .before .before .pre) (c .before .before .unused-zero .ensures .1) (c .before .slots-hers .ensures) (c .if1 .left)
+returns-3 c =
+    let at-slots-hers : tie.After-slots-hers = search in
+    let at-unused-zero : tie.After-unused-zero = search in
+    let start : tie.Start = search in
+    sound-slots _ _ _ _ (start .pre) (at-unused-zero .unused-zero .ensures .1) (at-slots-hers .slots-hers .ensures) (c .if1 .left)
 
 pub record-sound-spec : {M : Type 1} → statement M
 record-sound-spec =

@@ -20,10 +20,17 @@ slot-hers-requires : tie.Need-slot-hers-requires
 slot-hers-requires c κs = search needs
 
 returns-2 : tie.Need-returns-2
-returns-2 c = names-within _ _ _ _ _ (c .before .before .before .before .if1 .left) (c .before .before .nurses .ensures .0) (c .before .if2 .taken) (c .slot-hers .ensures)
+returns-2 c =
+    let at-if2 : tie.Then2 = search in
+    let at-nurses : tie.After-nurses = search in
+    let at-if1 : tie.Else1 = search in
+    names-within _ _ _ _ _ (at-if1 .if1 .left) (at-nurses .nurses .ensures .0) (at-if2 .if2 .taken) (c .slot-hers .ensures)
 
 returns-3 : tie.Need-returns-3
-returns-3 c = names-past _ _ _ _ _ (c .before .before .before .if1 .left) (c .before .nurses .ensures .0) (c .if2 .left)
+returns-3 c =
+    let at-nurses : tie.After-nurses = search in
+    let at-if1 : tie.Else1 = search in
+    names-past _ _ _ _ _ (at-if1 .if1 .left) (at-nurses .nurses .ensures .0) (c .if2 .left)
 
 pub removal-names-spec : {M : Type 1} → statement M
 removal-names-spec =

@@ -45,13 +45,27 @@ loop-less : tie.Need-loop-less Inv-loop μ-loop
 loop-less c = search needs
 
 loop-again : tie.Need-loop-again Inv-loop μ-loop
-loop-again c = (omega arith, all-more _ _ _ (c .before .before .before .before .loop .inv .1) (c .before .before .before .loop-test .taken) (sym (c .before .removal-names .ensures) ∙ c .if1 .taken))
+loop-again c =
+    let at-removal-names : tie.After-removal-names Inv-loop μ-loop = search in
+    let turn : tie.In-loop Inv-loop μ-loop = search in
+    let at-loop : tie.At-loop Inv-loop μ-loop = search in
+    (omega arith, all-more _ _ _ (at-loop .loop .inv .1) (turn .loop-test .taken) (sym (at-removal-names .removal-names .ensures) ∙ c .if1 .taken))
 
 returns : tie.Need-returns Inv-loop μ-loop
-returns c = held-all _ _ _ _ _ (all-stop _ _ _ (c .before .before .before .before .loop .inv .1) (c .before .before .before .loop-test .taken) (sym (c .before .removal-names .ensures) ∙ c .if1 .left)) (c .before .before .before .before .before .before .lesser .ensures) (c .before .before .before .before .before .before .before .tabu .ensures .0)
+returns c =
+    let at-removal-names : tie.After-removal-names Inv-loop μ-loop = search in
+    let turn : tie.In-loop Inv-loop μ-loop = search in
+    let at-loop : tie.At-loop Inv-loop μ-loop = search in
+    let at-lesser : tie.After-lesser Inv-loop μ-loop = search in
+    let at-tabu : tie.After-tabu Inv-loop μ-loop = search in
+    held-all _ _ _ _ _ (all-stop _ _ _ (at-loop .loop .inv .1) (turn .loop-test .taken) (sym (at-removal-names .removal-names .ensures) ∙ c .if1 .left)) (at-lesser .lesser .ensures) (at-tabu .tabu .ensures .0)
 
 returns-2 : tie.Need-returns-2 Inv-loop μ-loop
-returns-2 c = held-all _ _ _ _ _ (all-end _ _ _ (c .before .loop .inv .1) (c .loop-test .left)) (c .before .before .before .lesser .ensures) (c .before .before .before .before .tabu .ensures .0)
+returns-2 c =
+    let at-loop : tie.At-loop Inv-loop μ-loop = search in
+    let at-lesser : tie.After-lesser Inv-loop μ-loop = search in
+    let at-tabu : tie.After-tabu Inv-loop μ-loop = search in
+    held-all _ _ _ _ _ (all-end _ _ _ (at-loop .loop .inv .1) (c .loop-test .left)) (at-lesser .lesser .ensures) (at-tabu .tabu .ensures .0)
 
 pub removals-name-spec : {M : Type 1} → statement M
 removals-name-spec =

@@ -31,7 +31,12 @@ removal-zero-requires : tie.Need-removal-zero-requires Inv-loop μ-loop
 removal-zero-requires c κs = search needs
 
 returns : tie.Need-returns Inv-loop μ-loop
-returns c = sym (all-stop (removalZero (c .before .before .before .before .before .args .held) (c .before .before .before .before .before .args .t1)) removalPlaces (c .before .before .before .before .loop .k) (c .before .before .before .loop-test .taken) (sym (c .before .removal-zero .ensures) ∙ not-true _ (c .if1 .taken)))
+returns c =
+    let at-removal-zero : tie.After-removal-zero Inv-loop μ-loop = search in
+    let turn : tie.In-loop Inv-loop μ-loop = search in
+    let at-loop : tie.At-loop Inv-loop μ-loop = search in
+    let start : tie.Start Inv-loop μ-loop = search in
+    sym (all-stop (removalZero (start .args .held) (start .args .t1)) removalPlaces (at-loop .loop .k) (turn .loop-test .taken) (sym (at-removal-zero .removal-zero .ensures) ∙ not-true _ (c .if1 .taken)))
 
 add-k : tie.Need-add-k Inv-loop μ-loop
 add-k c = search needs
@@ -40,12 +45,17 @@ loop-less : tie.Need-loop-less Inv-loop μ-loop
 loop-less c = search needs
 
 loop-again : tie.Need-loop-again Inv-loop μ-loop
-loop-again c = (search needs, all-turn (removalZero (c .before .before .before .before .before .args .held) (c .before .before .before .before .before .args .t1)) (c .before .before .before .before .loop .k) (c .before .before .before .before .loop .inv .1) (sym (c .before .removal-zero .ensures) ∙ not-false _ (c .if1 .left)))
+loop-again c =
+    let at-removal-zero : tie.After-removal-zero Inv-loop μ-loop = search in
+    let at-loop : tie.At-loop Inv-loop μ-loop = search in
+    let start : tie.Start Inv-loop μ-loop = search in
+    (search needs, all-turn (removalZero (start .args .held) (start .args .t1)) (at-loop .loop .k) (at-loop .loop .inv .1) (sym (at-removal-zero .removal-zero .ensures) ∙ not-false _ (c .if1 .left)))
 
 returns-2 : tie.Need-returns-2 Inv-loop μ-loop
 returns-2 c =
-    let e : c .before .loop .k ≡ removalPlaces = omega arith in
-    rw (← e) (sym (c .before .loop .inv .1))
+    let at-loop : tie.At-loop Inv-loop μ-loop = search in
+    let e : at-loop .loop .k ≡ removalPlaces = omega arith in
+    rw (← e) (sym (at-loop .loop .inv .1))
 
 pub removals-zero-spec : {M : Type 1} → statement M
 removals-zero-spec =

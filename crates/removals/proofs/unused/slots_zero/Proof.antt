@@ -34,7 +34,12 @@ slot-zero-requires : tie.Need-slot-zero-requires Inv-loop μ-loop
 slot-zero-requires c κs = search needs
 
 returns : tie.Need-returns Inv-loop μ-loop
-returns c = sym (all-stop (slotZero (c .before .before .before .before .args .m) (c .before .before .before .before .args .t1) (c .before .before .before .before .args .t2)) nursePlaces (c .before .before .before .loop .i) (c .before .before .loop-test .taken) (sym (c .before .slot-zero .ensures) ∙ not-true _ (c .if1 .taken)))
+returns c =
+    let at-slot-zero : tie.After-slot-zero Inv-loop μ-loop = search in
+    let turn : tie.In-loop Inv-loop μ-loop = search in
+    let at-loop : tie.At-loop Inv-loop μ-loop = search in
+    let start : tie.Start Inv-loop μ-loop = search in
+    sym (all-stop (slotZero (start .args .m) (start .args .t1) (start .args .t2)) nursePlaces (at-loop .loop .i) (turn .loop-test .taken) (sym (at-slot-zero .slot-zero .ensures) ∙ not-true _ (c .if1 .taken)))
 
 add-i : tie.Need-add-i Inv-loop μ-loop
 add-i c = search needs
@@ -43,12 +48,17 @@ loop-less : tie.Need-loop-less Inv-loop μ-loop
 loop-less c = search needs
 
 loop-again : tie.Need-loop-again Inv-loop μ-loop
-loop-again c = (search needs, all-turn (slotZero (c .before .before .before .before .args .m) (c .before .before .before .before .args .t1) (c .before .before .before .before .args .t2)) (c .before .before .before .loop .i) (c .before .before .before .loop .inv .1) (sym (c .before .slot-zero .ensures) ∙ not-false _ (c .if1 .left)))
+loop-again c =
+    let at-slot-zero : tie.After-slot-zero Inv-loop μ-loop = search in
+    let at-loop : tie.At-loop Inv-loop μ-loop = search in
+    let start : tie.Start Inv-loop μ-loop = search in
+    (search needs, all-turn (slotZero (start .args .m) (start .args .t1) (start .args .t2)) (at-loop .loop .i) (at-loop .loop .inv .1) (sym (at-slot-zero .slot-zero .ensures) ∙ not-false _ (c .if1 .left)))
 
 returns-2 : tie.Need-returns-2 Inv-loop μ-loop
 returns-2 c =
-    let e : c .before .loop .i ≡ nursePlaces = omega arith in
-    rw (← e) (sym (c .before .loop .inv .1))
+    let at-loop : tie.At-loop Inv-loop μ-loop = search in
+    let e : at-loop .loop .i ≡ nursePlaces = omega arith in
+    rw (← e) (sym (at-loop .loop .inv .1))
 
 pub slots-zero-spec : {M : Type 1} → statement M
 slots-zero-spec =

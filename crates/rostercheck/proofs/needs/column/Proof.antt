@@ -24,13 +24,21 @@ loop-holds : tie.Need-loop-holds Inv-loop μ-loop
 loop-holds c = (omega arith, same-none _ _ refl)
 
 mul-put-bit : tie.Need-mul-put-bit Inv-loop μ-loop
-mul-put-bit c = let l : c .before .loop .i ≤ 48 = omega arith in omega (arith, mul-le-mul l (c .before .before .before .pre .1))
+mul-put-bit c =
+    let at-loop : tie.At-loop Inv-loop μ-loop = search in
+    let start : tie.Start Inv-loop μ-loop = search in
+    let l : at-loop .loop .i ≤ 48 = omega arith in omega (arith, mul-le-mul l (start .pre .1))
 
 add-put-bit : tie.Need-add-put-bit Inv-loop μ-loop
-add-put-bit c = omega (arith, in-row _ _ _ _ (c .loop-test .taken) (c .before .before .before .pre .2), mul-le-mul (c .before .before .before .pre .0) (c .before .before .before .pre .1))
+add-put-bit c =
+    let start : tie.Start Inv-loop μ-loop = search in
+    omega (arith, in-row _ _ _ _ (c .loop-test .taken) (start .pre .2), mul-le-mul (start .pre .0) (start .pre .1))
 
 shared-slice-read-put-bit : tie.Need-shared-slice-read-put-bit Inv-loop μ-loop
-shared-slice-read-put-bit c = omega (arith, in-row _ _ _ _ (c .before .loop-test .taken) (c .before .before .before .before .pre .2), c .before .before .before .before .pre .3)
+shared-slice-read-put-bit c =
+    let turn : tie.In-loop Inv-loop μ-loop = search in
+    let start : tie.Start Inv-loop μ-loop = search in
+    omega (arith, in-row _ _ _ _ (turn .loop-test .taken) (start .pre .2), start .pre .3)
 
 put-bit-requires : tie.Need-put-bit-requires Inv-loop μ-loop
 put-bit-requires c κs = search needs
@@ -43,10 +51,14 @@ loop-less c = search needs
 
 loop-again : tie.Need-loop-again Inv-loop μ-loop
 unfolding lettered
-loop-again c = (omega arith, same-more _ _ _ _ (c .before .before .before .loop .inv .1) (c .put-bit .ensures))
+loop-again c =
+    let at-loop : tie.At-loop Inv-loop μ-loop = search in
+    (omega arith, same-more _ _ _ _ (at-loop .loop .inv .1) (c .put-bit .ensures))
 
 returns : tie.Need-returns Inv-loop μ-loop
-returns c = column-end (c .before .loop .inv .1) (c .before .loop .inv .0) (c .loop-test .left)
+returns c =
+    let at-loop : tie.At-loop Inv-loop μ-loop = search in
+    column-end (at-loop .loop .inv .1) (at-loop .loop .inv .0) (c .loop-test .left)
 
 pub column-spec : {M : Type 1} → statement M
 column-spec =

@@ -12,10 +12,17 @@ duty-holds-requires-2 : tie.Need-duty-holds-requires-2
 duty-holds-requires-2 c κs = search needs
 
 returns : tie.Need-returns
-returns c = both-duties (c .before .before .before .before .before .args .w .now) (c .before .before .before .before .before .args .roster .now) (c .before .before .before .before .before .args .d) (sym (c .before .before .duty-holds .ensures) ∙ c .before .if1 .taken) (c .duty-holds2 .ensures)
+returns c =
+    let at-if1 : tie.Then1 = search in
+    let at-duty-holds : tie.After-duty-holds = search in
+    let start : tie.Start = search in
+    both-duties (start .args .w .now) (start .args .roster .now) (start .args .d) (sym (at-duty-holds .duty-holds .ensures) ∙ at-if1 .if1 .taken) (c .duty-holds2 .ensures)
 
 returns-2 : tie.Need-returns-2
-returns-2 c = night-fails (c .before .before .before .before .args .w .now) (c .before .before .before .before .args .roster .now) (c .before .before .before .before .args .d) (sym (c .before .duty-holds .ensures) ∙ c .if1 .left)
+returns-2 c =
+    let at-duty-holds : tie.After-duty-holds = search in
+    let start : tie.Start = search in
+    night-fails (start .args .w .now) (start .args .roster .now) (start .args .d) (sym (at-duty-holds .duty-holds .ensures) ∙ c .if1 .left)
 
 pub day-holds-spec : {M : Type 1} → statement M
 day-holds-spec = tie.close (tie.spec duty-holds-requires duty-holds-requires-2 returns returns-2)

@@ -14,13 +14,20 @@ days-requires : tie.Need-days-requires
 days-requires c κs = search needs
 
 mul-at : tie.Need-mul-at
-mul-at c = let l : c .before .before .before .args .i ≤ 48 = omega arith in omega (arith, mul-le-mul l (c .days .ensures .1))
+mul-at c =
+    let start : tie.Start = search in
+    let l : start .args .i ≤ 48 = omega arith in omega (arith, mul-le-mul l (c .days .ensures .1))
 
 days-with-requires : tie.Need-days-with-requires
-days-with-requires c κs = (c .days .ensures .1, row-ends (c .before .before .before .args .w .now) (c .before .before .before .args .roster .now) (c .before .before .before .args .i) (c .before .before .before .pre .1) (c .before .before .before .pre .2) (c .days .ensures .0))
+days-with-requires c κs =
+    let start : tie.Start = search in
+    (c .days .ensures .1, row-ends (start .args .w .now) (start .args .roster .now) (start .args .i) (start .pre .1) (start .pre .2) (c .days .ensures .0))
 
 days-with-requires-2 : tie.Need-days-with-requires-2
-days-with-requires-2 c κs = (c .before .days .ensures .1, row-ends (c .before .before .before .before .args .w .now) (c .before .before .before .before .args .roster .now) (c .before .before .before .before .args .i) (c .before .before .before .before .pre .1) (c .before .before .before .before .pre .2) (c .before .days .ensures .0))
+days-with-requires-2 c κs =
+    let at-days : tie.After-days = search in
+    let start : tie.Start = search in
+    (at-days .days .ensures .1, row-ends (start .args .w .now) (start .args .roster .now) (start .args .i) (start .pre .1) (start .pre .2) (at-days .days .ensures .0))
 
 is-hers-requires : tie.Need-is-hers-requires
 is-hers-requires c κs = search needs
@@ -32,21 +39,48 @@ block-requires : tie.Need-block-requires
 block-requires c κs = search needs
 
 same-row-requires : tie.Need-same-row-requires
-same-row-requires c κs = (c .before .before .before .before .before .before .before .days .ensures .1, block-as (c .before .before .before .before .before .before .before .before .before .before .args .w .now) (c .before .before .before .before .before .before .before .before .before .before .args .i) (c .before .before .before .before .before .before .before .before .before .before .pre .0) (c .before .before .before .before .before .before .before .before .before .before .pre .2) (c .block .ensures) (c .before .before .before .before .before .before .before .days .ensures .0), row-ends (c .before .before .before .before .before .before .before .before .before .before .args .w .now) (c .before .before .before .before .before .before .before .before .before .before .args .roster .now) (c .before .before .before .before .before .before .before .before .before .before .args .i) (c .before .before .before .before .before .before .before .before .before .before .pre .1) (c .before .before .before .before .before .before .before .before .before .before .pre .2) (c .before .before .before .before .before .before .before .days .ensures .0))
+same-row-requires c κs =
+    let at-days : tie.After-days = search in
+    let start : tie.Start = search in
+    (at-days .days .ensures .1, block-as (start .args .w .now) (start .args .i) (start .pre .0) (start .pre .2) (c .block .ensures) (at-days .days .ensures .0), row-ends (start .args .w .now) (start .args .roster .now) (start .args .i) (start .pre .1) (start .pre .2) (at-days .days .ensures .0))
 
 returns : tie.Need-returns
-returns c = let a = c .before .before .before .before .before .before .before .before .before .before .before .args in
-    row-compared (a .w .now) (a .roster .now) (a .i) _ (c .before .before .before .before .before .before .before .before .days .ensures .0) (c .before .before .before .before .before .before .before .days-with .ensures) (c .before .before .before .before .before .before .days-with2 .ensures)
-    (sym (c .before .before .before .before .before .is-hers .ensures) ∙ c .before .before .before .before .if1 .taken) (sym (c .before .before .before .is-day-pattern .ensures) ∙ c .before .before .if2 .taken) (c .before .block .ensures) (c .same-row .ensures)
+returns c =
+    let at-block : tie.After-block = search in
+    let at-if2 : tie.Then2 = search in
+    let at-is-day-pattern : tie.After-is-day-pattern = search in
+    let at-if1 : tie.Then1 = search in
+    let at-is-hers : tie.After-is-hers = search in
+    let at-days-with2 : tie.After-days-with2 = search in
+    let at-days-with : tie.After-days-with = search in
+    let at-days : tie.After-days = search in
+    let start : tie.Start = search in
+    let a = start .args in
+    row-compared (a .w .now) (a .roster .now) (a .i) _ (at-days .days .ensures .0) (at-days-with .days-with .ensures) (at-days-with2 .days-with2 .ensures)
+    (sym (at-is-hers .is-hers .ensures) ∙ at-if1 .if1 .taken) (sym (at-is-day-pattern .is-day-pattern .ensures) ∙ at-if2 .if2 .taken) (at-block .block .ensures) (c .same-row .ensures)
 
 returns-2 : tie.Need-returns-2
-returns-2 c = let a = c .before .before .before .before .before .before .before .before .before .args in
-    row-no-days (a .w .now) (a .roster .now) (a .i) _ (c .before .before .before .before .before .before .days .ensures .0) (c .before .before .before .before .before .days-with .ensures) (c .before .before .before .before .days-with2 .ensures)
-    (sym (c .before .before .before .is-hers .ensures) ∙ c .before .before .if1 .taken) (sym (c .before .is-day-pattern .ensures) ∙ c .if2 .left)
+returns-2 c =
+    let at-is-day-pattern : tie.After-is-day-pattern = search in
+    let at-if1 : tie.Then1 = search in
+    let at-is-hers : tie.After-is-hers = search in
+    let at-days-with2 : tie.After-days-with2 = search in
+    let at-days-with : tie.After-days-with = search in
+    let at-days : tie.After-days = search in
+    let start : tie.Start = search in
+    let a = start .args in
+    row-no-days (a .w .now) (a .roster .now) (a .i) _ (at-days .days .ensures .0) (at-days-with .days-with .ensures) (at-days-with2 .days-with2 .ensures)
+    (sym (at-is-hers .is-hers .ensures) ∙ at-if1 .if1 .taken) (sym (at-is-day-pattern .is-day-pattern .ensures) ∙ c .if2 .left)
 
 returns-3 : tie.Need-returns-3
-returns-3 c = let a = c .before .before .before .before .before .before .before .args in
-    row-not-hers (a .w .now) (a .roster .now) (a .i) _ (c .before .before .before .before .days .ensures .0) (c .before .before .before .days-with .ensures) (c .before .before .days-with2 .ensures) (sym (c .before .is-hers .ensures) ∙ c .if1 .left)
+returns-3 c =
+    let at-is-hers : tie.After-is-hers = search in
+    let at-days-with2 : tie.After-days-with2 = search in
+    let at-days-with : tie.After-days-with = search in
+    let at-days : tie.After-days = search in
+    let start : tie.Start = search in
+    let a = start .args in
+    row-not-hers (a .w .now) (a .roster .now) (a .i) _ (at-days .days .ensures .0) (at-days-with .days-with .ensures) (at-days-with2 .days-with2 .ensures) (sym (at-is-hers .is-hers .ensures) ∙ c .if1 .left)
 
 pub row-holds-spec : {M : Type 1} → statement M
 row-holds-spec =

@@ -16,10 +16,18 @@ weights-requires : tie.Need-weights-requires
 weights-requires c κs = search needs
 
 pair-on-requires : tie.Need-pair-on-requires
-pair-on-requires c κs = (light-of _ _ (c .before .before .before .before .pre .0) (omega arith) (c .weights .ensures), needs-of _ _ (c .before .before .before .before .pre .0) (c .before .before .before .before .pre .1) (c .before .before .member-sets .ensures) (c .before .needs .ensures), search needs, c .before .before .before .before .pre .2)
+pair-on-requires c κs =
+    let at-needs : tie.After-needs = search in
+    let at-member-sets : tie.After-member-sets = search in
+    let start : tie.Start = search in
+    (light-of _ _ (start .pre .0) (omega arith) (c .weights .ensures), needs-of _ _ (start .pre .0) (start .pre .1) (at-member-sets .member-sets .ensures) (at-needs .needs .ensures), search needs, start .pre .2)
 
 returns : tie.Need-returns
-returns c = day-three _ _ _ _ (pair-of _ _ _ _ _ _ (c .before .weights .ensures) (c .before .before .before .member-sets .ensures) (c .before .before .needs .ensures) (c .pair-on .ensures))
+returns c =
+    let at-weights : tie.After-weights = search in
+    let at-needs : tie.After-needs = search in
+    let at-member-sets : tie.After-member-sets = search in
+    day-three _ _ _ _ (pair-of _ _ _ _ _ _ (at-weights .weights .ensures) (at-member-sets .member-sets .ensures) (at-needs .needs .ensures) (c .pair-on .ensures))
 
 pub day-day-spec : {M : Type 1} → statement M
 day-day-spec =

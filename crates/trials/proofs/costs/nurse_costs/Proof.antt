@@ -16,7 +16,9 @@ days-requires : tie.Need-days-requires Inv-loop μ-loop
 days-requires c κs = search needs
 
 loop-holds : tie.Need-loop-holds Inv-loop μ-loop
-loop-holds c = table-start (c .before .before .args .search) _ _ _ _
+loop-holds c =
+    let start : tie.Start Inv-loop μ-loop = search in
+    table-start (start .args .search) _ _ _ _
 
 mul-on-day : tie.Need-mul-on-day Inv-loop μ-loop
 mul-on-day c = search needs
@@ -58,13 +60,21 @@ loop-less : tie.Need-loop-less Inv-loop μ-loop
 loop-less c = search needs
 
 loop-again : tie.Need-loop-again Inv-loop μ-loop
-loop-again c = table-turn (c .before .before .before .before .before .before .before .args .search) _ _ _ _ _ _ (c .before .before .before .before .loop .inv) (c .before .before .before .loop-test .taken) (omega (arith, c .before .before .before .before .before .days .ensures .0, c .before .before .before .before .before .before .before .pre .0 .days-most)) (c .on-day .ensures)
+loop-again c =
+    let turn : tie.In-loop Inv-loop μ-loop = search in
+    let at-loop : tie.At-loop Inv-loop μ-loop = search in
+    let at-days : tie.After-days Inv-loop μ-loop = search in
+    let start : tie.Start Inv-loop μ-loop = search in
+    table-turn (start .args .search) _ _ _ _ _ _ (at-loop .loop .inv) (turn .loop-test .taken) (omega (arith, at-days .days .ensures .0, start .pre .0 .days-most)) (c .on-day .ensures)
 
 returns : tie.Need-returns Inv-loop μ-loop
-returns c = (
-  table-small (c .before .before .before .before .args .search) _ _ _ _ (c .before .loop .inv) (c .loop-test .left) (c .before .before .days .ensures .0) (c .before .before .before .before .pre .0 .days-most),
-  λ slots s. table-trials (c .before .before .before .before .args .w .now) _ (c .before .before .before .before .args .i) slots (c .before .before .before .before .pre .0) (c .before .before .before .before .pre .1) (c .before .before .before .before .args .search) _ (c .before .loop .inv) (c .loop-test .left) (c .before .before .days .ensures .0) s,
-)
+returns c =
+    let at-loop : tie.At-loop Inv-loop μ-loop = search in
+    let at-days : tie.After-days Inv-loop μ-loop = search in
+    let start : tie.Start Inv-loop μ-loop = search in (
+      table-small (start .args .search) _ _ _ _ (at-loop .loop .inv) (c .loop-test .left) (at-days .days .ensures .0) (start .pre .0 .days-most),
+      λ slots s. table-trials (start .args .w .now) _ (start .args .i) slots (start .pre .0) (start .pre .1) (start .args .search) _ (at-loop .loop .inv) (c .loop-test .left) (at-days .days .ensures .0) s,
+    )
 
 pub nurse-costs-spec : {M : Type 1} → statement M
 nurse-costs-spec =

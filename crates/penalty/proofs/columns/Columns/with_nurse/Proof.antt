@@ -58,17 +58,23 @@ loop-less : tie.Need-loop-less Inv-loop μ-loop
 loop-less c = search needs
 
 loop-again : tie.Need-loop-again Inv-loop μ-loop
-loop-again c = (
-  omega arith,
-  put-turn _ _ _ _ _ _ (c .before .before .before .before .before .before .before .loop .inv .1) (omega arith) (c .before .before .before .before .has-bit .ensures) (c .before .before .before .put-bit .ensures),
-  put-turn _ _ _ _ _ _ (c .before .before .before .before .before .before .before .loop .inv .2) (omega arith) (c .before .has-bit2 .ensures) (c .put-bit2 .ensures),
-)
+loop-again c =
+    let at-has-bit2 : tie.After-has-bit2 Inv-loop μ-loop = search in
+    let at-put-bit : tie.After-put-bit Inv-loop μ-loop = search in
+    let at-has-bit : tie.After-has-bit Inv-loop μ-loop = search in
+    let at-loop : tie.At-loop Inv-loop μ-loop = search in (
+      omega arith,
+      put-turn _ _ _ _ _ _ (at-loop .loop .inv .1) (omega arith) (at-has-bit .has-bit .ensures) (at-put-bit .put-bit .ensures),
+      put-turn _ _ _ _ _ _ (at-loop .loop .inv .2) (omega arith) (at-has-bit2 .has-bit2 .ensures) (c .put-bit2 .ensures),
+    )
 
 returns : tie.Need-returns Inv-loop μ-loop
-returns c = record {
-  night-put = λ d h. c .before .loop .inv .1 .done d (omega arith);
-  day-put = λ d h. c .before .loop .inv .2 .done d (omega arith);
-}
+returns c =
+    let at-loop : tie.At-loop Inv-loop μ-loop = search in
+    record {
+      night-put = λ d h. at-loop .loop .inv .1 .done d (omega arith);
+      day-put = λ d h. at-loop .loop .inv .2 .done d (omega arith);
+    }
 
 pub with-nurse-spec : {M : Type 1} → statement M
 with-nurse-spec =
