@@ -33,7 +33,7 @@ before-fits (After d) v h = go (eqb d 2) (eqb v 3) refl refl
     go false true p q = absurd (eqb-false d 2 p (h .1 (eqb-true v 3 q)))
     go false false p q = refl
 
--- a number in its range is failedBy only what its rule asks
+-- a number in its range can fail only what its rule asks
 in-its-range : (f : Field) (v : ℕ) → InRange f v → failedBy f v ≡ cond (fits (f .rule) v) 0 4
 unfolding failedBy
 in-its-range f v r = simp (le-ltb v (f .least) (r .0), le-ltb (f .most) v (r .1))

@@ -16,7 +16,7 @@ use Rattle.codec.specs.Groups.{decode, decodeGroups, final, under}
 use Rattle.layout.specs.Grammar.{Grammar, done, number, failedBy, fits, Read, good, bad, prepend, onPass, onNumber, read, check}
 use Rattle.layout.specs.CodeWant.{wanted, after, Within, SmallField}
 
--- a number that is failedBy nothing more is in its range
+-- a number that fails nothing is in its range
 pub in-range : (f : Field) (v : ℕ) → failedBy f v ≡ 0 → (f .least ≤ v) × (v ≤ f .most)
 unfolding failedBy
 in-range f v e = go (ltb v (f .least)) (ltb (f .most) v) refl refl e

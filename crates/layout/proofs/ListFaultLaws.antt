@@ -27,7 +27,7 @@ check-takes (number f k) i (w ∷ ws) vs e =
     let r = check-takes (k w) (i + 1) ws (t .1 .0) (t .1 .1) in
     (t .1 .2 ∙ ap (λ (l : List ℕ). w ∷ l) (r .0), one-more (a .0) (a .1) (r .1))
 
--- after numbers that the layout takes, what is left of it is failedBy of the rest
+-- after numbers that the layout takes, what is left of it is asked of the rest
 check-on : (i : ℕ) (rest : List ℕ) {g : Grammar} {vs : List ℕ} {left : Grammar} → Takes g vs left → check g i (vs ++ rest) ≡ prepend vs (check left (i + length vs) rest)
 check-on i rest (none-yet {left}) = prepend-nil (check left i rest) ∙ ap (λ (n : ℕ). prepend [] (check left n rest)) (omega arith)
 check-on i rest (one-more {f} {k} {v} {vs} {left} r h t) =

@@ -12,7 +12,7 @@ use Rattle.search.specs.declared.Record.{Record as Stored}
 use Rattle.removals.specs.declared.Removal.{Removal as StoredRemoval}
 use Rattle.removals.specs.Removals.{noRemoval}
 use Rattle.search.specs.Stored.{Sized, allZero}
-use Rattle.pantheryl.specs.Words.{recordWords, flagOf, removalAt, recordOfWords, flagWord, wordsOfRecord}
+use Rattle.pantheryl.specs.Words.{recordWords, removalsAt, stepsAt, flagOf, removalAt, recordOfWords, flagWord, wordsOfRecord}
 use Rattle.pantheryl.specs.CodeWords.{removalWord}
 use Rattle.pantheryl.specs.Back.{ReadBack}
 use Rattle.pantheryl.proofs.WordLaws.{removals-long, removal-read, removal-place, word-steps, words-long}
@@ -51,9 +51,9 @@ module _ (r : Stored) (z : Sized r) where
   removal-back : (j : ℕ) → j < removalPlaces → removalAt words j ≡ getD (r .removals) j noRemoval
   unfolding words
   removal-back j h =
-      let n : getD words (96 + j * 3) 0 ≡ removalWord (getD (r .removals) j noRemoval) 0 = removal-place r z j 0 (96 + j * 3) h (omega arith) (omega arith) in
-      let f : getD words (97 + j * 3) 0 ≡ removalWord (getD (r .removals) j noRemoval) 1 = removal-place r z j 1 (97 + j * 3) h (omega arith) (omega arith) in
-      let p : getD words (98 + j * 3) 0 ≡ removalWord (getD (r .removals) j noRemoval) 2 = removal-place r z j 2 (98 + j * 3) h (omega arith) (omega arith) in
+      let n : getD words (removalsAt + j * 3) 0 ≡ removalWord (getD (r .removals) j noRemoval) 0 = removal-place r z j 0 (removalsAt + j * 3) h (omega arith) (omega arith) in
+      let f : getD words (removalsAt + j * 3 + 1) 0 ≡ removalWord (getD (r .removals) j noRemoval) 1 = removal-place r z j 1 (removalsAt + j * 3 + 1) h (omega arith) (omega arith) in
+      let p : getD words (removalsAt + j * 3 + 2) 0 ≡ removalWord (getD (r .removals) j noRemoval) 2 = removal-place r z j 2 (removalsAt + j * 3 + 2) h (omega arith) (omega arith) in
       rw (n, f, p, flag-back)
 
   removals-back : map (removalAt words) (upFrom 0 removalPlaces) ≡ r .removals
@@ -71,7 +71,7 @@ module _ (r : Stored) (z : Sized r) where
 
   same-read : recordOfWords words ≡ r
   unfolding recordOfWords words
-  same-read = rw (patterns-back, placed-back, removals-back, sym (word-steps r z 288 (omega arith) (omega arith)))
+  same-read = rw (patterns-back, placed-back, removals-back, sym (word-steps r z stepsAt (omega arith) (omega arith)))
 
 pub read-back : ReadBack
 unfolding words

@@ -14,7 +14,7 @@ use Rattle.search.specs.declared.Record.{Record as Stored}
 use Rattle.removals.specs.declared.Removal.{Removal as StoredRemoval}
 use Rattle.removals.specs.Removals.{noRemoval}
 use Rattle.search.specs.Stored.{Sized}
-use Rattle.pantheryl.specs.Words.{recordWords, flagOf, removalAt, flagWord, removalWords, wordsOfRecord}
+use Rattle.pantheryl.specs.Words.{recordWords, removalsAt, stepsAt, flagOf, removalAt, flagWord, removalWords, wordsOfRecord}
 use Rattle.pantheryl.specs.CodeWords.{removalWord}
 
 -- ---- read
@@ -95,7 +95,7 @@ module _ (r : Stored) (z : Sized r) where
   unfolding wordsOfRecord
   word-pattern i h = let l = z .patterns-long in sym (List·getD-append (r .patterns) _ 0 i (omega arith))
 
-  pub word-flag : (i : ℕ) {x : ℕ} → nursePlaces ≤ i → i < 96 → x ≡ flagWord (getD (r .placed) (i - nursePlaces) false) → x ≡ getD (wordsOfRecord r) i 0
+  pub word-flag : (i : ℕ) {x : ℕ} → nursePlaces ≤ i → i < removalsAt → x ≡ flagWord (getD (r .placed) (i - nursePlaces) false) → x ≡ getD (wordsOfRecord r) i 0
   unfolding flags
   word-flag i k h e =
       let l = flags-is in
@@ -106,20 +106,20 @@ module _ (r : Stored) (z : Sized r) where
       ∙ sym (past-patterns (i - nursePlaces))
       ∙ ap (λ (n : ℕ). getD (wordsOfRecord r) n 0) q
 
-  pub word-removal : (i : ℕ) {x : ℕ} → 96 ≤ i → i < 288 → x ≡ removalWord (getD (r .removals) ((i - 96) / 3) noRemoval) ((i - 96) % 3) → x ≡ getD (wordsOfRecord r) i 0
+  pub word-removal : (i : ℕ) {x : ℕ} → removalsAt ≤ i → i < stepsAt → x ≡ removalWord (getD (r .removals) ((i - removalsAt) / 3) noRemoval) ((i - removalsAt) % 3) → x ≡ getD (wordsOfRecord r) i 0
   unfolding rest
   word-removal i k h e =
       let l = z .removals-long in
       let m = removal-words-long (r .removals) in
-      let q : nursePlaces + (nursePlaces + (i - 96)) ≡ i = omega arith in
+      let q : nursePlaces + (nursePlaces + (i - removalsAt)) ≡ i = omega arith in
       e
-      ∙ removal-written (r .removals) (i - 96) (omega arith)
-      ∙ sym (List·getD-append (removalWords (r .removals)) (r .steps ∷ []) 0 (i - 96) (omega arith))
-      ∙ sym (past-flags (i - 96))
+      ∙ removal-written (r .removals) (i - removalsAt) (omega arith)
+      ∙ sym (List·getD-append (removalWords (r .removals)) (r .steps ∷ []) 0 (i - removalsAt) (omega arith))
+      ∙ sym (past-flags (i - removalsAt))
       ∙ ap (λ (n : ℕ). getD (wordsOfRecord r) n 0) q
 
   -- word t of removal q, from the front
-  pub removal-place : (q t i : ℕ) → q < removalPlaces → t < 3 → i ≡ 96 + t + q * 3 → getD (wordsOfRecord r) i 0 ≡ removalWord (getD (r .removals) q noRemoval) t
+  pub removal-place : (q t i : ℕ) → q < removalPlaces → t < 3 → i ≡ removalsAt + t + q * 3 → getD (wordsOfRecord r) i 0 ≡ removalWord (getD (r .removals) q noRemoval) t
   unfolding rest
   removal-place q t i h k e =
       let l = z .removals-long in
@@ -131,7 +131,7 @@ module _ (r : Stored) (z : Sized r) where
       ∙ List·getD-append (removalWords (r .removals)) (r .steps ∷ []) 0 (at3 q t) (omega arith)
       ∙ removal-at3 (r .removals) q t (omega arith) k
 
-  pub word-steps : (i : ℕ) → 288 ≤ i → i < recordWords → r .steps ≡ getD (wordsOfRecord r) i 0
+  pub word-steps : (i : ℕ) → stepsAt ≤ i → i < recordWords → r .steps ≡ getD (wordsOfRecord r) i 0
   unfolding rest
   word-steps i k h =
       let l = z .removals-long in

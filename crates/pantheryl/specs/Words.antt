@@ -9,9 +9,15 @@ use Rattle.numbers.specs.Range.{upFrom}
 use Rattle.search.specs.declared.Record.{Record as Stored}
 use Rattle.removals.specs.declared.Removal.{Removal as StoredRemoval}
 
--- how many
+-- where the removals begin, of three words each; where the steps stand; how many words there are
+abbrev pub removalsAt : ℕ
+removalsAt = nursePlaces + nursePlaces
+
+abbrev pub stepsAt : ℕ
+stepsAt = removalsAt + removalPlaces * 3
+
 abbrev pub recordWords : ℕ
-recordWords = 289
+recordWords = stepsAt + 1
 
 -- ---- read
 
@@ -23,9 +29,9 @@ flagOf word = not (eqb word 0)
 abbrev pub removalAt : List ℕ → ℕ → StoredRemoval
 removalAt words j =
     record {
-      nurse = getD words (96 + j * 3) 0;
-      has = flagOf (getD words (97 + j * 3) 0);
-      pattern = getD words (98 + j * 3) 0;
+      nurse = getD words (removalsAt + j * 3) 0;
+      has = flagOf (getD words (removalsAt + j * 3 + 1) 0);
+      pattern = getD words (removalsAt + j * 3 + 2) 0;
     }
 
 unfoldable pub recordOfWords : List ℕ → Stored
@@ -34,7 +40,7 @@ recordOfWords words =
       patterns = take nursePlaces words;
       placed = map flagOf (take nursePlaces (drop nursePlaces words));
       removals = map (removalAt words) (upFrom 0 removalPlaces);
-      steps = getD words 288 0;
+      steps = getD words stepsAt 0;
     }
 
 -- ---- written

@@ -12,7 +12,11 @@ ghost use Rattle.numbers.specs.Range.{upFrom};
 ghost use Rattle.pantheryl.specs.Words.{recordWords, flagOf, removalAt, recordOfWords, flagWord, wordsOfRecord};
 ghost use Rattle.pantheryl.specs.CodeWords.{removalWord};
 
-// How many words a record has.
+// Where the removals begin, of three words each; where the steps stand; how many words a record has.
+const REMOVALS_AT: usize = 96;
+
+const STEPS_AT: usize = 288;
+
 pub const WORDS: usize = 289;
 
 fn patterns_of(words: [u32; WORDS]) -> [u32; NURSES]
@@ -36,7 +40,7 @@ fn flags_of(words: [u32; WORDS]) -> [bool; NURSES]
 {
     let mut flags = [false; NURSES];
     for i in 0..NURSES {
-        flags[i] = flag_of(words[48 + i]);
+        flags[i] = flag_of(words[NURSES + i]);
     }
     flags
 }
@@ -45,10 +49,14 @@ fn removal_at(words: [u32; WORDS], j: usize) -> Removal
     requires { ⌜ j < removalPlaces ⌝ }
     ensures { λ r. ⌜ r ≡ removalAt words j ⌝ }
 {
+    let at = REMOVALS_AT + j * 3;
+    let nurse = words[at];
+    let has = flag_of(words[at + 1]);
+    let pattern = words[at + 2];
     Removal {
-        nurse: words[96 + j * 3],
-        has: flag_of(words[97 + j * 3]),
-        pattern: words[98 + j * 3],
+        nurse,
+        has,
+        pattern,
     }
 }
 
@@ -77,7 +85,7 @@ pub(crate) fn record_of(words: [u32; WORDS]) -> Record
         patterns,
         placed,
         removals,
-        steps: words[288],
+        steps: words[STEPS_AT],
     }
 }
 
@@ -105,15 +113,15 @@ fn word_of(rec: Record, i: usize) -> u32
     requires { ⌜ i < recordWords ⌝ }
     ensures { λ r. ⌜ r ≡ getD (wordsOfRecord rec) i 0 ⌝ }
 {
-    if i < 48 {
+    if i < NURSES {
         return rec.patterns[i];
     }
-    if i < 96 {
-        return flag_word(rec.placed[i - 48]);
+    if i < REMOVALS_AT {
+        return flag_word(rec.placed[i - NURSES]);
     }
-    if i < 288 {
-        let x = rec.removals[(i - 96) / 3];
-        return removal_word(x, (i - 96) % 3);
+    if i < STEPS_AT {
+        let x = rec.removals[(i - REMOVALS_AT) / 3];
+        return removal_word(x, (i - REMOVALS_AT) % 3);
     }
     rec.steps
 }

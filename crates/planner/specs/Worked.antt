@@ -74,7 +74,7 @@ pub record WorkedThrough : Type 0 where
   -- by night: from 20,000,001, nurse 1 takes 1, 10,000,000; nurse 2 takes 0, and the penalty is 0
   pub night-first : next (nightPhase workedWard) [] ≡ some (did 0 1)
   pub night-second : next (nightPhase workedWard) (did 0 1 ∷ []) ≡ some (did 1 0)
-  -- no step failedBy, one, too many failedBy, no room for the common list, as many as there are, and zero as before
+  -- no step asked, one, too many asked, no room for the common list, as many as there are, and zero as before
   pub night-answers : answers (nightPhase workedWard) (call 0 4 ∷ call 1 4 ∷ call 10001 4 ∷ call 1 3 ∷ call 5 4 ∷ call 5 4 ∷ [])
       ≡ ended End·asked 0 20000001 [] ∷ ended End·asked 1 10000000 [] ∷ refuses 7 0 ∷ refuses 9 0 ∷ ended End·zero 1 0 [] ∷ ended End·zero 0 0 [] ∷ []
   pub night-steps : history (nightPhase workedWard) (call 1000 16384 ∷ []) ≡ did 1 0 ∷ did 0 1 ∷ []
@@ -158,7 +158,7 @@ pub record SecondWorked : Type 0 where
   pub all-nights : nightPenalty secondWard (λ i. some 63) ≡ 64
   pub no-days : dayPenalty secondWard (λ i. some 0) ≡ 16
   pub all-days : dayPenalty secondWard (λ i. some 63) ≡ 4
-  -- by night: step by step to zero; then too many failedBy, no room for the common list, and zero as before
+  -- by night: step by step to zero; then too many asked, no room for the common list, and zero as before
   pub night-answers : answers (nightPhase secondWard) (call 0 14 ∷ ones 9 14 ++ (call 10001 14 ∷ call 1 13 ∷ call 1 14 ∷ []))
       ≡ ended End·asked 0 30000005 [] ∷ after 20000000 ∷ after 10000000 ∷ after 5 ∷ after 5 ∷ after 5 ∷ after 8 ∷ after 11 ∷ after 3
       ∷ ended End·zero 1 0 [] ∷ refuses 7 0 ∷ refuses 9 0 ∷ ended End·zero 0 0 [] ∷ []

@@ -25,7 +25,7 @@ end = 5
 abbrev pub bytes : ℕ
 bytes = 6
 
--- is k allowed, and is steps so far plus k?
+-- is k allowed, and is steps so far plus k at most 1,000,000?
 abbrev pub steps : ℕ
 steps = 7
 

@@ -12,7 +12,7 @@ pub const DUTY: u32 = 4;
 pub const END: u32 = 5;
 // Is the byte buffer long enough?
 pub const BYTES: u32 = 6;
-// Is k allowed, and is steps so far plus k?
+// Is k allowed, and is steps so far plus k at most 1,000,000?
 pub const STEPS: u32 = 7;
 // For days: is each night pattern hers, at night penalty 0?
 pub const NIGHTS: u32 = 8;
