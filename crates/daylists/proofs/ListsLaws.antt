@@ -9,6 +9,7 @@ use native.Mathlib.Decide.{decLt}
 use borrow.Author.Tests.{le-leb, lt-leb}
 use lib.ListN.{length, getD, set, take, drop, length-append, length-set}
 use lib.Seq.{getD-set-same, getD-set-other, drop-append-seam, take-append-seam}
+use Rattle.fields.specs.Sizes.{nursePlaces}
 use Rattle.numbers.proofs.BufferLaws.{Halves, halves-count, halves-written, as-long}
 use Rattle.daylists.specs.Lists.{upTo, firstOver}
 use Rattle.daylists.specs.CodeLists.{Counted}
@@ -112,10 +113,10 @@ pub record CountAt (f : ℕ → List ℕ) (m places over at : ℕ) (ends : List 
   pub at-is : at ≡ length (upTo f over)
   pub fits : at ≤ places
   pub answer : firstOver f places 0 m ≡ firstOver f places over (m - over)
-  pub ends-long : length ends ≡ 49
+  pub ends-long : length ends ≡ nursePlaces + 1
   pub ends-are : (k : ℕ) → k ≤ over → getD ends k 0 ≡ length (upTo f k)
 
-pub count-start : (f : ℕ → List ℕ) (m places : ℕ) (ends : List ℕ) → length ends ≡ 49 → getD ends 0 0 ≡ 0 → CountAt f m places 0 0 ends
+pub count-start : (f : ℕ → List ℕ) (m places : ℕ) (ends : List ℕ) → length ends ≡ nursePlaces + 1 → getD ends 0 0 ≡ 0 → CountAt f m places 0 0 ends
 count-start f m places ends long first = record {
   over-most = omega arith;
   at-is = sym (ap length (up-none f));
@@ -126,7 +127,7 @@ count-start f m places ends long first = record {
 }
 
 module _ (f : ℕ → List ℕ) (m places over at : ℕ) (ends : List ℕ) (c : CountAt f m places over at ends) where
-  pub count-turn : {found : ℕ} → m ≤ 48 → over < m → found ≡ min (places - at + 1) (length (f over)) → found ≤ places - at
+  pub count-turn : {found : ℕ} → m ≤ nursePlaces → over < m → found ≡ min (places - at + 1) (length (f over)) → found ≤ places - at
       → CountAt f m places (over + 1) (at + found) (set ends (over + 1) (at + found))
   count-turn {found} few h e l =
       let next : at + found ≡ length (upTo f (over + 1)) = omega (arith, up-length f over, c .at-is, c .fits) in

@@ -4,6 +4,7 @@ use mathlib.Core.List.{List}
 use Prim.Native.Nat.{ℕ, _+_, _*_, _^_, _≤_, _<_}
 use native.Mathlib.Omega.{arith}
 use lib.Pow.{pow-mono}
+use Rattle.fields.specs.Sizes.{dayPlaces}
 use Rattle.numbers.specs.Range.{upFrom, keep}
 use Rattle.numbers.specs.Digits.{has, numberOf}
 use Rattle.numbers.proofs.RangeLaws.{keep-same}
@@ -19,7 +20,7 @@ use Rattle.daylists.specs.declared.walk.Point.{Point}
 use Rattle.daylists.proofs.ReachLaws.{Bounded}
 use Rattle.daylists.proofs.ListLaws.{walk-lists}
 
-bounded : (b : List ℕ) (n longest p : ℕ) (m : Month) (row : List ℕ) → IsSheet b n longest p m row → n ≤ 31 → longest ≤ 6 → Bounded m
+bounded : (b : List ℕ) (n longest p : ℕ) (m : Month) (row : List ℕ) → IsSheet b n longest p m row → n ≤ dayPlaces → longest ≤ 6 → Bounded m
 bounded b n longest p m row s few short = record {
   small = sheet-small b n longest p m row s few short;
   fixed-days =
@@ -50,7 +51,7 @@ start-ready {w} i {p} {m} {row} {table} h a f e =
       filled = f;
       inside = record {
         days-left = omega arith;
-        fits = omega (arith, pow-mono {i = m .days} {j = 31} (small .few-days));
+        fits = omega (arith, pow-mono {i = m .days} {j = dayPlaces} (small .few-days));
       };
     })
 

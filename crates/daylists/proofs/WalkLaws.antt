@@ -10,6 +10,7 @@ use borrow.Author.Tests.{lt-ltb, le-ltb}
 use lib.Bits.{bitOr}
 use lib.Pow.{pow-pos}
 use lib.ListN.{length, getD, set, length-append}
+use Rattle.fields.specs.Sizes.{dayPlaces}
 use Rattle.numbers.specs.Range.{upFrom, all}
 use Rattle.numbers.proofs.BufferLaws.{place-turn}
 use Rattle.numbers.specs.Digits.{has}
@@ -170,9 +171,9 @@ module _ {m : Month} {row : List ℕ} {s : Point} (n : Node m row s) where
     pub high-most : {b : ℕ} → b ≡ 2 ^ (s .left - 1) → s .from + b < 2 ^ 32
     high-most e = omega (arith, e, ready .inside .fits, pow-half (s .left) (n .more), pow-pos (s .left - 1))
 
-    pub left-most : s .left ≤ 31
+    pub left-most : s .left ≤ dayPlaces
     left-most = omega (arith, ready .small .few-days, ready .inside .days-left)
 
     -- what `decided` asks
-    pub decides : (0 < s .left) × ((s .left ≤ 31) × (s .rests ≤ 31))
+    pub decides : (0 < s .left) × ((s .left ≤ dayPlaces) × (s .rests ≤ dayPlaces))
     decides = (omega (arith, n .more), (left-most, omega (arith, ready .small .few-days, ready .inside .days-left)))

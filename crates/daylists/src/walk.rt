@@ -6,6 +6,7 @@ ghost use mathlib.Core.Path.{_≡_};
 ghost use mathlib.Core.List.{_++_};
 ghost use Prim.Native.Nat.{_≤_, _<_, min};
 ghost use lib.ListN.{length, drop};
+ghost use Rattle.fields.specs.Sizes.{dayPlaces};
 ghost use Rattle.daylists.specs.CodeWalk.{goesOn, listedAt, Next, Ready};
 
 // Where the walk stands: the days before `left` are undecided, the others make the number `from`, with so many rests.
@@ -29,8 +30,8 @@ pub(crate) fn start(n: usize) -> Point
 // One more day decided, so that the number is `from`.
 fn decided(row: &[u64; 38], s: Point, from: u64) -> Point
     requires { ⌜ 0 < s .left ⌝ }
-    requires { ⌜ s .left ≤ 31 ⌝ }
-    requires { ⌜ s .rests ≤ 31 ⌝ }
+    requires { ⌜ s .left ≤ dayPlaces ⌝ }
+    requires { ⌜ s .rests ≤ dayPlaces ⌝ }
     ensures { λ r. ⌜ Next (now (row .entry)) s from r ⌝ }
 {
     let day = s.left - 1;

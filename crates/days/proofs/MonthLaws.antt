@@ -7,6 +7,7 @@ use native.Mathlib.Omega.{arith}
 use borrow.Author.Tests.{lt-ltb, le-ltb}
 use lib.Dec.{eqb}
 use lib.ListN.{length, getD, set, length-set}
+use Rattle.fields.specs.Sizes.{dayPlaces}
 use Rattle.numbers.proofs.BufferLaws.{place-turn}
 use Rattle.numbers.specs.Digits.{has, numberOf}
 use Rattle.numbers.proofs.DigitLaws.{number-lt, number-zero, number-suc, bit-of-zero}
@@ -63,7 +64,7 @@ module _ (b : List ℕ) (p n d : ℕ) {row : List ℕ} {days-set fixed : ℕ} (m
   pub fixed-fits : fixed < 2 ^ d
   fixed-fits = next-fits (fixedDay b) d (m .fixed-is)
 
-  pub month-turn : {mark state idle available' fixed' : ℕ} {may must : Bool} → n ≤ 31 → d < n → mark ≡ markOn b (suc d) → state ≡ rowState b p (suc d)
+  pub month-turn : {mark state idle available' fixed' : ℕ} {may must : Bool} → n ≤ dayPlaces → d < n → mark ≡ markOn b (suc d) → state ≡ rowState b p (suc d)
       → idle ≡ dutyOf mark state false → may ≡ available mark state → available' ≡ days-set + cond may (2 ^ d) 0
       → must ≡ eqb mark 2 → fixed' ≡ fixed + cond must (2 ^ d) 0
       → MonthAt b p n (d + 1) (set row (d + 7) idle) available' fixed'

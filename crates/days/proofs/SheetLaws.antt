@@ -8,6 +8,7 @@ use native.Mathlib.Decide.{decLt}
 use borrow.Author.Tests.{lt-ltb, le-ltb, ltb-true, eqb-true}
 use lib.Dec.{ltb, eqb}
 use lib.ListN.{length}
+use Rattle.fields.specs.Sizes.{dayPlaces}
 use Rattle.numbers.specs.Range.{upFrom, all, Exactly}
 use Rattle.numbers.specs.Digits.{has}
 use Rattle.numbers.proofs.RangeLaws.{and-parts, range-each, kept-exactly}
@@ -112,7 +113,7 @@ rule-is b n longest p m row s short q =
     (subst (λ (k : ℕ). IsSheet b k (m .longest) p m row) (sym (s .days-is)) (subst (λ (l : ℕ). IsSheet b n l p m row) (sym (s .longest-is)) s))
     (rw (s .longest-is) short) q
 
-pub sheet-small : (b : List ℕ) (n longest p : ℕ) (m : Month) (row : List ℕ) → IsSheet b n longest p m row → n ≤ 31 → longest ≤ 6 → SmallMonth m
+pub sheet-small : (b : List ℕ) (n longest p : ℕ) (m : Month) (row : List ℕ) → IsSheet b n longest p m row → n ≤ dayPlaces → longest ≤ 6 → SmallMonth m
 sheet-small b n longest p m row s few short = record { few-days = omega (arith, s .days-is); short = omega (arith, s .longest-is) }
 
 -- ---- what her list is: ascending, and exactly the patterns that the rule lets through

@@ -6,6 +6,7 @@ use mathlib.Core.List.{List}
 use Prim.Native.Nat.{ℕ, suc, _+_, _-_, _^_, _≤_, _<_}
 use lib.Dec.{leb, ltb}
 use lib.ListN.{getD}
+use Rattle.fields.specs.Sizes.{dayPlaces}
 use Rattle.numbers.specs.Range.{upFrom, all}
 use Rattle.numbers.specs.Sum.{oneIf}
 use Rattle.numbers.specs.Digits.{has, numberOf}
@@ -31,7 +32,7 @@ pub record IsSheet (b : List ℕ) (n longest p : ℕ) (m : Month) (row : List �
 
 -- what the code leans on
 pub record SmallMonth (m : Month) : Type 0 where
-  pub few-days : m .days ≤ 31
+  pub few-days : m .days ≤ dayPlaces
   pub short : m .longest ≤ 6
 
 -- ---- the day rule over a month

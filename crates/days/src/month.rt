@@ -4,6 +4,7 @@ use fields::nurse;
 ghost use mathlib.Core.Path.{_≡_};
 ghost use mathlib.Core.Bool.{cond};
 ghost use Prim.Native.Nat.{ℕ, _+_, _^_, _≤_, _<_};
+ghost use Rattle.fields.specs.Sizes.{dayPlaces};
 ghost use Rattle.numbers.specs.Digits.{numberOf};
 ghost use lib.ListN.{length, getD};
 ghost use Rattle.fields.specs.Fields.{Block, duty};
@@ -76,7 +77,7 @@ fn seven_days(b: &[u64]) -> [u64; 38]
 // Her month by her block of the ward's numbers and her night pattern.
 pub(crate) fn sheet_of(b: &[u64], n: usize, longest: usize, p: u32) -> Sheet
     requires { ⌜ Block (now b) n ⌝ }
-    requires { ⌜ n ≤ 31 ⌝ }
+    requires { ⌜ n ≤ dayPlaces ⌝ }
     ensures { λ r. ⌜ IsSheet (now (b .entry)) n longest p (r .month) (r .row) ⌝ }
 {
     let states = rows::states(b, n, p);

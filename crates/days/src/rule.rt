@@ -4,6 +4,7 @@ use crate::month::in_bounds;
 ghost use mathlib.Core.Path.{_≡_};
 ghost use mathlib.Core.Bool.{cond, not};
 ghost use Prim.Native.Nat.{suc, _≤_, _<_};
+ghost use Rattle.fields.specs.Sizes.{dayPlaces};
 ghost use Rattle.numbers.specs.Range.{upFrom, all};
 ghost use Rattle.numbers.specs.Digits.{has};
 ghost use Rattle.days.specs.Days.{inRun, isRest, alternating, anyOf, same, window, windowsHold, rests};
@@ -115,7 +116,7 @@ pub fn windows_hold(row: &[u64; 38], q: u64, longest: usize, t: usize) -> bool
 
 // The windows that end on the first days of the month, `count` of them.
 pub fn all_windows_hold(row: &[u64; 38], q: u64, longest: usize, count: usize) -> bool
-    requires { ⌜ count ≤ 31 ⌝ }
+    requires { ⌜ count ≤ dayPlaces ⌝ }
     requires { ⌜ longest ≤ 6 ⌝ }
     ensures { λ r. ⌜ r ≡ all (windowsHold (dutyAt (now (row .entry)) q) longest) (upFrom 7 count) ⌝ }
 {
@@ -132,7 +133,7 @@ pub fn all_windows_hold(row: &[u64; 38], q: u64, longest: usize, count: usize) -
 
 // 1 if day d is a rest.
 pub fn rest_on(row: &[u64; 38], q: u64, d: usize) -> u64
-    requires { ⌜ d < 31 ⌝ }
+    requires { ⌜ d < dayPlaces ⌝ }
     ensures { λ r. ⌜ r ≡ restOn (now (row .entry)) q d ⌝ }
     ensures { λ r. ⌜ r ≤ 1 ⌝ }
 {
@@ -144,7 +145,7 @@ pub fn rest_on(row: &[u64; 38], q: u64, d: usize) -> u64
 
 // The rests of a month of n days.
 fn rests_of(row: &[u64; 38], q: u64, n: usize) -> u64
-    requires { ⌜ n ≤ 31 ⌝ }
+    requires { ⌜ n ≤ dayPlaces ⌝ }
     ensures { λ r. ⌜ r ≡ rests (dutyAt (now (row .entry)) q) n ⌝ }
 {
     let mut count: u64 = 0;

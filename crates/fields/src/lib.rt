@@ -6,13 +6,14 @@ pub mod sizes;
 
 ghost use mathlib.Core.Path.{_≡_};
 ghost use Prim.Native.Nat.{_<_, _≤_};
+ghost use Rattle.fields.specs.Sizes.{nursePlaces, dayPlaces, tabuMost};
 ghost use Rattle.fields.specs.Fields as of;
 ghost use Rattle.fields.specs.Fields.{Accepted};
 
 // m
 pub fn nurses(w: &[u64]) -> usize
     requires { ⌜ Accepted (now w) ⌝ }
-    ensures { λ r. ⌜ (r ≡ of.nurses (now (w .entry))) × (r ≤ 48) ⌝ }
+    ensures { λ r. ⌜ (r ≡ of.nurses (now (w .entry))) × (r ≤ nursePlaces) ⌝ }
 {
     w[0] as usize
 }
@@ -20,7 +21,7 @@ pub fn nurses(w: &[u64]) -> usize
 // n
 pub fn days(w: &[u64]) -> usize
     requires { ⌜ Accepted (now w) ⌝ }
-    ensures { λ r. ⌜ (r ≡ of.days (now (w .entry))) × (r ≤ 31) ⌝ }
+    ensures { λ r. ⌜ (r ≡ of.days (now (w .entry))) × (r ≤ dayPlaces) ⌝ }
 {
     w[1] as usize
 }
@@ -36,7 +37,7 @@ pub fn groups(w: &[u64]) -> usize
 // TL
 pub fn tabu(w: &[u64]) -> usize
     requires { ⌜ Accepted (now w) ⌝ }
-    ensures { λ r. ⌜ (r ≡ of.tabu (now (w .entry))) × (r ≤ 64) ⌝ }
+    ensures { λ r. ⌜ (r ≡ of.tabu (now (w .entry))) × (r ≤ tabuMost) ⌝ }
 {
     w[8] as usize
 }

@@ -137,15 +137,15 @@ module _ (P : Phase) where
   grown-part (t ∷ later) earlier g = grown-part later earlier (grown-tail g)
 
 -- of any search whose advances each follow the history
-pub demand3-of : (P : Phase) → Lawful P → {R : Type 0} (start : R) (adv : Call → R → Answer × R) (kept : Record → R)
-    → start ≡ kept (recordOf P [])
-    → ((h : History) → Grown P h → (c : Call) → adv c (kept (recordOf P h)) ≡ ((advance P c h) .0, kept (recordOf P ((advance P c h) .1))))
-    → (cs : List Call) → Demand3 P start adv kept cs
+pub demand3-of : (P : Phase) → Lawful P → {R : Type 0} (start : R) (adv : Call → R → Answer × R) (image : Record → R)
+    → start ≡ image (recordOf P [])
+    → ((h : History) → Grown P h → (c : Call) → adv c (image (recordOf P h)) ≡ ((advance P c h) .0, image (recordOf P ((advance P c h) .1))))
+    → (cs : List Call) → Demand3 P start adv image cs
 unfolding answers history
-demand3-of P w start adv kept e one cs =
+demand3-of P w start adv image e one cs =
     let g = grown-after P cs [] started in
     record {
-      follows = rw e (all-follow P adv (λ h. kept (recordOf P h)) one cs [] started);
+      follows = rw e (all-follow P adv (λ h. image (recordOf P h)) one cs [] started);
       each = turns P cs [];
       steps = λ later s h e. each-least P later s h (rw e at g);
       placed = λ later earlier e. all-placed P w (grown-part P later earlier (rw e at g));

@@ -60,10 +60,10 @@ pub data Turns (P : Phase) : List Call → List Answer → History → History �
       → Went P c h a h′ → Turns P cs l h′ h″ → Turns P (c ∷ cs) (a ∷ l) h h″
 
 -- Demand 3 of a search whose records are of type R: `start` is its fresh record, `advance` what a call answers and hands back for the record that it is handed,
--- and `kept` says how it keeps the record of a history
-pub record Demand3 (P : Phase) {R : Type 0} (start : R) (advance : Call → R → Answer × R) (kept : Record → R) (cs : List Call) : Type 0 where
+-- and `image` says how it holds the record of a history
+pub record Demand3 (P : Phase) {R : Type 0} (start : R) (advance : Call → R → Answer × R) (image : Record → R) (cs : List Call) : Type 0 where
   -- every answer, and the record, equal those of the history
-  pub follows : inTurn advance cs start ≡ (answers P cs, kept (recordOf P (history P cs)))
+  pub follows : inTurn advance cs start ≡ (answers P cs, image (recordOf P (history P cs)))
   -- each advance in turn, from fresh
   pub each : Turns P cs (answers P cs) [] (history P cs)
   -- each step

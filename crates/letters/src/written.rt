@@ -7,7 +7,7 @@ ghost use mathlib.Core.Path.{_≡_};
 ghost use Prim.Native.Nat.{ℕ, suc, _+_, _≤_, _<_};
 ghost use lib.ListN.{getD};
 ghost use lib.Seq.{paste};
-ghost use Rattle.fields.specs.Sizes.{letterPlaces};
+ghost use Rattle.fields.specs.Sizes.{dayPlaces, letterPlaces};
 ghost use Rattle.fields.specs.Fields.{Accepted, Block};
 ghost use Rattle.rows.specs.Rows.{dutyOn};
 ghost use Rattle.letters.specs.Letters.{letter, rowLettersOf};
@@ -21,7 +21,7 @@ pub struct Roster {
 
 // The letters of the row of night pattern p and day pattern q, and 0 after them.
 pub fn row_letters(b: &[u64], n: usize, p: u32, q: u32) -> [u8; DAYS]
-    requires { ⌜ (n ≤ 31) × Block (now b) n ⌝ }
+    requires { ⌜ (n ≤ dayPlaces) × Block (now b) n ⌝ }
     ensures { λ r. ⌜ ((d : ℕ) → d < n → getD r d 0 ≡ letter (dutyOn (now (b .entry)) p q (suc d))) ⌝ }
 {
     let states = rows::states(b, n, p);
@@ -39,7 +39,7 @@ pub fn row_letters(b: &[u64], n: usize, p: u32, q: u32) -> [u8; DAYS]
 impl Roster {
     // With one row more, that of night pattern p and day pattern q.
     fn with_row(self, b: &[u64], n: usize, p: u32, q: u32) -> Roster
-        requires { ⌜ (n ≤ 31) × Block (now b) n × (self .count + n ≤ letterPlaces) ⌝ }
+        requires { ⌜ (n ≤ dayPlaces) × Block (now b) n × (self .count + n ≤ letterPlaces) ⌝ }
         ensures { λ r. ⌜ (r .letters ≡ paste (self .letters) (self .count) (rowLettersOf (now (b .entry)) n p q) n) × (r .count ≡ self .count + n) ⌝ }
     {
         let row = row_letters(b, n, p, q);

@@ -3,6 +3,7 @@ use mathlib.Core.Bool.{Bool, cond, _||_}
 use mathlib.Core.List.{List, [], _∷_, _++_}
 use Prim.Native.Nat.{ℕ, zero, suc, _+_, _-_, _^_, _≤_}
 use lib.Dec.{leb, ltb, eqb}
+use Rattle.fields.specs.Sizes.{dayPlaces}
 use Rattle.fields.specs.declared.rules.Rules.{Rules}
 use Rattle.nightlists.specs.declared.State.{State}
 use Rattle.nightlists.specs.declared.Next.{Next}
@@ -40,5 +41,5 @@ listed r (suc d) a s = listed r d a s ++ onward (startAt r (suc d) s) (λ t. lis
 -- what the walk asks where `left` days are undecided and the others make the number a
 pub record Ready (r : Rules) (left a : ℕ) : Type 0 where
   pub small : SmallRules r
-  pub few-days : left ≤ 31
+  pub few-days : left ≤ dayPlaces
   pub fits : a + 2 ^ left ≤ 2 ^ 32

@@ -7,6 +7,7 @@ ghost use mathlib.Core.Path.{_≡_};
 ghost use mathlib.Core.List.{_++_};
 ghost use Prim.Native.Nat.{ℕ, _≤_, min};
 ghost use lib.ListN.{length, drop};
+ghost use Rattle.fields.specs.Sizes.{dayPlaces};
 ghost use Rattle.fields.specs.CodeRules.{SmallRules};
 ghost use Rattle.nights.specs.Nights.{common};
 ghost use Rattle.nightlists.specs.CodeWalk.{closed, startAt, noneYet, listed, Ready};
@@ -39,7 +40,7 @@ pub(crate) fn is_closed(r: Rules, s: State) -> bool
 
 pub fn start(r: Rules, day: u64, s: State) -> Next
     requires { ⌜ SmallRules r ⌝ }
-    requires { ⌜ day ≤ 31 ⌝ }
+    requires { ⌜ day ≤ dayPlaces ⌝ }
     ensures { λ t. ⌜ t ≡ startAt r day s ⌝ }
 {
     if r.most <= s.count {
@@ -94,7 +95,7 @@ pub fn fresh() -> State
 // How many patterns there are below, but no more than cap.
 fn count(r: Rules, left: u64, s: State, cap: usize) -> usize
     requires { ⌜ SmallRules r ⌝ }
-    requires { ⌜ left ≤ 31 ⌝ }
+    requires { ⌜ left ≤ dayPlaces ⌝ }
     ensures { λ n. ⌜ ((a : ℕ) → n ≡ min cap (length (listed r left a s))) ⌝ }
 {
     if cap == 0 {
@@ -141,7 +142,7 @@ fn fill(r: Rules, left: u64, from: u32, s: State, buf: &mut [u32]) -> usize
 // How many numbers the common list has, but no more than cap.
 pub fn common_count(r: Rules, n: u64, cap: usize) -> usize
     requires { ⌜ SmallRules r ⌝ }
-    requires { ⌜ n ≤ 31 ⌝ }
+    requires { ⌜ n ≤ dayPlaces ⌝ }
     ensures { λ k. ⌜ k ≡ min cap (length (common r n)) ⌝ }
 {
     count(r, n, fresh(), cap)
@@ -150,7 +151,7 @@ pub fn common_count(r: Rules, n: u64, cap: usize) -> usize
 // Writes the common list, by ascending number, from the buffer's start, which has the room.
 pub fn common_fill(r: Rules, n: u64, buf: &mut [u32]) -> usize
     requires { ⌜ SmallRules r ⌝ }
-    requires { ⌜ n ≤ 31 ⌝ }
+    requires { ⌜ n ≤ dayPlaces ⌝ }
     requires { ⌜ length (common r n) ≤ length (now buf) ⌝ }
     ensures { λ k. ⌜ k ≡ length (common r n) ⌝ }
     ensures { λ k. ⌜ now (buf .exit) ≡ common r n ++ drop (length (common r n)) (now (buf .entry)) ⌝ }

@@ -4,6 +4,7 @@ use fields::rules::Rules;
 ghost use mathlib.Core.Path.{_≡_};
 ghost use Prim.Native.Nat.{_+_, _≤_, _<_};
 ghost use lib.ListN.{length};
+ghost use Rattle.fields.specs.Sizes.{dayPlaces};
 ghost use Rattle.fields.specs.Fields.{Accepted, Block, nurses};
 ghost use Rattle.rows.specs.Rows.{marksAllow};
 ghost use Rattle.nights.specs.Nights.{allowed, runWith, follow, starts};
@@ -67,7 +68,7 @@ fn is_allowed(r: Rules, prev: u64, run: u64, s: u64) -> bool
 // Whether the starts of p, each `off` days on, follow the run that ends at `from`.
 pub fn keeps(r: Rules, from: Run, off: u64, n: u64, p: u32) -> bool
     requires { ⌜ SmallRules r ⌝ }
-    requires { ⌜ (n ≤ 31) × (off ≤ 7) × (from .prev ≤ 7) × (from .run ≤ 7) ⌝ }
+    requires { ⌜ (n ≤ dayPlaces) × (off ≤ 7) × (from .prev ≤ 7) × (from .run ≤ 7) ⌝ }
     ensures { λ b. ⌜ b ≡ follow r (from .prev) (from .run) (shifted off (starts n p)) ⌝ }
 {
     let mut prev = from.prev;
@@ -90,7 +91,7 @@ pub fn keeps(r: Rules, from: Run, off: u64, n: u64, p: u32) -> bool
 
 // Whether her marks allow the row that p makes.
 fn marks_allow(table: &[[u8; 4]; 7], b: &[u64], n: u64, p: u32) -> bool
-    requires { ⌜ n ≤ 31 ⌝ }
+    requires { ⌜ n ≤ dayPlaces ⌝ }
     requires { ⌜ Block (now b) n ⌝ }
     ensures { λ r. ⌜ r ≡ marksAllow (now (table .entry)) (now (b .entry)) n p ⌝ }
 {
@@ -111,7 +112,7 @@ fn marks_allow(table: &[[u8; 4]; 7], b: &[u64], n: u64, p: u32) -> bool
 // Whether p is in the list of the nurse with block b.
 fn is_hers_by(table: &[[u8; 4]; 7], r: Rules, n: u64, b: &[u64], p: u32) -> bool
     requires { ⌜ SmallRules r ⌝ }
-    requires { ⌜ n ≤ 31 ⌝ }
+    requires { ⌜ n ≤ dayPlaces ⌝ }
     requires { ⌜ Block (now b) n ⌝ }
     ensures { λ h. ⌜ h ≡ hers (now (table .entry)) r n (now (b .entry)) p ⌝ }
 {

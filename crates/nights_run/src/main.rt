@@ -3,6 +3,7 @@
 use fields::rules::Rules;
 use refusals::Answer;
 ghost use Prim.Native.Nat.{_≤_, _<_};
+ghost use Rattle.fields.specs.Sizes.{dayPlaces};
 ghost use Rattle.fields.specs.Fields.{Accepted, nurses};
 ghost use Rattle.fields.specs.CodeRules.{SmallRules};
 
@@ -19,7 +20,7 @@ fn number(n: u64) {
 // more than its places.
 fn list(r: Rules, n: u64, buf: &mut [u32]) -> usize
     requires { ⌜ SmallRules r ⌝ }
-    requires { ⌜ n ≤ 31 ⌝ }
+    requires { ⌜ n ≤ dayPlaces ⌝ }
 {
     let cap = buf.len();
     let found = nightlists::common_count(r, n, cap + 1);
@@ -33,7 +34,7 @@ fn list(r: Rules, n: u64, buf: &mut [u32]) -> usize
 // starts on days 1 and 2.
 fn show_list(r: Rules, n: u64, buf: &mut [u32]) -> usize
     requires { ⌜ SmallRules r ⌝ }
-    requires { ⌜ n ≤ 31 ⌝ }
+    requires { ⌜ n ≤ dayPlaces ⌝ }
 {
     let found = list(r, n, buf);
     let mut first: u64 = 0;

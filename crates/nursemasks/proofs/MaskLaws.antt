@@ -12,6 +12,7 @@ use lib.Dec.{eqb}
 use lib.ListN.{getD}
 use lib.Pow.{pow-mono, shr-lt}
 use borrow.Author.Tests.{eqb-true, eqb-false, not-false}
+use Rattle.fields.specs.Sizes.{dayPlaces}
 use Rattle.numbers.specs.Range.{upFrom}
 use Rattle.numbers.specs.Sum.{oneIf}
 use Rattle.numbers.specs.Digits.{has, numberOf}
@@ -48,10 +49,10 @@ pub workable-day : (b : List ℕ) (d : ℕ) {mark x : ℕ} {ok : Bool} → mark 
     → x ≡ cond (workable b (suc d)) (2 ^ (d + 1)) 0
 workable-day b d em eo ex = ex ∙ ap (λ (v : Bool). cond v (2 ^ (d + 1)) 0) (eo ∙ ap (λ (m : ℕ). available m 0) em)
 
-pub set-small : (t : ℕ → Bool) (n : ℕ) → n ≤ 31 → numberOf t (suc n) < 2 ^ 32
+pub set-small : (t : ℕ → Bool) (n : ℕ) → n ≤ dayPlaces → numberOf t (suc n) < 2 ^ 32
 set-small t n h = omega (arith, number-lt t (suc n), pow-mono {i = suc n} {j = 32} (omega arith))
 
-pub set-next : (t : ℕ → Bool) (d : ℕ) → d < 31 → numberOf t (d + 1 + 1) < 2 ^ 32
+pub set-next : (t : ℕ → Bool) (d : ℕ) → d < dayPlaces → numberOf t (d + 1 + 1) < 2 ^ 32
 set-next t d h = omega (arith, number-lt t (d + 1 + 1), pow-mono {i = d + 1 + 1} {j = 32} (omega arith))
 
 pub set-has : (t : ℕ → Bool) (n d : ℕ) → d < suc n → has (numberOf t (suc n)) d ≡ t d
@@ -296,18 +297,18 @@ module _ (b : List ℕ) (n p : ℕ) (x : Row) (ok : RowOf b p x) where
         ∙ pick s (λ t. has (numberOf (barred table b t) (suc n)) d) (row-small b p d)
 
     -- none bars it: her marks allow it
-    allowed-there : (e : barring table n b x ≡ 0) (i : ℕ) → n ≤ 31 → i < n → allows table (getD b (11 + i) 0) (rowState b p (suc i)) ≡ true
+    allowed-there : (e : barring table n b x ≡ 0) (i : ℕ) → n ≤ dayPlaces → i < n → allows table (getD b (11 + i) 0) (rowState b p (suc i)) ≡ true
     allowed-there e i small l =
         not-false (allows table (getD b (11 + i) 0) (rowState b p (suc i)))
         (sym (set-has (barred table b (rowState b p (suc i))) n (suc i) (suc-le-suc l))
         ∙ sym (barring-has (suc i) (omega arith)) ∙ ap (λ (y : ℕ). has y (suc i)) e ∙ has-above 0 0 (suc i) (omega arith) (omega arith))
 
-    none-bars : n ≤ 31 → barring table n b x ≡ 0 → marksAllow table b n p ≡ true
+    none-bars : n ≤ dayPlaces → barring table n b x ≡ 0 → marksAllow table b n p ≡ true
     unfolding marksAllow
     none-bars small e = all-range (λ d. allows table (markOn b d) (rowState b p d)) 1 n (λ i l. rw (one-add i) (allowed-there e i small l))
 
     -- and where they do, none bars it
-    barred-not : n ≤ 31 → marksAllow table b n p ≡ true → (d : ℕ) → d < 64 → has (barring table n b x) d ≡ false
+    barred-not : n ≤ dayPlaces → marksAllow table b n p ≡ true → (d : ℕ) → d < 64 → has (barring table n b x) d ≡ false
     unfolding marksAllow
     barred-not small e zero l = barring-has 0 l ∙ set-has (barred table b (rowState b p 0)) n 0 (omega arith)
     barred-not small e (suc i) l = barring-has (suc i) l ∙ go (decLt i n)
@@ -316,7 +317,7 @@ module _ (b : List ℕ) (n p : ℕ) (x : Row) (ok : RowOf b p x) where
         go (yes q) = set-has (barred table b (rowState b p (suc i))) n (suc i) (suc-le-suc q) ∙ ap not (allowed-at table b n p e i q)
         go (no q) = set-above (barred table b (rowState b p (suc i))) n (suc i) (omega arith)
 
-    barring-small : n ≤ 31 → barring table n b x < 2 ^ 64
+    barring-small : n ≤ dayPlaces → barring table n b x < 2 ^ 64
     barring-small small =
         or-lt 64 _ _ (or-lt 64 _ _
         (or-lt 64 _ _ (part ((2 ^ 64 - 1) - bitOr (bitOr (x .night) (x .second)) (x .rest)) 0) (part (x .night) 1))
@@ -325,7 +326,7 @@ module _ (b : List ℕ) (n p : ℕ) (x : Row) (ok : RowOf b p x) where
         part : (y t : ℕ) → bitAnd y (numberOf (barred table b t) (suc n)) < 2 ^ 64
         part y t = omega (arith, and-le-r y (numberOf (barred table b t) (suc n)), set-small (barred table b t) n small)
 
-    pub marks-by-sets : n ≤ 31 → eqb (barring table n b x) 0 ≡ marksAllow table b n p
+    pub marks-by-sets : n ≤ dayPlaces → eqb (barring table n b x) 0 ≡ marksAllow table b n p
     marks-by-sets small = go (eqb (barring table n b x) 0) (marksAllow table b n p) refl refl
       where
         go : (s t : Bool) → eqb (barring table n b x) 0 ≡ s → marksAllow table b n p ≡ t → eqb (barring table n b x) 0 ≡ marksAllow table b n p
@@ -335,7 +336,7 @@ module _ (b : List ℕ) (n p : ℕ) (x : Row) (ok : RowOf b p x) where
 
   -- ---- the days on which she is available
 
-  pub available-by-sets : n ≤ 31 → AvailableDays b n p (bitAnd (numberOf (workable b) (suc n)) ((2 ^ 64 - 1) - bitOr (bitOr (x .night) (x .second)) (x .rest)) / 2)
+  pub available-by-sets : n ≤ dayPlaces → AvailableDays b n p (bitAnd (numberOf (workable b) (suc n)) ((2 ^ 64 - 1) - bitOr (bitOr (x .night) (x .second)) (x .rest)) / 2)
   available-by-sets small = record { within = within; each = each }
     where
       W : ℕ
@@ -356,13 +357,13 @@ module _ (b : List ℕ) (n p : ℕ) (x : Row) (ok : RowOf b p x) where
 -- ---- days on which no pattern of hers starts
 
 -- the days without a start fit a pattern
-pub never-fits : (table : List (List ℕ)) (n : ℕ) (b : List ℕ) {bs : Bars} → bs ≡ barsOf table n b → n ≤ 31 → bitOr (bs .night / 2) (bs .second / 4) < 2 ^ 32
+pub never-fits : (table : List (List ℕ)) (n : ℕ) (b : List ℕ) {bs : Bars} → bs ≡ barsOf table n b → n ≤ dayPlaces → bitOr (bs .night / 2) (bs .second / 4) < 2 ^ 32
 never-fits table n b e small =
     rw e
     (or-lt 32 (numberOf (barred table b 1) (suc n) / 2) (numberOf (barred table b 2) (suc n) / 4)
     (omega (arith, set-small (barred table b 1) n small)) (omega (arith, set-small (barred table b 2) n small)))
 
-module _ (table : List (List ℕ)) (r : Rules) (n p : ℕ) (b : List ℕ) (small : n ≤ 31) (known : inCommon r n p ≡ true) where
+module _ (table : List (List ℕ)) (r : Rules) (n p : ℕ) (b : List ℕ) (small : n ≤ dayPlaces) (known : inCommon r n p ≡ true) where
   night-state : (d : ℕ) → has p d ≡ true → rowState b p (suc d) ≡ 1
   unfolding rowState
   night-state d q = rw q
@@ -421,7 +422,7 @@ module _ (r : Rules) (n p : ℕ) (b : List ℕ) (m : Masks) (is : m ≡ masksOf 
   unfolding masksBy
   masks-row x f = f (ap (λ (k : Masks). k .night) is) (ap (λ (k : Masks). k .second) is)
 
-  pub masks-allow : n ≤ 31 → (x : Row) → RowOf b p x
+  pub masks-allow : n ≤ dayPlaces → (x : Row) → RowOf b p x
       → eqb (bitOr (bitOr (bitOr
       (bitAnd ((2 ^ 64 - 1) - bitOr (bitOr (x .night) (x .second)) (x .rest)) (m .bars .opened))
       (bitAnd (x .night) (m .bars .night)))
@@ -430,7 +431,7 @@ module _ (r : Rules) (n p : ℕ) (b : List ℕ) (m : Masks) (is : m ≡ masksOf 
   unfolding masksBy
   masks-allow small x ok = rw (ap (λ (k : Masks). k .bars) is) (marks-by-sets b n p x ok allowTable small)
 
-  pub masks-available : n ≤ 31 → (x : Row) → RowOf b p x
+  pub masks-available : n ≤ dayPlaces → (x : Row) → RowOf b p x
       → AvailableDays b n p (bitAnd (m .workable) ((2 ^ 64 - 1) - bitOr (bitOr (x .night) (x .second)) (x .rest)) / 2)
   unfolding masksBy
   masks-available small x ok = rw (ap (λ (k : Masks). k .workable) is) (available-by-sets b n p x ok small)
@@ -447,7 +448,7 @@ module _ (table : List (List ℕ)) (r : Rules) (n : ℕ) (b : List ℕ) (bs : Ba
       let days : ne ≡ 2 ^ near r (lastRun b .0) (lastRun b .1) - 1 = e5 ∙ ap₂ (λ (x y : ℕ). 2 ^ near r x y - 1) e6 e7 in
       rw (e1, e2, e3, e4, e8, e9, days, run)
 
-  pub masks-small : n ≤ 31 → (la .prev ≤ 7) × (la .run ≤ 7)
+  pub masks-small : n ≤ dayPlaces → (la .prev ≤ 7) × (la .run ≤ 7)
       → Masked (record { bars = bs; never = bitOr (bs .night / 2) (bs .second / 4); workable = wk; night = ni; second = se; near = ne; last = la; least = lo; most = hi })
   masks-small small (h, k) = record {
     night = rw e3 (omega (arith, one-below (eqb (duty b 6) 2)));

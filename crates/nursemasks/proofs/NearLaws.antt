@@ -10,6 +10,7 @@ use lib.Dec.{leb, eqb}
 use lib.ListN.{length, getD}
 use lib.Pow.{pow-pos}
 use borrow.Author.Tests.{eqb-true, eqb-false, eq-eqb, ne-eqb, le-leb, lt-leb, lt-ltb}
+use Rattle.fields.specs.Sizes.{dayPlaces}
 use Rattle.numbers.specs.Range.{upFrom, keep}
 use Rattle.numbers.specs.Sum.{countTo}
 use Rattle.numbers.specs.Digits.{has}
@@ -147,7 +148,7 @@ module _ (r : Rules) (n p : ℕ) (b : List ℕ) (m : Masks) (is : m ≡ masksOf 
   pub out-marks : marksAllow allowTable b n p ≡ false → false ≡ hers allowTable r n b p
   out-marks e = sym (hers-known r n p b small known ∙ simp (e, and-false))
 
-  pub out-never : n ≤ 31 → (bitAnd p (m .never) ≡ 0 → ⊥) → false ≡ hers allowTable r n b p
+  pub out-never : n ≤ dayPlaces → (bitAnd p (m .never) ≡ 0 → ⊥) → false ≡ hers allowTable r n b p
   unfolding masksBy
   out-never days f = out-marks (marks-never allowTable r n p b days known (λ q. f (ap (λ (x : Masks). bitAnd p (x .never)) is ∙ q)))
 

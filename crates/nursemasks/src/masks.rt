@@ -8,6 +8,7 @@ ghost use mathlib.Core.Bool.{true, cond};
 ghost use mathlib.Core.List.{List};
 ghost use Prim.Native.Nat.{ℕ, suc, _+_, _^_, _≤_, _<_};
 ghost use lib.Dec.{eqb};
+ghost use Rattle.fields.specs.Sizes.{dayPlaces};
 ghost use Rattle.numbers.specs.Digits.{numberOf};
 ghost use Rattle.numbers.specs.Sum.{oneIf};
 ghost use Rattle.fields.specs.Fields.{Accepted, Block, nurses, days, block, duty};
@@ -63,7 +64,7 @@ fn wide(x: u32) -> u64
 
 // The days of the month whose marks bar a state.
 fn barred_days(table: &[[u8; 4]; 7], b: &[u64], n: u64, state: usize) -> u64
-    requires { ⌜ n ≤ 31 ⌝ }
+    requires { ⌜ n ≤ dayPlaces ⌝ }
     requires { ⌜ Block (now b) n ⌝ }
     requires { ⌜ state < 4 ⌝ }
     ensures { λ r. ⌜ r ≡ numberOf (barred (now (table .entry)) (now (b .entry)) state) (suc n) ⌝ }
@@ -80,7 +81,7 @@ fn barred_days(table: &[[u8; 4]; 7], b: &[u64], n: u64, state: usize) -> u64
 
 // The days of the month whose marks let her work them where they are open.
 fn workable_days(b: &[u64], n: u64) -> u64
-    requires { ⌜ n ≤ 31 ⌝ }
+    requires { ⌜ n ≤ dayPlaces ⌝ }
     requires { ⌜ Block (now b) n ⌝ }
     ensures { λ r. ⌜ r ≡ numberOf (workable (now (b .entry))) (suc n) ⌝ }
 {
@@ -95,7 +96,7 @@ fn workable_days(b: &[u64], n: u64) -> u64
 }
 
 fn bars_of(table: &[[u8; 4]; 7], b: &[u64], n: u64) -> Bars
-    requires { ⌜ n ≤ 31 ⌝ }
+    requires { ⌜ n ≤ dayPlaces ⌝ }
     requires { ⌜ Block (now b) n ⌝ }
     ensures { λ r. ⌜ r ≡ barsOf (now (table .entry)) n (now (b .entry)) ⌝ }
 {
@@ -127,7 +128,7 @@ fn near_days(r: Rules, prev: u64, run: u64) -> u64
 // The masks of the nurse with block b.
 fn masks_by(table: &[[u8; 4]; 7], r: Rules, n: u64, b: &[u64]) -> Masks
     requires { ⌜ SmallRules r ⌝ }
-    requires { ⌜ n ≤ 31 ⌝ }
+    requires { ⌜ n ≤ dayPlaces ⌝ }
     requires { ⌜ Block (now b) n ⌝ }
     ensures is { λ m. ⌜ m ≡ masksBy (now (table .entry)) r n (now (b .entry)) ⌝ }
     ensures small { λ m. ⌜ Masked m ⌝ }
@@ -186,7 +187,7 @@ fn row_of(m: Masks, p: u32) -> Row
 // Whether her marks allow the row of p.
 fn marks_pass(m: Masks, p: u32) -> bool
     requires { ⌜ Masked m ⌝ }
-    ensures { λ h. ⌜ ((r : Rules) (n : ℕ) (b : List ℕ) → n ≤ 31 → m ≡ masksOf r n b → h ≡ marksAllow allowTable b n p) ⌝ }
+    ensures { λ h. ⌜ ((r : Rules) (n : ℕ) (b : List ℕ) → n ≤ dayPlaces → m ≡ masksOf r n b → h ≡ marksAllow allowTable b n p) ⌝ }
 {
     let row = row_of(m, p);
     let open = !(row.night | row.second | row.rest);
@@ -200,7 +201,7 @@ fn marks_pass(m: Masks, p: u32) -> bool
 // The days on which she is available under p, as a pattern.
 pub fn available_days(m: Masks, p: u32) -> u32
     requires { ⌜ Masked m ⌝ }
-    ensures { λ q. ⌜ ((r : Rules) (n : ℕ) (b : List ℕ) → n ≤ 31 → m ≡ masksOf r n b → AvailableDays b n p q) ⌝ }
+    ensures { λ q. ⌜ ((r : Rules) (n : ℕ) (b : List ℕ) → n ≤ dayPlaces → m ≡ masksOf r n b → AvailableDays b n p q) ⌝ }
 {
     let row = row_of(m, p);
     let available = m.workable & !(row.night | row.second | row.rest);

@@ -27,7 +27,7 @@ use Rattle.planner.proofs.DemandLaws.{advance-read, advance-without, advance-un
 use Rattle.planner.specs.Demand3.{Rightly, Settled, UnlessRefused, Each}
 use Rattle.pantheryl.specs.Words.{recordWords, wordsOfRecord}
 use Rattle.pantheryl.specs.Answers.{wordsLeft}
-use Rattle.pantheryl.specs.Demand3.{byWords, keptWords, WordsDemanded}
+use Rattle.pantheryl.specs.Demand3.{byWords, asWords, WordsDemanded}
 use Rattle.pantheryl.proofs.BackLaws.{read-back}
 
 -- ---- a record handed back has its declared sizes
@@ -91,7 +91,7 @@ module _ (P : Phase) (fits : Fits P) where
   fresh-words = refl
 
   -- the claim about stored records is one about their words
-  by-words : (cs : List Call) → Demand3 P allZero (advanceStored P) store cs → Demand3 P (replicate recordWords 0) (byWords (advanceStored P)) keptWords cs
+  by-words : (cs : List Call) → Demand3 P allZero (advanceStored P) store cs → Demand3 P (replicate recordWords 0) (byWords (advanceStored P)) asWords cs
   by-words cs d = record {
     follows = ap (inTurn (byWords (advanceStored P)) cs) (sym fresh-words) ∙ in-turn cs allZero fresh-sized
         ∙ ap (λ (x : List Answer × Stored). (x .0, wordsOfRecord (x .1))) (d .follows);
@@ -106,10 +106,10 @@ module _ (phase : List ℕ → Phase) (file w : List ℕ) (reads : readWard file
   abbrev advances : Call → Stored → Answer × Stored
   advances c r = advanceOver phase (readWard file) c r
 
-  from-file : (cs : List Call) → Demand3 (phase w) allZero advances store cs → Demand3 (phase w) (replicate recordWords 0) (byWords advances) keptWords cs
+  from-file : (cs : List Call) → Demand3 (phase w) allZero advances store cs → Demand3 (phase w) (replicate recordWords 0) (byWords advances) asWords cs
   from-file cs d =
       let same = advance-read phase file w reads in
-      subst (λ (adv : Call → Stored → Answer × Stored). Demand3 (phase w) (replicate recordWords 0) (byWords adv) keptWords cs) (sym same)
+      subst (λ (adv : Call → Stored → Answer × Stored). Demand3 (phase w) (replicate recordWords 0) (byWords adv) asWords cs) (sym same)
       (by-words (phase w) fits cs (subst (λ (adv : Call → Stored → Answer × Stored). Demand3 (phase w) allZero adv store cs) same d))
 
 -- a refused advance leaves the words as they were

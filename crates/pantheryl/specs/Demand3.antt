@@ -15,10 +15,10 @@ use Rattle.pantheryl.specs.Answers.{wordsLeft}
 abbrev pub byWords : (Call → Stored → Answer × Stored) → Call → List ℕ → Answer × List ℕ
 byWords advance c words = let a = advance c (recordOfWords words) in (a .0, wordsLeft a words)
 
--- how a record is kept
-abbrev pub keptWords : Record → List ℕ
-keptWords r = wordsOfRecord (store r)
+-- how a record is held
+abbrev pub asWords : Record → List ℕ
+asWords r = wordsOfRecord (store r)
 
 -- For every file of bytes, whether the reader accepts it or not; proofs/DemandLaws shows it.
 abbrev pub WordsDemanded : Type 0
-WordsDemanded = DemandedOf (replicate recordWords 0) (λ file. byWords (advanceNights file)) (λ file nights. byWords (advanceDays file nights)) keptWords
+WordsDemanded = DemandedOf (replicate recordWords 0) (λ file. byWords (advanceNights file)) (λ file nights. byWords (advanceDays file nights)) asWords

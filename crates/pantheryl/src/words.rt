@@ -81,11 +81,12 @@ pub(crate) fn record_of(words: [u32; WORDS]) -> Record
     let patterns = patterns_of(words);
     let placed = flags_of(words);
     let removals = removals_of(words);
+    let steps = words[STEPS_AT];
     Record {
         patterns,
         placed,
         removals,
-        steps: words[STEPS_AT],
+        steps,
     }
 }
 

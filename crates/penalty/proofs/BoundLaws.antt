@@ -7,6 +7,7 @@ use native.Mathlib.Nat.{mul-le-mul, le-trans}
 use native.Mathlib.Omega.{arith}
 use native.Mathlib.Decide.{decLt}
 use lib.ListN.{getD}
+use Rattle.fields.specs.Sizes.{nursePlaces}
 use Rattle.numbers.specs.Sum.{oneIf}
 use Rattle.numbers.specs.Digits.{has}
 use Rattle.numbers.proofs.SumLaws.{sum-add, sum-le, sum-change, count-le}
@@ -18,13 +19,13 @@ use Rattle.penalty.proofs.ColumnLaws.{exchanged-here, exchanged-there}
 -- ---- one duty of one day
 
 -- a group is short of low or above high, and not both
-group-most : (u v low high count : ℕ) → u ≤ 100 → v ≤ 100 → low ≤ high → low ≤ 48 → count ≤ 48 → u * (low - count) + v * (count - high) ≤ 4800
+group-most : (u v low high count : ℕ) → u ≤ 100 → v ≤ 100 → low ≤ high → low ≤ 48 → count ≤ nursePlaces → u * (low - count) + v * (count - high) ≤ 4800
 group-most u v low high count hu hv h p q = go (decLt count low)
   where
     go : Dec (count < low) → u * (low - count) + v * (count - high) ≤ 4800
     go (yes s) =
         let z : count - high ≡ 0 = omega arith in
-        let t : low - count ≤ 48 = omega arith in
+        let t : low - count ≤ nursePlaces = omega arith in
         rw z (omega (arith, mul-le-mul hu t))
     go (no s) =
         let z : low - count ≡ 0 = omega arith in
@@ -37,7 +38,7 @@ module _ (w : List ℕ) (a : Accepted w) (k d : ℕ) (on : ℕ → Bool) (hk : k
       let s : need (needs w d) k - onDuty w on ≤ 48 = omega (arith, a .needs-most d k hd) in
       mul-le-mul (a .weight-most (3 * k) (omega arith)) s
 
-  pub members-le : (g : ℕ) → members w on g ≤ 48
+  pub members-le : (g : ℕ) → members w on g ≤ nursePlaces
   unfolding members
   members-le g = le-trans (count-le (nurses w) (λ i. on i && has (getD (memberSets w) g 0) i)) (a .nurses-most)
 
@@ -79,7 +80,7 @@ module _ (w : List ℕ) (slots : ℕ → Slot) (a : Accepted w) where
       let s = sum-le (days w) 81600 (λ d. shorts d + overs d) (λ d l. duty-most w a 1 d (atDay w slots d) (omega arith) l) in
       omega (arith, s, sum-add (days w) shorts overs, a .days-most)
 
-  pub unplaced-le : unplacedIn w slots ≤ 48
+  pub unplaced-le : unplacedIn w slots ≤ nursePlaces
   unfolding unplacedIn
   unplaced-le = le-trans (count-le (nurses w) (λ i. isNone (slots i))) (a .nurses-most)
 

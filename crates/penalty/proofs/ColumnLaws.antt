@@ -12,6 +12,7 @@ use lib.Dec.{eqb}
 use lib.ListN.{length, getD, set as setAt, length-set, replicate}
 use lib.Seq.{getD-set-same, getD-set-other}
 use borrow.Author.Tests.{ne-eqb, eq-eqb, eqb-true, eqb-false}
+use Rattle.fields.specs.Sizes.{dayPlaces}
 use Rattle.numbers.specs.Sum.{countTo, oneIf}
 use Rattle.numbers.specs.Digits.{has, put}
 use Rattle.numbers.proofs.SumLaws.{sum-ext, sum-cut}
@@ -79,14 +80,14 @@ same-put m i f g on on′ s e l o = record {
 
 -- the first d columns of l are done, the others are as in l₀
 pub record PutUpTo (l₀ l : List ℕ) (i set d : ℕ) : Type 0 where
-  pub long : length l ≡ 31
+  pub long : length l ≡ dayPlaces
   pub done : (e : ℕ) → e < d → PutAt l₀ l i set e
   pub left : (e : ℕ) → d ≤ e → getD l e 0 ≡ getD l₀ e 0
 
-pub put-start : (l : List ℕ) (i set : ℕ) → length l ≡ 31 → PutUpTo l l i set 0
+pub put-start : (l : List ℕ) (i set : ℕ) → length l ≡ dayPlaces → PutUpTo l l i set 0
 put-start l i set h = record { long = h; done = λ e q. absurd (not-suc-le-zero q); left = λ e q. refl }
 
-pub put-turn : (l₀ l : List ℕ) (i set d a : ℕ) {x : Bool} → PutUpTo l₀ l i set d → d < 31 → x ≡ has set d → has a ≡ put (has (getD l d 0)) i x
+pub put-turn : (l₀ l : List ℕ) (i set d a : ℕ) {x : Bool} → PutUpTo l₀ l i set d → d < dayPlaces → x ≡ has set d → has a ≡ put (has (getD l d 0)) i x
     → PutUpTo l₀ (setAt l d a) i set (d + 1)
 put-turn l₀ l i set d a {x} p h ex ea = record {
   long = length-set l d a ∙ p .long;

@@ -6,6 +6,7 @@ use Prim.Native.Nat.{ℕ, _+_, _-_, _*_, _≤_, _<_}
 use native.Mathlib.Nat.{zero-mul, zero-add}
 use native.Mathlib.Omega.{arith}
 use lib.ListN.{length, getD}
+use Rattle.fields.specs.Sizes.{nursePlaces, dayPlaces}
 use Rattle.numbers.specs.Sum.{sumTo, Is}
 use Rattle.numbers.specs.Digits.{has}
 use Rattle.numbers.proofs.SumLaws.{sum-ext, sum-add, sum-none, loop-start, loop-turn}
@@ -106,7 +107,7 @@ module _ (which : Search) (w nights worked : List ℕ) (n u : ℕ) where
     unplaced-is = h .unplaced-is;
   }
 
-  pub month-bounded : {d : ℕ} {p : Penalty} → MonthSums which w nights worked n d u p → n ≤ 31 → u ≤ 48 → Bounded p
+  pub month-bounded : {d : ℕ} {p : Penalty} → MonthSums which w nights worked n d u p → n ≤ dayPlaces → u ≤ nursePlaces → Bounded p
   month-bounded h l m = record {
     short-most = omega (arith, h .short-sum .most, h .inside);
     over-most = omega (arith, h .over-sum .most, h .inside);

@@ -4,6 +4,7 @@ use mathlib.Core.Bool.{Bool, _&&_}
 use mathlib.Core.List.{List}
 use Prim.Native.Nat.{ℕ, _+_, _-_, _*_, _≤_}
 use lib.ListN.{length, getD}
+use Rattle.fields.specs.Sizes.{nursePlaces}
 use Rattle.history.specs.declared.Search.{Search}
 use Rattle.history.specs.declared.Search.the-variants.{Nights, Days}
 use Rattle.numbers.specs.Sum.{sumTo, countTo, Is}
@@ -94,4 +95,4 @@ overAt which w night day d = overWith which w d (getD night d 0) (getD day d 0)
 pub record Bounded (p : Penalty) : Type 0 where
   pub short-most : p .short ≤ 5059200
   pub over-most : p .over ≤ 3224000
-  pub unplaced-most : p .unplaced ≤ 48
+  pub unplaced-most : p .unplaced ≤ nursePlaces

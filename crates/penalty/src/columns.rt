@@ -1,6 +1,7 @@
 // The columns of a month: who counts at night and by day, nurse i as bit i.
 use fields::sizes::DAYS;
 ghost use Prim.Native.Nat.{_<_, _≤_};
+ghost use Rattle.fields.specs.Sizes.{dayPlaces};
 ghost use Rattle.penalty.specs.CodeColumns.{Empty, NursePut};
 
 pub struct Columns {
@@ -21,7 +22,7 @@ impl Columns {
 
     // The columns of n days with nurse i's nights and available days.
     pub fn with_nurse(self, n: usize, i: usize, nights: u32, available: u32) -> Columns
-        requires { ⌜ (n ≤ 31) × (i < 64) ⌝ }
+        requires { ⌜ (n ≤ dayPlaces) × (i < 64) ⌝ }
         ensures { λ r. ⌜ NursePut self r n i nights available ⌝ }
     {
         let mut next = self;

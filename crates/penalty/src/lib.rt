@@ -8,6 +8,7 @@ use duty::Duty;
 use history::Search;
 ghost use mathlib.Core.Path.{_≡_};
 ghost use Prim.Native.Nat.{ℕ, _<_, _≤_};
+ghost use Rattle.fields.specs.Sizes.{nursePlaces};
 ghost use Rattle.fields.specs.Fields.{Accepted, days};
 ghost use Rattle.history.specs.declared.Search.the-variants.{Nights, Days};
 ghost use Rattle.history.specs.Slot.{Slot};
@@ -87,7 +88,7 @@ fn on_day(w: &[u64], d: usize, night: u64, day: u64, search: Search) -> Duty
 
 // The penalty of columns, by night or by day.
 pub fn parts(w: &[u64], cols: Columns, unplaced: u64, search: Search) -> Penalty
-    requires { ⌜ Accepted (now w) × (unplaced ≤ 48) ⌝ }
+    requires { ⌜ Accepted (now w) × (unplaced ≤ nursePlaces) ⌝ }
     ensures bounded { λ r. ⌜ Bounded r ⌝ }
     ensures parts { λ r. ⌜ ((slots : ℕ → Slot) → Shows search (now (w .entry)) slots cols → unplaced ≡ unplacedIn (now (w .entry)) slots →
         partsOf r ≡ partsIn search (now (w .entry)) slots) ⌝ }

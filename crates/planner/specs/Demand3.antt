@@ -52,20 +52,20 @@ Each Q [] = Unit
 Each Q (a ∷ l) = Q a × Each Q l
 
 -- Below, a search keeps its records as values of type R: `start` is its fresh record, `by-night` and `by-day` are its advances over the file, by day over
--- a choice of nights, and `kept` says how it keeps the record of a history. The planner's own calls keep `search::Record`; C keeps words.
+-- a choice of nights, and `image` says how it holds the record of a history: the planner's own calls as `search::Record`, C as words.
 
 -- a list of day advances over the file of the ward w and one choice of nights
-pub record DayDemand (file w nights : List ℕ) {R : Type 0} (start : R) (advance : Call → R → Answer × R) (kept : Record → R) (cs : List Call) : Type 0 where
-  pub claim : Demand3 (dayPhase w (nightOf nights)) start advance kept cs
+pub record DayDemand (file w nights : List ℕ) {R : Type 0} (start : R) (advance : Call → R → Answer × R) (image : Record → R) (cs : List Call) : Type 0 where
+  pub claim : Demand3 (dayPhase w (nightOf nights)) start advance image cs
   pub rosters : Each (Rightly file) (inTurn advance cs start .0)
   pub settled : Each (UnlessRefused (Settled w (nightOf nights))) (inTurn advance cs start .0)
 
 -- both searches over the file of the ward w: where every nurse has a pattern, and where some nurse has none
 pub record Demand (file w : List ℕ) {R : Type 0} (start : R) (by-night : Call → R → Answer × R) (by-day : List ℕ → Call → R → Answer × R)
-    (kept : Record → R) : Type 0 where
-  pub nights : NightPatterns w → (cs : List Call) → Demand3 (nightPhase w) start by-night kept cs
+    (image : Record → R) : Type 0 where
+  pub nights : NightPatterns w → (cs : List Call) → Demand3 (nightPhase w) start by-night image cs
   pub no-nights : Refusing (nightPhase w) start by-night
-  pub days : (nights : List ℕ) → DayPatterns w (nightOf nights) → (cs : List Call) → DayDemand file w nights start (by-day nights) kept cs
+  pub days : (nights : List ℕ) → DayPatterns w (nightOf nights) → (cs : List Call) → DayDemand file w nights start (by-day nights) image cs
   pub no-days : (nights : List ℕ) → Refusing (dayPhase w (nightOf nights)) start (by-day nights)
 
 -- a file that the reader refuses: so is every advance over it, with the same question and place
@@ -75,8 +75,8 @@ pub record Unread {R : Type 0} (start : R) (by-night : Call → R → Answer × 
 
 -- For every file of bytes, whether the reader accepts it or not.
 pub record DemandedOf {R : Type 0} (start : R) (by-night : List ℕ → Call → R → Answer × R) (by-day : List ℕ → List ℕ → Call → R → Answer × R)
-    (kept : Record → R) : Type 0 where
-  pub accepted : (file w : List ℕ) → ((i : ℕ) → getD file i 0 < 256) → readWard file ≡ good w → Demand file w start (by-night file) (by-day file) kept
+    (image : Record → R) : Type 0 where
+  pub accepted : (file w : List ℕ) → ((i : ℕ) → getD file i 0 < 256) → readWard file ≡ good w → Demand file w start (by-night file) (by-day file) image
   pub unread : (file : List ℕ) (n : Refusal) → readWard file ≡ bad n → Unread start (by-night file) (by-day file) n
 
 -- of the published calls; proofs/DemandLaws shows it

@@ -1,5 +1,6 @@
 // Plans the ward on standard input: 1,000 steps in each phase with 16,384 places. Prints nurse and row, then the night and the
 // day steps; or what is left, with the phase, its penalty and its steps; or the question that refused and its place.
+use fields::sizes::NURSES;
 use planner::Outcome;
 use refusals::Answer;
 use refusals::Refusal;
@@ -34,16 +35,16 @@ fn show_row(nurse: u64, row: &[u8]) {
 
 // The letters in rows of n.
 fn show_rows(letters: &[u8], n: usize) {
-    let mut nurse: u64 = 1;
+    let mut nurse: usize = 1;
     let mut at: usize = 0;
     while at < letters.len() {
-        if 48 < nurse {
+        if NURSES < nurse {
             return;
         }
         if letters.len() - at < n {
             return;
         }
-        show_row(nurse, &letters[at..at + n]);
+        show_row(nurse as u64, &letters[at..at + n]);
         at += n;
         nurse += 1;
     }
@@ -74,7 +75,7 @@ fn show_roster(file: &[u8], letters: &[u8], count: usize, nights: u32, days: u32
     io::write_all(1, b"\n");
 }
 
-fn plan_days(file: &[u8], nights: &[u32; 48], made: u32, buffer: &mut [u32]) {
+fn plan_days(file: &[u8], nights: &[u32; NURSES], made: u32, buffer: &mut [u32]) {
     let x = planner::advance_days(Record::fresh(), file, nights, 1000, buffer);
     let end = x.outcome;
     match end {

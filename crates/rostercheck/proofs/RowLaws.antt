@@ -10,6 +10,7 @@ use lib.Dec.{eqb}
 use lib.Pow.{pow-lt}
 use lib.ListN.{length, getD, take, drop, length-drop}
 use lib.Seq.{length-take-le, getD-take, getD-drop, ext-getD}
+use Rattle.fields.specs.Sizes.{dayPlaces}
 use Rattle.numbers.specs.Range.{upFrom, all}
 use Rattle.numbers.specs.Digits.{has}
 use Rattle.numbers.proofs.RangeLaws.{and-parts, range-all, range-each, all-more, all-stop, all-end}
@@ -131,7 +132,7 @@ module _ (roster : List ℕ) (at c : ℕ) where
     unfolding lettersIn
     read-more h = ap₂ (λ (a b : ℕ). a + b) e h ∙ sym (number-suc (λ j. eqb (getD roster (at + j) 0) c) d)
 
-    pub read-fits : {y : ℕ} → d < 31 → y ≡ cond (eqb (getD roster (at + d) 0) c) (2 ^ d) 0 → x + y < 4294967296
+    pub read-fits : {y : ℕ} → d < dayPlaces → y ≡ cond (eqb (getD roster (at + d) 0) c) (2 ^ d) 0 → x + y < 4294967296
     unfolding lettersIn
     read-fits {y} h p =
         let a : 2 ^ d < 2 ^ 31 = pow-lt h in

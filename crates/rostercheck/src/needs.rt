@@ -4,6 +4,7 @@ ghost use mathlib.Core.Path.{_≡_};
 ghost use mathlib.Core.Bool.{_&&_};
 ghost use Prim.Native.Nat.{_+_, _*_, _<_, _≤_};
 ghost use lib.ListN.{length};
+ghost use Rattle.fields.specs.Sizes.{nursePlaces, dayPlaces};
 ghost use Rattle.numbers.specs.Digits.{has};
 ghost use Rattle.fields.specs.Fields.{Accepted, nurses, days};
 ghost use Rattle.penalty.specs.CodeColumns.{Same};
@@ -13,7 +14,7 @@ ghost use Rattle.rostercheck.specs.CodeBounds.{boundsHold, allBoundsHold
 
 // The nurses with this letter on the day of index d.
 fn column(roster: &[u8], m: usize, n: usize, d: usize, c: u8) -> u64
-    requires { ⌜ (m ≤ 48) × (n ≤ 31) × (d < n) × (length (now roster) ≡ m * n) ⌝ }
+    requires { ⌜ (m ≤ nursePlaces) × (n ≤ dayPlaces) × (d < n) × (length (now roster) ≡ m * n) ⌝ }
     ensures { λ r. ⌜ Same m (has r) (lettered (now (roster .entry)) n d c) ⌝ }
 {
     let mut col: u64 = 0;

@@ -3,6 +3,7 @@ ghost use mathlib.Core.Path.{_≡_};
 ghost use mathlib.Core.Bool.{cond};
 ghost use Prim.Native.Nat.{_+_, _*_, _^_, _<_, _≤_};
 ghost use lib.ListN.{length};
+ghost use Rattle.fields.specs.Sizes.{dayPlaces};
 ghost use Rattle.fields.specs.Fields.{Accepted, Block, nurses, days};
 ghost use Rattle.rostercheck.specs.CodeCheck.{lettersIn, sameRow, rowHolds, rowsHold};
 
@@ -19,7 +20,7 @@ fn day_if(on: bool, d: u64) -> u32
 
 // The days with this letter in the row that begins at `at`.
 fn days_with(roster: &[u8], at: usize, n: u64, c: u8) -> u32
-    requires { ⌜ (n ≤ 31) × (at + n ≤ length (now roster)) ⌝ }
+    requires { ⌜ (n ≤ dayPlaces) × (at + n ≤ length (now roster)) ⌝ }
     ensures { λ r. ⌜ r ≡ lettersIn (now (roster .entry)) at c n ⌝ }
 {
     let mut set: u32 = 0;
@@ -33,7 +34,7 @@ fn days_with(roster: &[u8], at: usize, n: u64, c: u8) -> u32
 
 // Whether the row that begins at `at` has the letters of night pattern p and day pattern q.
 fn same_row(b: &[u64], n: u64, roster: &[u8], at: usize, p: u32, q: u32) -> bool
-    requires { ⌜ (n ≤ 31) × Block (now b) n × (at + n ≤ length (now roster)) ⌝ }
+    requires { ⌜ (n ≤ dayPlaces) × Block (now b) n × (at + n ≤ length (now roster)) ⌝ }
     ensures { λ r. ⌜ r ≡ sameRow (now (b .entry)) n (now (roster .entry)) at p q ⌝ }
 {
     let row = letters::written::row_letters(b, n as usize, p, q);

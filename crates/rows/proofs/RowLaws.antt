@@ -9,6 +9,7 @@ use native.Mathlib.Omega.{arith}
 use borrow.Author.Tests.{ne-eqb}
 use lib.Dec.{eqb}
 use lib.ListN.{length, getD, set, length-set, replicate}
+use Rattle.fields.specs.Sizes.{dayPlaces}
 use Rattle.numbers.specs.Range.{upFrom, all}
 use Rattle.numbers.specs.Digits.{has}
 use Rattle.numbers.proofs.RangeLaws.{range-turn, range-done}
@@ -45,11 +46,11 @@ state-small b p d = go (has p d) (eqb (rowState b p d) 1) (eqb (rowState b p d) 
 -- the states of the first d days
 pub record StatesAt (b : List ℕ) (p n d state : ℕ) (states : List ℕ) : Type 0 where
   pub at-most : d ≤ n
-  pub long : length states ≡ 31
+  pub long : length states ≡ dayPlaces
   pub state-is : state ≡ rowState b p d
   pub are : (e : ℕ) → e < d → getD states e 0 ≡ rowState b p (suc e)
 
-pub states-start : (b : List ℕ) (p n : ℕ) {last state : ℕ} → last ≡ duty b 6 → state ≡ dayZero last → StatesAt b p n 0 state (replicate 31 0)
+pub states-start : (b : List ℕ) (p n : ℕ) {last state : ℕ} → last ≡ duty b 6 → state ≡ dayZero last → StatesAt b p n 0 state (replicate dayPlaces 0)
 states-start b p n l s = record {
   at-most = omega arith;
   long = refl;
@@ -57,7 +58,7 @@ states-start b p n l s = record {
   are = λ e h. absurd (omega arith);
 }
 
-pub states-turn : (b : List ℕ) (p n d : ℕ) {state next : ℕ} {states : List ℕ} {on : Bool} → StatesAt b p n d state states → n ≤ 31 → d < n → on ≡ has p d
+pub states-turn : (b : List ℕ) (p n d : ℕ) {state next : ℕ} {states : List ℕ} {on : Bool} → StatesAt b p n d state states → n ≤ dayPlaces → d < n → on ≡ has p d
     → next ≡ stateAfter state on → StatesAt b p n (d + 1) next (set states d next)
 states-turn b p n d {next = next} {states} m few h o s =
     let there : next ≡ rowState b p (d + 1) = s ∙ ap₂ stateAfter (m .state-is) o ∙ sym (row-turn b p d) in

@@ -4,6 +4,7 @@ use fields::sizes::DAYS;
 ghost use mathlib.Core.Path.{_≡_};
 ghost use Prim.Native.Nat.{ℕ, suc, _≤_, _<_};
 ghost use lib.ListN.{length, getD};
+ghost use Rattle.fields.specs.Sizes.{dayPlaces};
 ghost use Rattle.rows.specs.Rows.{allowTable, allows, stateAfter, dayZero, rowState, available, dutyOf};
 
 // What each mark allows, by the day's state: O, N, n, R.
@@ -65,7 +66,7 @@ fn day_zero(duty: u64) -> usize
 
 // The state of every day of a month of n days under night pattern p, and 0 after them.
 pub fn states(b: &[u64], n: usize, p: u32) -> [usize; DAYS]
-    requires { ⌜ (n ≤ 31) × (7 ≤ length (now b)) ⌝ }
+    requires { ⌜ (n ≤ dayPlaces) × (7 ≤ length (now b)) ⌝ }
     ensures are { λ r. ⌜ ((d : ℕ) → d < n → getD r d 0 ≡ rowState (now (b .entry)) p (suc d)) ⌝ }
     ensures small { λ r. ⌜ ((d : ℕ) → d < n → getD r d 0 < 4) ⌝ }
 {

@@ -9,7 +9,7 @@ use lib.Dec.{eqb}
 use lib.Pow.{pow-mono}
 use lib.ListN.{length, getD, take}
 use borrow.Author.Tests.{lt-ltb}
-use Rattle.fields.specs.Sizes.{nursePlaces, tabuMost}
+use Rattle.fields.specs.Sizes.{nursePlaces, dayPlaces, tabuMost}
 use Rattle.numbers.specs.Sum.{countTo, oneIf, Is}
 use Rattle.numbers.specs.Digits.{numberOf}
 use Rattle.numbers.proofs.SumLaws.{sum-ext}
@@ -57,10 +57,10 @@ module _ (t : ℕ → Bool) (d : ℕ) {s : ℕ} (e : s ≡ numberOf t d) where
   pub set-no : t d ≡ false → s ≡ numberOf t (d + 1)
   set-no b = e ∙ sym (number-suc t d ∙ rw b (add-zero _))
 
-  pub set-fits : {x : ℕ} → x ≡ 2 ^ d → d < 31 → s + x < 2 ^ 32
+  pub set-fits : {x : ℕ} → x ≡ 2 ^ d → d < dayPlaces → s + x < 2 ^ 32
   set-fits {x} q l =
       let a : numberOf t d < 2 ^ d = number-lt t d in
-      let k : d ≤ 31 = omega arith in
+      let k : d ≤ dayPlaces = omega arith in
       let b : 2 ^ d ≤ 2 ^ 31 = pow-mono k in
       omega arith
 
@@ -70,7 +70,7 @@ agree-at w r slots i a l = a i l
 
 -- ---- a slot's pattern
 
-pub block-of : (w : List ℕ) (i : ℕ) {b : List ℕ} {n : ℕ} → Accepted w → i < nurses w → b ≡ block w i → (n ≡ days w) × (n ≤ 31) → Block b n × (n ≤ 31)
+pub block-of : (w : List ℕ) (i : ℕ) {b : List ℕ} {n : ℕ} → Accepted w → i < nurses w → b ≡ block w i → (n ≡ days w) × (n ≤ dayPlaces) → Block b n × (n ≤ dayPlaces)
 block-of w i {b} a l e q = (block-as w i a l e (q .0), q .1)
 
 module _ (w : List ℕ) (r : Stored) (i : ℕ) where
@@ -96,9 +96,9 @@ module _ (w : List ℕ) (r : Stored) (i : ℕ) (cols : Columns) (slots : ℕ →
       (day-more w slots i cols c (subst (λ (b : Search). Shown b w slots i cols) d s) (q ∙ ap (λ (b : Search). patternFor b w i (slotAt r i)) d ∙ ap (workedIn w i) (sym a))
       (subst (λ (k : ℕ). NursePut cols c k i 0 p) e x))
 
-  pub row-night : (which : Search) {p n f : ℕ} {c : Columns} {m : Masks} → which ≡ Nights → n ≡ days w → days w ≤ 31 → p ≡ patternFor which w i (slotAt r i)
+  pub row-night : (which : Search) {p n f : ℕ} {c : Columns} {m : Masks} → which ≡ Nights → n ≡ days w → days w ≤ dayPlaces → p ≡ patternFor which w i (slotAt r i)
       → m ≡ masksOf (rulesOf w) (days w) (block w i)
-      → ((k : ℕ) (b : List ℕ) → k ≤ 31 → m ≡ masksOf (rulesOf w) k b → AvailableDays b k p f)
+      → ((k : ℕ) (b : List ℕ) → k ≤ dayPlaces → m ≡ masksOf (rulesOf w) k b → AvailableDays b k p f)
       → NursePut cols c n i p f → slots i ≡ slotAt r i → Shown which w slots i cols → Shown which w slots (i + 1) c
   row-night which {p} {n} {f} {c} d e l q em av x a s =
       subst (λ (b : Search). Shown b w slots (i + 1) c) (sym d)
@@ -158,7 +158,7 @@ pub trial-costs : {t : List ℕ} (nights available : ℕ) {x r : ℕ} (others : 
 trial-costs nights available others y f = ap (λ (z : ℕ). z + 10000000 * others) (f (y .0) (y .1) (y .2) (y .3) ∙ y .4)
 
 pub night-costs : {w list : List ℕ} {masks : Masks} {t : List ℕ} {others tl i : ℕ} (n : NightsNeeds w list masks t others tl i) (p : ℕ) {cost : ℕ → ℕ} {available r : ℕ}
-    → NightTrials w i t cost → ((k : ℕ) (b : List ℕ) → k ≤ 31 → masks ≡ masksOf (rulesOf w) k b → AvailableDays b k p available)
+    → NightTrials w i t cost → ((k : ℕ) (b : List ℕ) → k ≤ dayPlaces → masks ≡ masksOf (rulesOf w) k b → AvailableDays b k p available)
     → ((c : Costs) (k : ℕ) → SmallCosts c k → Chunks c t → r ≡ trialOf c k p available) → r + 10000000 * others ≡ cost p + 10000000 * others
 night-costs {w} {others = others} {i = i} n p {available = available} y av f =
     trial-costs p available others (y .started p available (av (days w) (block w i) (n .ward .days-most) (n .masks-are) .each)) f

@@ -84,15 +84,17 @@ impl Record {
         requires { ⌜ nurse < nursePlaces ⌝ }
         ensures { λ r. ⌜ r ≡ removalBy self nurse ⌝ }
     {
+        let number = nurse as u32 + 1;
         if self.placed[nurse] {
+            let pattern = self.patterns[nurse];
             return Removal {
-                nurse: nurse as u32 + 1,
+                nurse: number,
                 has: true,
-                pattern: self.patterns[nurse],
+                pattern,
             };
         }
         Removal {
-            nurse: nurse as u32 + 1,
+            nurse: number,
             has: false,
             pattern: 0,
         }

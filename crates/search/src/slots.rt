@@ -8,7 +8,7 @@ ghost use mathlib.Core.Bool.{false, not};
 ghost use Prim.Native.Nat.{ℕ, suc, _+_, _≤_, _<_};
 ghost use lib.Dec.{eqb};
 ghost use lib.ListN.{getD};
-ghost use Rattle.fields.specs.Sizes.{nursePlaces};
+ghost use Rattle.fields.specs.Sizes.{nursePlaces, dayPlaces};
 ghost use Rattle.numbers.specs.Sum.{countTo, Is};
 ghost use Rattle.numbers.specs.Digits.{numberOf};
 ghost use Rattle.fields.specs.Fields.{Accepted, Block, nurses, markOn};
@@ -19,7 +19,7 @@ ghost use Rattle.search.specs.CodeSeek.{costOf, patternFor, Agree};
 
 // The days with this mark, as a set.
 fn marked_days(b: &[u64], n: usize, mark: u64) -> u32
-    requires { ⌜ Block (now b) n × (n ≤ 31) ⌝ }
+    requires { ⌜ Block (now b) n × (n ≤ dayPlaces) ⌝ }
     ensures { λ r. ⌜ r ≡ numberOf (λ d. eqb (markOn (now (b .entry)) (suc d)) mark) n ⌝ }
 {
     let mut set: u32 = 0;

@@ -10,6 +10,7 @@ use native.Mathlib.Omega.{arith}
 use lib.ListN.{getD, set, length-set, replicate}
 use native.Mathlib.Decide.{decLt}
 use lib.Seq.{getD-set-same, getD-set-other}
+use Rattle.fields.specs.Sizes.{dayPlaces}
 use Rattle.numbers.specs.Sum.{Is}
 use Rattle.numbers.specs.Digits.{has, put}
 use Rattle.numbers.proofs.SumLaws.{sum-ext, sum-add}
@@ -74,7 +75,7 @@ entries-as which b w d i night day {r} e h = subst (λ (x : Search). Entries x w
 fill-start : (f : ℕ → ℕ) (b : ℕ) → Filled (replicate 33 0) f b 0
 fill-start f b = record { long = refl; done = λ e q. absurd (not-suc-le-zero q); left = λ e q. zeros 33 e }
 
-fill-turn : (l : List ℕ) (f : ℕ → ℕ) (b d : ℕ) {x : ℕ} → Filled l f b d → d < 31 → Is x (f d) b → Filled (set l d x) f b (d + 1)
+fill-turn : (l : List ℕ) (f : ℕ → ℕ) (b d : ℕ) {x : ℕ} → Filled l f b d → d < dayPlaces → Is x (f d) b → Filled (set l d x) f b (d + 1)
 fill-turn l f b d {x} p h k = record {
   long = length-set l d x ∙ p .long;
   done = λ e q. ⊎-elim (λ s. here e s) (λ s. there e s) (eq-or-lt-of-le (le-of-suc-le-suc (rw add-one at q)));
@@ -110,11 +111,11 @@ module _ (which : Search) (w : List ℕ) (c : Columns) (i n : ℕ) where
   pub table-start : Table which w c i n 0 (record { night = replicate 33 0; available = replicate 33 0; none = replicate 33 0 })
   table-start = record { inside = omega arith; nights = fill-start _ _; frees = fill-start _ _; nones = fill-start _ _ }
 
-  pub table-turn : (d : ℕ) (t : Costs) {r : Three} → Table which w c i n d t → d < n → n ≤ 31 → Entries which w d i (getD (c .night) d 0) (getD (c .day) d 0) r
+  pub table-turn : (d : ℕ) (t : Costs) {r : Three} → Table which w c i n d t → d < n → n ≤ dayPlaces → Entries which w d i (getD (c .night) d 0) (getD (c .day) d 0) r
       → Table which w c i n (d + 1) (record { night = set (t .night) d (r .night); available = set (t .available) d (r .available); none = set (t .none) d (r .none) })
   unfolding entryAt
   table-turn d t k l m r =
-      let low : d < 31 = omega arith in
+      let low : d < dayPlaces = omega arith in
       record {
         inside = omega arith;
         nights = fill-turn _ _ _ _ (k .nights) low (r .at-night);
@@ -127,7 +128,7 @@ all-zero true b h k l = h
 all-zero false true h k l = k
 all-zero false false h k l = l
 
-pub table-small : (which : Search) (w : List ℕ) (c : Columns) (i : ℕ) (t : Costs) {n d m : ℕ} → Table which w c i n d t → n ≤ d → n ≡ m → m ≤ 31 → SmallCosts t m
+pub table-small : (which : Search) (w : List ℕ) (c : Columns) (i : ℕ) (t : Costs) {n d m : ℕ} → Table which w c i n d t → n ≤ d → n ≡ m → m ≤ dayPlaces → SmallCosts t m
 unfolding trialAt
 table-small which w c i t {n} {d} {m} k l e q = record {
   at-most = q;

@@ -4,6 +4,7 @@ use mathlib.Core.Bool.{cond}
 use mathlib.Core.List.{List}
 use Prim.Native.Nat.{ℕ, _+_, _*_, _/_, _%_, _≤_, _<_}
 use lib.ListN.{getD}
+use Rattle.fields.specs.Sizes.{dayPlaces}
 use Rattle.numbers.specs.Sum.{sumTo, Is}
 use Rattle.numbers.specs.Digits.{has}
 use Rattle.fields.specs.Fields.{days}
@@ -24,7 +25,7 @@ trialOf c n nights available = sumTo n (trialAt c nights available)
 
 -- the table of n days: entries small enough to be added up, and 0 past the month
 pub record SmallCosts (c : Costs) (n : ℕ) : Type 0 where
-  pub at-most : n ≤ 31
+  pub at-most : n ≤ dayPlaces
   pub night-small : (d : ℕ) → getD (c .night) d 0 ≤ 371200
   pub available-small : (d : ℕ) → getD (c .available) d 0 ≤ 371200
   pub none-small : (d : ℕ) → getD (c .none) d 0 ≤ 371200

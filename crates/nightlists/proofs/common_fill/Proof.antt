@@ -1,6 +1,7 @@
 -- `nightlists::common_fill` meets its contract.
 use native.Mathlib.Omega.{arith}
 use lib.Pow.{pow-mono}
+use Rattle.fields.specs.Sizes.{dayPlaces}
 use Rattle.nightlists.proofs.CommonLaws.{walk-from}
 use borrow.Author.Needs.{needs}
 use Rattle.nightlists.proofs.common_fill.Statement.{statement}
@@ -16,7 +17,7 @@ fill-requires c κs =
     let s = start .args in
     let pre = start .pre in
     let is = walk-from (s .r) (s .n) (pre .0 .longest) _ (begins .fresh .ensures) in
-    (record { small = pre .0; few-days = pre .1 .0; fits = omega (arith, pow-mono {i = s .n} {j = 31} (pre .1 .0)) }, rw is (pre .1 .1))
+    (record { small = pre .0; few-days = pre .1 .0; fits = omega (arith, pow-mono {i = s .n} {j = dayPlaces} (pre .1 .0)) }, rw is (pre .1 .1))
 
 same-length : tie.Need-same-length
 same-length c = search needs

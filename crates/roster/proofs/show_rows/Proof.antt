@@ -1,15 +1,16 @@
 -- `roster::show_rows` keeps within its letters: each turn prints one nurse.
 use borrow.Author.Needs.{needs}
-use Prim.Native.Nat.{_≤_, _-_}
+use Prim.Native.Nat.{_+_, _≤_, _-_}
 use lib.ListN.{length}
+use Rattle.fields.specs.Sizes.{nursePlaces}
 use Rattle.roster.proofs.show_rows.Statement.{statement}
 use Rattle.roster.proofs.show_rows.Tie as tie
 
 abbrev Inv-loop : tie.InvT-loop
-Inv-loop letters n nurse₀ at₀ nurse at = (at ≤ length letters) × (nurse ≤ 49)
+Inv-loop letters n nurse₀ at₀ nurse at = (at ≤ length letters) × (nurse ≤ nursePlaces + 1)
 
 abbrev μ-loop : tie.MeasureT-loop
-μ-loop letters n nurse₀ at₀ nurse at = 49 - nurse
+μ-loop letters n nurse₀ at₀ nurse at = nursePlaces + 1 - nurse
 
 loop-holds : tie.Need-loop-holds Inv-loop μ-loop
 loop-holds c = search needs

@@ -2,6 +2,7 @@
 use lib.Pow.{shl-lt, shl-exact, pow-mono}
 use Prim.Native.Nat.{_+_, _-_, _*_, _/_, _%_}
 use native.Mathlib.Omega.{arith}
+use Rattle.fields.specs.Sizes.{dayPlaces}
 use Rattle.daylists.proofs.WalkLaws.{reach-base, reach-none, reach-node, filled-less}
 use borrow.Author.Needs.{needs}
 use Rattle.daylists.proofs.reach.entry.Statement.{statement}
@@ -48,7 +49,7 @@ add-high c =
     let start : tie.Start = search in
     let s = start .args in
     let most = pow-mono {i = 6 + s .i / 64} {j = 37} (omega (arith, start .pre .1 .0, start .pre .0 .few-days)) in
-    let one = pow-mono {i = s .i / 64 - 1} {j = 31} (omega (arith, start .pre .1 .0, start .pre .0 .few-days)) in
+    let one = pow-mono {i = s .i / 64 - 1} {j = dayPlaces} (omega (arith, start .pre .1 .0, start .pre .0 .few-days)) in
     omega (arith, shl-exact {a = s .i % 64} 6 (s .i / 64) 64 (omega arith) (omega arith), shl-lt {a = s .i % 64} 6 (s .i / 64) (omega arith), c .bit .ensures, most, one)
 
 branch-requires : tie.Need-branch-requires

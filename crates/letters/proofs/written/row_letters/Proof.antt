@@ -3,6 +3,7 @@ use Prim.Native.Nat.{ℕ, suc, _-_, _≤_, _<_}
 use mathlib.Core.Path.{_≡_, refl, ap, _∙_}
 use native.Mathlib.Omega.{arith}
 use lib.ListN.{length, getD, length-set}
+use Rattle.fields.specs.Sizes.{dayPlaces}
 use Rattle.numbers.proofs.BufferLaws.{place-turn}
 use Rattle.rows.specs.Rows.{dutyOn}
 use Rattle.rows.proofs.RowLaws.{duty-is}
@@ -12,7 +13,7 @@ use Rattle.letters.proofs.written.row_letters.Statement.{statement}
 use Rattle.letters.proofs.written.row_letters.Tie as tie
 
 abbrev Inv-loop : tie.InvT-loop
-Inv-loop b n p q states row₀ d₀ row d = (d ≤ n) × (length row ≡ 31) × ((e : ℕ) → e < d → getD row e 0 ≡ letter (dutyOn b p q (suc e)))
+Inv-loop b n p q states row₀ d₀ row d = (d ≤ n) × (length row ≡ dayPlaces) × ((e : ℕ) → e < d → getD row e 0 ≡ letter (dutyOn b p q (suc e)))
 
 abbrev μ-loop : tie.MeasureT-loop
 μ-loop b n p q states row₀ d₀ row d = n - d

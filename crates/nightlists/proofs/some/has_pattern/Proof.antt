@@ -3,6 +3,7 @@ use Prim.Native.Nat.{ℕ}
 use mathlib.Core.Path.{ap₂, _∙_}
 use native.Mathlib.Omega.{arith}
 use lib.Pow.{pow-mono}
+use Rattle.fields.specs.Sizes.{dayPlaces}
 use Rattle.fields.specs.Fields.{days}
 use Rattle.fields.specs.declared.rules.Rules.{Rules}
 use Rattle.fields.specs.Rules.{rulesOf}
@@ -34,7 +35,7 @@ some-requires c κs =
     let w = start .args .w .now in
     let ok = start .pre .0 in
     let few = long .days .ensures .1 in (
-      record { small = rules-small w _ ok (c .rules-of .ensures); few-days = few; fits = omega (arith, pow-mono {i = long .days .result} {j = 31} few) },
+      record { small = rules-small w _ ok (c .rules-of .ensures); few-days = few; fits = omega (arith, pow-mono {i = long .days .result} {j = dayPlaces} few) },
       (ok, masks .masks-of .ensures .1),
     )
 

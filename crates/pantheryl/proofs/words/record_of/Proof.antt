@@ -13,8 +13,8 @@ flags-of-requires c κs = search needs
 removals-of-requires : tie.Need-removals-of-requires
 removals-of-requires c κs = search needs
 
-array-read-t9 : tie.Need-array-read-t9
-array-read-t9 c = search needs
+array-read-steps : tie.Need-array-read-steps
+array-read-steps c = search needs
 
 returns : tie.Need-returns
 unfolding recordOfWords
@@ -23,4 +23,4 @@ returns c = rw (c .before .before .patterns-of .ensures, c .before .flags-of .en
 pub record-of-spec : {M : Type 1} → statement M
 record-of-spec =
     tie.close
-    (tie.spec patterns-of-requires flags-of-requires removals-of-requires array-read-t9 returns)
+    (tie.spec patterns-of-requires flags-of-requires removals-of-requires array-read-steps returns)

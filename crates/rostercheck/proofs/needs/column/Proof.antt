@@ -1,5 +1,6 @@
 -- `rostercheck::needs::column` meets its contract. The loop's invariant: the column has the first i nurses.
 
+use Rattle.fields.specs.Sizes.{nursePlaces}
 use Rattle.rostercheck.proofs.NeedLaws.{column-end}
 use Prim.Native.Nat.{_≤_, _-_}
 use mathlib.Core.Path.{refl}
@@ -27,7 +28,7 @@ mul-put-bit : tie.Need-mul-put-bit Inv-loop μ-loop
 mul-put-bit c =
     let at-loop : tie.At-loop Inv-loop μ-loop = search in
     let start : tie.Start Inv-loop μ-loop = search in
-    let l : at-loop .loop .i ≤ 48 = omega arith in omega (arith, mul-le-mul l (start .pre .1))
+    let l : at-loop .loop .i ≤ nursePlaces = omega arith in omega (arith, mul-le-mul l (start .pre .1))
 
 add-put-bit : tie.Need-add-put-bit Inv-loop μ-loop
 add-put-bit c =

@@ -3,6 +3,7 @@ use borrow.Author.Needs.{needs}
 use Prim.Native.Nat.{_≤_, _<_, _-_}
 use mathlib.Core.Path.{_≡_}
 use native.Mathlib.Omega.{arith}
+use Rattle.fields.specs.Sizes.{dayPlaces}
 use Rattle.rostercheck.specs.CodeCheck.{lettersIn}
 use Rattle.rostercheck.proofs.RowLaws.{read-start, read-more, read-fits, read-end}
 use Rattle.rostercheck.proofs.rows_of.days_with.Statement.{statement}
@@ -27,7 +28,7 @@ day-if-requires : tie.Need-day-if-requires Inv-loop μ-loop
 day-if-requires c κs = search needs
 
 add-set : tie.Need-add-set Inv-loop μ-loop
-add-set c = let l : c .before .before .before .loop .d < 31 = omega arith in omega (arith, read-fits _ _ _ _ (c .before .before .before .loop .inv .1) l (c .day-if .ensures))
+add-set c = let l : c .before .before .before .loop .d < dayPlaces = omega arith in omega (arith, read-fits _ _ _ _ (c .before .before .before .loop .inv .1) l (c .day-if .ensures))
 
 add-d : tie.Need-add-d Inv-loop μ-loop
 add-d c = search needs

@@ -4,6 +4,7 @@ use mathlib.Core.Path.{sym, _∙_}
 use Prim.Native.Nat.{_≤_}
 use native.Mathlib.Nat.{mul-le-mul}
 use native.Mathlib.Omega.{arith}
+use Rattle.fields.specs.Sizes.{nursePlaces}
 use Rattle.rostercheck.proofs.CheckLaws.{row-not-hers, row-no-days, row-compared, row-ends}
 use Rattle.fields.proofs.RuleLaws.{block-as}
 use borrow.Author.Needs.{needs}
@@ -16,7 +17,7 @@ days-requires c κs = search needs
 mul-at : tie.Need-mul-at
 mul-at c =
     let start : tie.Start = search in
-    let l : start .args .i ≤ 48 = omega arith in omega (arith, mul-le-mul l (c .days .ensures .1))
+    let l : start .args .i ≤ nursePlaces = omega arith in omega (arith, mul-le-mul l (c .days .ensures .1))
 
 days-with-requires : tie.Need-days-with-requires
 days-with-requires c κs =

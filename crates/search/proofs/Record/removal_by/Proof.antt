@@ -4,45 +4,40 @@ use borrow.Author.Needs.{needs}
 use Rattle.search.proofs.Record.removal_by.Statement.{statement}
 use Rattle.search.proofs.Record.removal_by.Tie as tie
 
+cast-number : tie.Need-cast-number
+cast-number c = search needs
+
+add-number : tie.Need-add-number
+add-number c = search needs
+
 element-copy-out-if1 : tie.Need-element-copy-out-if1
 element-copy-out-if1 c = search needs
 
-cast-t8 : tie.Need-cast-t8
-cast-t8 c = search needs
+mul-pattern : tie.Need-mul-pattern
+mul-pattern c = search needs
 
-add-t9 : tie.Need-add-t9
-add-t9 c = search needs
-
-mul-t10 : tie.Need-mul-t10
-mul-t10 c = search needs
-
-element-copy-out-t13 : tie.Need-element-copy-out-t13
-element-copy-out-t13 c = search needs
+element-copy-out-pattern : tie.Need-element-copy-out-pattern
+element-copy-out-pattern c = search needs
 
 returns : tie.Need-returns
-returns c = let if1 = c .before in
-    let a = if1 .before .before .args in
-    removal-placed (a .t1) (a .nurse) (if1 .if1 .taken)
-
-cast-t14 : tie.Need-cast-t14
-cast-t14 c = search needs
-
-add-t15 : tie.Need-add-t15
-add-t15 c = search needs
+returns c =
+    let at-if1 : tie.Then1 = search in
+    let start : tie.Start = search in
+    removal-placed (start .args .t1) (start .args .nurse) (at-if1 .if1 .taken)
 
 returns-2 : tie.Need-returns-2
-returns-2 c = let a = c .before .before .args in removal-unplaced (a .t1) (a .nurse) (c .if1 .left)
+returns-2 c =
+    let start : tie.Start = search in
+    removal-unplaced (start .args .t1) (start .args .nurse) (c .if1 .left)
 
 pub removal-by-spec : {M : Type 1} → statement M
 removal-by-spec =
     tie.close
     (tie.spec
+    cast-number
+    add-number
     element-copy-out-if1
-    cast-t8
-    add-t9
-    mul-t10
-    element-copy-out-t13
+    mul-pattern
+    element-copy-out-pattern
     returns
-    cast-t14
-    add-t15
     returns-2)

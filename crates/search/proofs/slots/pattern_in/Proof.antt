@@ -1,4 +1,5 @@
 -- `search::slots::pattern_in` meets its contract.
+use Rattle.fields.specs.Sizes.{dayPlaces}
 use Rattle.search.proofs.SeekLaws.{block-of, pattern-placed, pattern-days, pattern-nights}
 use Prim.Native.Nat.{_≤_}
 use Rattle.fields.specs.Fields.{Block}
@@ -34,7 +35,7 @@ abbrev start-of : tie.After-block → tie.Start
 start-of c = start-unplaced (is-unplaced (at-days c))
 
 -- her block and its days
-block-at : (c : tie.After-block) → Block (c .block .result .now) ((at-days c) .days .result) × ((at-days c) .days .result ≤ 31)
+block-at : (c : tie.After-block) → Block (c .block .result .now) ((at-days c) .days .result) × ((at-days c) .days .result ≤ dayPlaces)
 block-at c = let start = start-of c in block-of (start .args .w .now) (start .args .i) (start .pre .0) (start .pre .1) (c .block .ensures) ((at-days c) .days .ensures)
 
 element-copy-out-if1 : tie.Need-element-copy-out-if1
