@@ -12,7 +12,7 @@ use lib.Dec.{ltb}
 use lib.ListN.{length, getD, take}
 use lib.Seq.{take-suc, take-all}
 use borrow.Author.Tests.{ltb-true, ltb-false}
-use Rattle.numbers.specs.Range.{upFrom, keep, Ascending}
+use Rattle.numbers.specs.Range.{upFrom, filter, Ascending}
 use Rattle.numbers.proofs.RangeLaws.{range-add}
 use Rattle.history.specs.Phase.{Step, Phase, offersTo, offers, exchanges, least}
 use Rattle.history.specs.Record.{Record, mayTake, costAfter, best}
@@ -84,15 +84,15 @@ module _ (may : ℕ → Bool) (cost : ℕ → ℕ) (i : ℕ) where
         turn (Exchange i here _) (rw (sym r ∙ g, y, q))
 
 -- what a test keeps of a list: the test asked beside what she may take
-pub over-keep : (t may : ℕ → Bool) (cost : ℕ → ℕ) (i : ℕ) (b : Best) (ps : List ℕ)
-    → overList may cost i b (keep t ps) ≡ overList (λ p. t p && may p) cost i b ps
-unfolding keep overList
-over-keep t may cost i b [] = refl
-over-keep t may cost i b (p ∷ ps) = go (t p) refl (over-keep t may cost i b ps) (over-keep t may cost i (considered may cost i b p) ps)
+pub over-filter : (t may : ℕ → Bool) (cost : ℕ → ℕ) (i : ℕ) (b : Best) (ps : List ℕ)
+    → overList may cost i b (filter t ps) ≡ overList (λ p. t p && may p) cost i b ps
+unfolding filter overList
+over-filter t may cost i b [] = refl
+over-filter t may cost i b (p ∷ ps) = go (t p) refl (over-filter t may cost i b ps) (over-filter t may cost i (considered may cost i b p) ps)
   where
-    go : (u : Bool) → t p ≡ u → overList may cost i b (keep t ps) ≡ overList (λ p. t p && may p) cost i b ps
-        → overList may cost i (considered may cost i b p) (keep t ps) ≡ overList (λ p. t p && may p) cost i (considered may cost i b p) ps
-        → overList may cost i b (cond u (p ∷ keep t ps) (keep t ps)) ≡ overList (λ p. t p && may p) cost i (cond (u && may p) (cond (improves b (cost p)) (Exchange i p (cost p)) b) b) ps
+    go : (u : Bool) → t p ≡ u → overList may cost i b (filter t ps) ≡ overList (λ p. t p && may p) cost i b ps
+        → overList may cost i (considered may cost i b p) (filter t ps) ≡ overList (λ p. t p && may p) cost i (considered may cost i b p) ps
+        → overList may cost i b (cond u (p ∷ filter t ps) (filter t ps)) ≡ overList (λ p. t p && may p) cost i (cond (u && may p) (cond (improves b (cost p)) (Exchange i p (cost p)) b) b) ps
     go true e x y = y
     go false e x y = x
 

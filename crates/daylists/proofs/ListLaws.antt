@@ -8,11 +8,11 @@ use native.Mathlib.Nat.{add-comm, zero-mul, eq-or-lt-of-le}
 use native.Mathlib.Numerals.{add-one}
 use native.Mathlib.Omega.{arith}
 use lib.Pow.{high, shl-shr, pow-pos}
-use Rattle.numbers.specs.Range.{upFrom, keep}
+use Rattle.numbers.specs.Range.{upFrom, filter}
 use Rattle.numbers.specs.Digits.{has}
 use Rattle.numbers.proofs.RangeLaws.{and-parts}
-use Rattle.numbers.proofs.HalfLaws.{pow-twice, low-half, high-half, keep-halves}
-use Rattle.numbers.proofs.AgreeLaws.{keep-none, high-agree}
+use Rattle.numbers.proofs.HalfLaws.{pow-twice, low-half, high-half, filter-halves}
+use Rattle.numbers.proofs.AgreeLaws.{filter-none, high-agree}
 use Rattle.days.specs.CodeMonth.{dutyAt, ruleOf, restOn}
 use Rattle.daylists.specs.CodeWalk.{stepHolds, reach, goesOn, listed}
 use Rattle.days.specs.declared.month.Month.{Month}
@@ -30,11 +30,11 @@ same-high A d x l h =
 
 module _ (m : Month) (row : List ℕ) (b : Bounded m) where
   abbrev below : ℕ → ℕ → List ℕ
-  below d a = keep (ruleOf m row) (upFrom a (2 ^ d))
+  below d a = filter (ruleOf m row) (upFrom a (2 ^ d))
 
   -- nothing is left where the walk does not go on
   cut-empty : (d A r : ℕ) → d ≤ m .days → r ≡ restsFrom (dutyAt row (A * 2 ^ d)) (m .days) d → goesOn m row d (A * 2 ^ d) r ≡ false → below d (A * 2 ^ d) ≡ []
-  cut-empty d A r l e f = keep-none (ruleOf m row) (A * 2 ^ d) (2 ^ d) (λ x i h. go x i h (ruleOf m row x) refl)
+  cut-empty d A r l e f = filter-none (ruleOf m row) (A * 2 ^ d) (2 ^ d) (λ x i h. go x i h (ruleOf m row x) refl)
     where
       go : (x : ℕ) → A * 2 ^ d ≤ x → x < A * 2 ^ d + 2 ^ d → (t : Bool) → ruleOf m row x ≡ t → ruleOf m row x ≡ false
       go x i h true y =
@@ -75,7 +75,7 @@ module _ (m : Month) (row : List ℕ) (b : Bounded m) where
 
   leaf-is : (A r : ℕ) (t : Bool) → goesOn m row 0 (A * 2 ^ 0) r ≡ t → Came 1 (A * 2 ^ 0) → A * 2 ^ 0 < 2 ^ m .days → r ≡ restsFrom (dutyAt row (A * 2 ^ 0)) (m .days) 0
       → listed m row 0 (A * 2 ^ 0) r ≡ below 0 (A * 2 ^ 0)
-  unfolding listed keep upFrom
+  unfolding listed filter upFrom
   leaf-is A r true g f l e =
       let c = came-next 0 (A * 2 ^ 0) r (omega arith) f g in
       let y = comes-to m row b (A * 2 ^ 0) r l (λ d h. c d (omega arith) h) (goes-parts 0 (A * 2 ^ 0) r g .1) e in
@@ -86,7 +86,7 @@ module _ (m : Month) (row : List ℕ) (b : Bounded m) where
       → (t ≡ false → below (suc d) (A * 2 ^ suc d) ≡ [])
       → (L H : List ℕ) → (t ≡ true → (L ≡ below d (A * 2 ^ suc d)) × (H ≡ below d (A * 2 ^ suc d + 2 ^ d)))
       → cond (goesOn m row (suc d) (A * 2 ^ suc d) r) (L ++ H) [] ≡ below (suc d) (A * 2 ^ suc d)
-  node-is d A r true e f L H g = rw e (ap₂ _++_ (g refl .0) (g refl .1) ∙ sym (keep-halves (ruleOf m row) (A * 2 ^ suc d) d))
+  node-is d A r true e f L H g = rw e (ap₂ _++_ (g refl .0) (g refl .1) ∙ sym (filter-halves (ruleOf m row) (A * 2 ^ suc d) d))
   node-is d A r false e f L H g = rw e (sym (f refl))
 
   listed-is : (d A r : ℕ) → d ≤ m .days → Came (suc d) (A * 2 ^ d) → A * 2 ^ d + 2 ^ d ≤ 2 ^ m .days → r ≡ restsFrom (dutyAt row (A * 2 ^ d)) (m .days) d
@@ -114,9 +114,9 @@ module _ (m : Month) (row : List ℕ) (b : Bounded m) where
           (ih (r + restOn row a d) (omega arith) (subst (Came (suc d)) g k) (subst (λ (x : ℕ). x + 2 ^ d ≤ 2 ^ m .days) g i)
           (h ∙ ap (λ (x : ℕ). restsFrom (dutyAt row x) (m .days) d) g))
 
-  pub walk-lists : listed m row (m .days) 0 0 ≡ keep (ruleOf m row) (upFrom 0 (2 ^ m .days))
+  pub walk-lists : listed m row (m .days) 0 0 ≡ filter (ruleOf m row) (upFrom 0 (2 ^ m .days))
   walk-lists =
       let z = zero-mul (2 ^ m .days) in
-      subst (λ (x : ℕ). listed m row (m .days) x 0 ≡ keep (ruleOf m row) (upFrom x (2 ^ m .days))) z
+      subst (λ (x : ℕ). listed m row (m .days) x 0 ≡ filter (ruleOf m row) (upFrom x (2 ^ m .days))) z
       (listed-is (m .days) 0 0 (omega arith) (λ e l h. absurd (omega arith)) (omega (arith, z))
       (sym (rests-done (dutyAt row (0 * 2 ^ m .days)) (m .days) (m .days) (omega arith))))

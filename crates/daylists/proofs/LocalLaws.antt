@@ -8,7 +8,7 @@ use lib.Dec.{ltb}
 use lib.ListN.{length}
 use Rattle.numbers.specs.Sum.{oneIf}
 use Rattle.numbers.specs.Digits.{has}
-use Rattle.numbers.proofs.AgreeLaws.{keep-agree, high-agree}
+use Rattle.numbers.proofs.AgreeLaws.{filter-agree, high-agree}
 use Rattle.days.specs.Days.{isRest}
 use Rattle.days.specs.CodeMonth.{dutyAt, restOn}
 use Rattle.daylists.specs.CodeWalk.{stepHolds, branch}
@@ -46,7 +46,7 @@ module _ (m : Month) (row : List ℕ) (short : m .longest ≤ 6) (d a q : ℕ) (
 
 pub rests-same : (f g : ℕ → ℕ) (n d : ℕ) → ((u : ℕ) → d + 7 ≤ u → f u ≡ g u) → restsFrom f n d ≡ restsFrom g n d
 rests-same f g n d h =
-    ap length (keep-agree (λ t. isRest (f t)) (λ t. isRest (g t)) (d + 7) (n - d) (λ x l k. ap (λ (y : ℕ). isRest y) (h x l)))
+    ap length (filter-agree (λ t. isRest (f t)) (λ t. isRest (g t)) (d + 7) (n - d) (λ x l k. ap (λ (y : ℕ). isRest y) (h x l)))
 
 pub rests-high : (row : List ℕ) (n d a q : ℕ) → a / 2 ^ d ≡ q / 2 ^ d → restsFrom (dutyAt row a) n d ≡ restsFrom (dutyAt row q) n d
 rests-high row n d a q e =

@@ -15,7 +15,7 @@ use Rattle.numbers.specs.Range.{upFrom, all}
 use Rattle.numbers.specs.Digits.{has, bit}
 use Rattle.numbers.proofs.RangeLaws.{and-parts, length-range, range-all, range-each}
 use Rattle.numbers.proofs.DigitLaws.{bit-above, bit-lt, bit-of-zero}
-use Rattle.numbers.proofs.AgreeLaws.{keep-le, low-agree, field-agree, has-moved-down, has-or-left, has-or-right}
+use Rattle.numbers.proofs.AgreeLaws.{filter-le, low-agree, field-agree, has-moved-down, has-or-left, has-or-right}
 use Rattle.rows.specs.Rows.{started}
 use Rattle.days.specs.Days.{isRest, windowsHold, rests}
 use Rattle.days.specs.CodeMonth.{SmallMonth, inBounds, dutyAt, choiceOf, ruleOf, restOn}
@@ -101,7 +101,7 @@ module _ (m : Month) (row : List ℕ) (b : Bounded m) (q : ℕ) (y : Meets m row
   rests-within : has (m .within) (restsFrom (dutyAt row q) (m .days) 0) ≡ true
   rests-within =
       let most : restsFrom (dutyAt row q) (m .days) 0 ≤ m .days =
-      omega (arith, keep-le (λ t. isRest (dutyAt row q t)) (upFrom 7 (m .days - 0)), length-range 7 (m .days - 0), sub-zero (m .days)) in
+      omega (arith, filter-le (λ t. isRest (dutyAt row q t)) (upFrom 7 (m .days - 0)), length-range 7 (m .days - 0), sub-zero (m .days)) in
       b .within-is (restsFrom (dutyAt row q) (m .days) 0) (omega (arith, b .small .few-days))
       ∙ ap (inBounds (m .least) (m .most)) (sym (rests-start (dutyAt row q) (m .days)))
       ∙ y .bounds
@@ -223,7 +223,7 @@ module _ (m : Month) (row : List ℕ) (b : Bounded m) (a r : ℕ) (below : a < 2
   rests-come : inBounds (m .least) (m .most) (rests (dutyAt row a) (m .days)) ≡ true
   rests-come =
       let most : restsFrom (dutyAt row a) (m .days) 0 ≤ m .days =
-      omega (arith, keep-le (λ t. isRest (dutyAt row a t)) (upFrom 7 (m .days - 0)), length-range 7 (m .days - 0), sub-zero (m .days)) in
+      omega (arith, filter-le (λ t. isRest (dutyAt row a t)) (upFrom 7 (m .days - 0)), length-range 7 (m .days - 0), sub-zero (m .days)) in
       ap (inBounds (m .least) (m .most)) (rests-start (dutyAt row a) (m .days) ∙ sym rested)
       ∙ sym (b .within-is r (omega (arith, b .small .few-days)))
       ∙ begins .1

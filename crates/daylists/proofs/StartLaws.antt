@@ -5,9 +5,9 @@ use Prim.Native.Nat.{ℕ, _+_, _*_, _^_, _≤_, _<_}
 use native.Mathlib.Omega.{arith}
 use lib.Pow.{pow-mono}
 use Rattle.fields.specs.Sizes.{dayPlaces}
-use Rattle.numbers.specs.Range.{upFrom, keep}
+use Rattle.numbers.specs.Range.{upFrom, filter}
 use Rattle.numbers.specs.Digits.{has, numberOf}
-use Rattle.numbers.proofs.RangeLaws.{keep-same}
+use Rattle.numbers.proofs.RangeLaws.{filter-same}
 use Rattle.numbers.proofs.DigitLaws.{number-lt, number-has}
 use Rattle.fields.specs.Fields.{Accepted, days, longestDays, block, leastRestsOf, mostRestsOf}
 use Rattle.rows.specs.Rows.{fixedDay}
@@ -37,8 +37,8 @@ unfolding dayList
 lists-day-list w i p m row a s =
     ap (λ (k : ℕ). listed m row k 0 0) (sym (s .days-is))
     ∙ walk-lists m row (bounded (block w i) (days w) (longestDays w) p m row s (a .days-most) (a .day-run-most))
-    ∙ keep-same (ruleOf m row) (dayRuleOf w i p) (λ q. sym (rule-is (block w i) (days w) (longestDays w) p m row s (a .day-run-most) q)) (upFrom 0 (2 ^ m .days))
-    ∙ ap (λ (k : ℕ). keep (dayRuleOf w i p) (upFrom 0 (2 ^ k))) (s .days-is)
+    ∙ filter-same (ruleOf m row) (dayRuleOf w i p) (λ q. sym (rule-is (block w i) (days w) (longestDays w) p m row s (a .day-run-most) q)) (upFrom 0 (2 ^ m .days))
+    ∙ ap (λ (k : ℕ). filter (dayRuleOf w i p) (upFrom 0 (2 ^ k))) (s .days-is)
 
 -- ---- the walk's beginning
 

@@ -10,11 +10,11 @@ use borrow.Author.Tests.{lt-ltb, le-ltb, eq-eqb, ne-eqb}
 use lib.Dec.{eqb}
 use lib.ListN.{length, getD, drop, drop-of-length-le}
 use lib.Seq.{drop-cons}
-use Rattle.numbers.specs.Range.{upFrom, keep, all}
+use Rattle.numbers.specs.Range.{upFrom, filter, all}
 use Rattle.numbers.specs.Sum.{oneIf}
 use Rattle.numbers.specs.Digits.{has}
 use Rattle.rows.specs.Rows.{started}
-use Rattle.numbers.proofs.RangeLaws.{range-next, range-turn, range-done, length-kept}
+use Rattle.numbers.proofs.RangeLaws.{range-next, range-turn, range-done, length-filtered}
 use Rattle.days.specs.Days.{inRun, isRest, alternating, anyOf, same, window, freeOf, windowsHold, rests}
 use Rattle.days.specs.CodeMonth.{dutyAt, choiceOf, inBounds, restOn, ruleOf}
 use Rattle.days.specs.declared.month.Month.{Month}
@@ -141,18 +141,18 @@ module _ (t : ℕ → Bool) (n : ℕ) where
 -- ---- the rests
 
 abbrev pub restsFrom : (ℕ → ℕ) → ℕ → ℕ → ℕ
-restsFrom f n d = length (keep (λ t. isRest (f t)) (placesFrom n d))
+restsFrom f n d = length (filter (λ t. isRest (f t)) (placesFrom n d))
 
 pub rests-start : (f : ℕ → ℕ) (n : ℕ) → rests f n ≡ restsFrom f n 0
 unfolding rests
-rests-start f n = ap (λ (l : List ℕ). length (keep (λ t. isRest (f t)) l)) (days-all n)
+rests-start f n = ap (λ (l : List ℕ). length (filter (λ t. isRest (f t)) l)) (days-all n)
 
 pub rests-turn : (f : ℕ → ℕ) (n d : ℕ) → d < n → restsFrom f n d ≡ oneIf (isRest (f (d + 7))) + restsFrom f n (d + 1)
-unfolding keep
-rests-turn f n d h = rw (days-turn n d h) (length-kept (isRest (f (d + 7))) (d + 7) (keep (λ t. isRest (f t)) (placesFrom n (d + 1))))
+unfolding filter
+rests-turn f n d h = rw (days-turn n d h) (length-filtered (isRest (f (d + 7))) (d + 7) (filter (λ t. isRest (f t)) (placesFrom n (d + 1))))
 
 pub rests-done : (f : ℕ → ℕ) (n d : ℕ) → n ≤ d → restsFrom f n d ≡ 0
-unfolding keep
+unfolding filter
 rests-done f n d h = rw (range-done (d + 7) n d h)
 
 pub rest-day : (row : List ℕ) (q n d : ℕ) → d < n → restsFrom (dutyAt row q) n d ≡ restOn row q d + restsFrom (dutyAt row q) n (d + 1)

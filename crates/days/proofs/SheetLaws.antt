@@ -11,9 +11,9 @@ use lib.ListN.{length}
 use Rattle.fields.specs.Sizes.{dayPlaces}
 use Rattle.numbers.specs.Range.{upFrom, all, Exactly}
 use Rattle.numbers.specs.Digits.{has}
-use Rattle.numbers.proofs.RangeLaws.{and-parts, range-each, kept-exactly}
+use Rattle.numbers.proofs.RangeLaws.{and-parts, range-each, filtered-exactly}
 use Rattle.numbers.proofs.DigitLaws.{number-has, bit-of-zero}
-use Rattle.numbers.proofs.AgreeLaws.{all-agree, keep-agree}
+use Rattle.numbers.proofs.AgreeLaws.{all-agree, filter-agree}
 use Rattle.fields.specs.Fields.{days, longestDays, block, duty, leastRestsOf, mostRestsOf, markOn}
 use Rattle.rows.specs.Rows.{started, rowState, available, availableOn, fixedDay, dutyOf, dutyOn}
 use Rattle.days.specs.Days.{choice, rowDuty, isRest, windowsHold, rests, dayRule, dayRuleOf, dayList}
@@ -86,7 +86,7 @@ module _ (b : List ℕ) (p : ℕ) (m : Month) (row : List ℕ) (s : IsSheet b (m
 
     rests-are : rests (rowDuty b p q) (m .days) ≡ rests (dutyAt row q) (m .days)
     unfolding rests
-    rests-are = ap length (keep-agree (λ t. isRest (rowDuty b p q t)) (λ t. isRest (dutyAt row q t)) 7 (m .days) (λ t l h. ap (λ (x : ℕ). isRest x) (duty-is t h)))
+    rests-are = ap length (filter-agree (λ t. isRest (rowDuty b p q t)) (λ t. isRest (dutyAt row q t)) 7 (m .days) (λ t l h. ap (λ (x : ℕ). isRest x) (duty-is t h)))
 
   rule-here : dayRule b (m .days) (m .longest) p q ≡ ruleOf m row q
   unfolding dayRule ruleOf
@@ -125,7 +125,7 @@ rule-below w i p q e = ltb-true q (2 ^ days w) (and-parts _ _ (and-parts _ _ e .
 
 pub list-exactly : (w : List ℕ) (i p : ℕ) → Exactly (dayRuleOf w i p) (dayList w i p)
 unfolding dayList
-list-exactly w i p = kept-exactly (dayRuleOf w i p) (dayRuleOf w i p) (2 ^ days w) (λ q e. (rule-below w i p q e, e)) (λ q l e. e)
+list-exactly w i p = filtered-exactly (dayRuleOf w i p) (dayRuleOf w i p) (2 ^ days w) (λ q e. (rule-below w i p q e, e)) (λ q l e. e)
 
 -- ---- a sheet of the numbers that calls give
 

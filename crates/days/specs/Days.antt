@@ -5,7 +5,7 @@ use mathlib.Core.List.{List, [], _∷_, map}
 use Prim.Native.Nat.{ℕ, suc, _-_, _^_}
 use lib.Dec.{leb, ltb, eqb}
 use lib.ListN.{length}
-use Rattle.numbers.specs.Range.{upFrom, keep, all}
+use Rattle.numbers.specs.Range.{upFrom, filter, all}
 use Rattle.fields.specs.Fields.{days, longestDays, block, duty, leastRestsOf, mostRestsOf, markOn}
 use Rattle.rows.specs.Rows.{started, availableOn, dutyOn}
 
@@ -63,7 +63,7 @@ windowsHold row longest t =
 
 -- the rests of a month of n days
 unfoldable pub rests : (ℕ → ℕ) → ℕ → ℕ
-rests row n = length (keep (λ t. isRest (row t)) (upFrom 7 n))
+rests row n = length (filter (λ t. isRest (row t)) (upFrom 7 n))
 
 -- ---- the day rule and the list
 
@@ -78,4 +78,4 @@ dayRuleOf w i p q = dayRule (block w i) (days w) (longestDays w) p q
 
 -- nurse i's day list over the night pattern p, by ascending number
 unfoldable pub dayList : List ℕ → ℕ → ℕ → List ℕ
-dayList w i p = keep (dayRuleOf w i p) (upFrom 0 (2 ^ days w))
+dayList w i p = filter (dayRuleOf w i p) (upFrom 0 (2 ^ days w))

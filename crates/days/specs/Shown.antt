@@ -4,7 +4,7 @@ use mathlib.Core.Bool.{true, false}
 use mathlib.Core.List.{List, [], _∷_, _++_}
 use Prim.Native.Nat.{ℕ}
 use lib.ListN.{getD}
-use Rattle.numbers.specs.Range.{upFrom, keep, all}
+use Rattle.numbers.specs.Range.{upFrom, filter, all}
 use Rattle.rows.specs.Rows.{rowState, availableOn, dutyOn}
 use Rattle.days.specs.Days.{choice, rowDuty, same, anyOf, freeOf, windowsHold, rests, dayRule}
 
@@ -17,7 +17,7 @@ broken duties = windowsHold (λ t. getD duties t 0) 3 7 ≡ false
 
 -- her day patterns in a month of two days with D 3: no nights, bounds or marks, after these seven days
 abbrev after : List ℕ → List ℕ
-after seven = keep (dayRule (seven ++ (0 ∷ 15 ∷ 0 ∷ 31 ∷ 0 ∷ 0 ∷ [])) 2 3 0) (upFrom 0 4)
+after seven = filter (dayRule (seven ++ (0 ∷ 15 ∷ 0 ∷ 31 ∷ 0 ∷ 0 ∷ [])) 2 3 0) (upFrom 0 4)
 
 pub record RowsShown : Type 0 where
   pub four-days : broken (0 ∷ 0 ∷ 0 ∷ 0 ∷ 1 ∷ 1 ∷ 1 ∷ 1 ∷ [])
@@ -29,7 +29,7 @@ pub record RowsShown : Type 0 where
   pub none-before : after (0 ∷ 0 ∷ 0 ∷ 0 ∷ 0 ∷ 0 ∷ 0 ∷ []) ≡ 0 ∷ 1 ∷ 2 ∷ 3 ∷ []
 
 pub rows-shown : RowsShown
-unfolding dayRule choice rowDuty same anyOf freeOf windowsHold rests upFrom keep all rowState availableOn dutyOn
+unfolding dayRule choice rowDuty same anyOf freeOf windowsHold rests upFrom filter all rowState availableOn dutyOn
 rows-shown = record {
   four-days = refl;
   other-is-not-day = refl;

@@ -15,8 +15,8 @@ use Rattle.fields.specs.declared.rules.Rules.{Rules}
 use Rattle.nightlists.specs.declared.State.{State}
 use Rattle.nightlists.specs.declared.Next.{Next}
 use Rattle.nightlists.specs.declared.Next.the-variants.{To, Never}
-use Rattle.numbers.specs.Range.{upFrom, keep}
-use Rattle.numbers.proofs.HalfLaws.{low-half, high-half, keep-halves}
+use Rattle.numbers.specs.Range.{upFrom, filter}
+use Rattle.numbers.proofs.HalfLaws.{low-half, high-half, filter-halves}
 use Rattle.rows.specs.Rows.{started}
 use Rattle.fields.specs.Fields.{days}
 use Rattle.fields.specs.Rules.{rulesOf, gap}
@@ -37,8 +37,8 @@ unfoldable pub startsFrom : ℕ → ℕ → ℕ → List ℕ
 startsFrom day zero q = []
 startsFrom day (suc k) q = cond (eqb (q % 2) 1) (day ∷ startsFrom (suc day) k (q / 2)) (startsFrom (suc day) k (q / 2))
 
-pub digits : (p d k : ℕ) → keep (started p) (upFrom (suc d) k) ≡ startsFrom (suc d) k (p / 2 ^ d)
-unfolding keep upFrom startsFrom
+pub digits : (p d k : ℕ) → filter (started p) (upFrom (suc d) k) ≡ startsFrom (suc d) k (p / 2 ^ d)
+unfolding filter upFrom startsFrom
 digits p d zero = refl
 digits p d (suc k) = rw (digits p (suc d) k, ← half)
   where
@@ -67,13 +67,13 @@ starts-odd d k q =
 
 -- the kept numbers of a subtree, q the digits that are decided, d those that are not
 below : Rules → ℕ → ℕ → ℕ → List ℕ
-below r n d q = keep (inCommon r n) (upFrom (q * 2 ^ d) (2 ^ d))
+below r n d q = filter (inCommon r n) (upFrom (q * 2 ^ d) (2 ^ d))
 
 below-split : (r : Rules) (n d q : ℕ) → below r n (suc d) q ≡ below r n d (q * 2) ++ below r n d (q * 2 + 1)
 unfolding below
 below-split r n d q =
-    keep-halves (inCommon r n) (q * 2 ^ suc d) d
-    ∙ ap₂ (λ (a b : ℕ). keep (inCommon r n) (upFrom a (2 ^ d)) ++ keep (inCommon r n) (upFrom b (2 ^ d))) (low-half d q) (high-half d q)
+    filter-halves (inCommon r n) (q * 2 ^ suc d) d
+    ∙ ap₂ (λ (a b : ℕ). filter (inCommon r n) (upFrom a (2 ^ d)) ++ filter (inCommon r n) (upFrom b (2 ^ d))) (low-half d q) (high-half d q)
 
 -- ---- what the walk knows of the starts that are decided
 
@@ -231,7 +231,7 @@ module _ (r : Rules) (n : ℕ) (l : 1 ≤ r .longest) where
   leaf-at k q e = leaf q ∙ ap (λ (m : ℕ). good r (startsFrom 1 m q)) (sym e ∙ zero-add k)
 
   dead-none : (d k q : ℕ) → d + k ≡ n → Dead r (startsFrom (suc d) k q) → below r n d q ≡ []
-  unfolding below keep upFrom
+  unfolding below filter upFrom
   dead-none zero k q e h = rw (leaf-at k q e ∙ dead-good r (startsFrom 1 k q) h)
   dead-none (suc d) k q e h = below-split r n d q ∙ ap₂ _++_
       (dead-none d (suc k) (q * 2) (omega arith) (rw (starts-even d k q) h))
@@ -246,7 +246,7 @@ module _ (r : Rules) (n : ℕ) (l : 1 ≤ r .longest) where
   high-below d k q e ih Never o = sym (dead-none d (suc k) (q * 2 + 1) (omega arith) (rw (starts-odd d k q) o))
 
   listed-below : (d k q : ℕ) (st : State) → d + k ≡ n → Alive r (startsFrom (suc d) k q) st → listed r d (q * 2 ^ d) st ≡ below r n d q
-  unfolding below keep upFrom listed
+  unfolding below filter upFrom listed
   listed-below zero k q st e a = rw (leaf-at k q e ∙ alive-good r (startsFrom 1 k q) st a l)
   listed-below (suc d) k q st e a =
       ap₂ _++_
@@ -260,7 +260,7 @@ module _ (r : Rules) (n : ℕ) (l : 1 ≤ r .longest) where
   walk-lists-common =
       ap (λ (a : ℕ). listed r n a noneYet) (sym (zero-mul (2 ^ n)))
       ∙ listed-below n 0 0 noneYet (add-zero n) (refl, refl, refl)
-      ∙ ap (λ (a : ℕ). keep (inCommon r n) (upFrom a (2 ^ n))) (zero-mul (2 ^ n))
+      ∙ ap (λ (a : ℕ). filter (inCommon r n) (upFrom a (2 ^ n))) (zero-mul (2 ^ n))
 
   pub walk-from : (s : State) → s ≡ noneYet → listed r n 0 s ≡ common r n
   walk-from s e = ap (λ (t : State). listed r n 0 t) e ∙ walk-lists-common

@@ -8,7 +8,7 @@ ghost use mathlib.Core.Path.{_≡_};
 ghost use Prim.Native.Nat.{ℕ, _<_};
 ghost use lib.Dec.{ltb};
 ghost use lib.ListN.{length};
-ghost use Rattle.numbers.specs.Range.{keep};
+ghost use Rattle.numbers.specs.Range.{filter};
 ghost use Rattle.fields.specs.Fields.{Accepted, nurses, days, block};
 ghost use Rattle.fields.specs.Rules.{rulesOf};
 ghost use Rattle.nights.specs.CodeCommon.{Among};
@@ -21,7 +21,7 @@ fn some(left: u64, from: u32, s: State, r: Rules, w: &[u64], m: Masks) -> bool
     requires { ⌜ Ready r left from ⌝ }
     requires { ⌜ Accepted (now w) ⌝ }
     requires { ⌜ Masked m ⌝ }
-    ensures { λ h. ⌜ ((i : ℕ) → m ≡ masksOf (rulesOf (now (w .entry))) (days (now (w .entry))) (block (now (w .entry)) i) → Among (rulesOf (now (w .entry))) (days (now (w .entry))) (listed r left from s) → h ≡ ltb 0 (length (keep (hersOf (now (w .entry)) i) (listed r left from s)))) ⌝ }
+    ensures { λ h. ⌜ ((i : ℕ) → m ≡ masksOf (rulesOf (now (w .entry))) (days (now (w .entry))) (block (now (w .entry)) i) → Among (rulesOf (now (w .entry))) (days (now (w .entry))) (listed r left from s) → h ≡ ltb 0 (length (filter (hersOf (now (w .entry)) i) (listed r left from s)))) ⌝ }
 {
     if left == 0 {
         if crate::is_closed(r, s) {

@@ -9,7 +9,7 @@ use native.Mathlib.Omega.{arith}
 use lib.Dec.{leb, eqb}
 use lib.ListN.{length}
 use borrow.Author.Tests.{leb-true, ne-eqb, le-leb, lt-leb}
-use Rattle.numbers.specs.Range.{upFrom, keep}
+use Rattle.numbers.specs.Range.{upFrom, filter}
 use Rattle.numbers.specs.Digits.{has}
 use Rattle.numbers.proofs.RangeLaws.{and-parts, tests-alike}
 use Rattle.fields.specs.declared.rules.Rules.{Rules}
@@ -43,31 +43,31 @@ run-some prev run s = go (eqb s (prev + 2))
     go false e = omega arith
 
 -- the day after a start
-day-after : (r : Rules) (p a k m : ℕ) → (m ≡ 0 → ⊥) → suc a < a + suc k → follow r a m (keep (started p) (upFrom (suc a) k)) ≡ true → started p (suc a) ≡ false
-unfolding keep upFrom follow
+day-after : (r : Rules) (p a k m : ℕ) → (m ≡ 0 → ⊥) → suc a < a + suc k → follow r a m (filter (started p) (upFrom (suc a) k)) ≡ true → started p (suc a) ≡ false
+unfolding filter upFrom follow
 day-after r p a zero m f l e = absurd (omega arith)
 day-after r p a (suc k) m f l e = go (started p (suc a)) refl
   where
     go : (t : Bool) → started p (suc a) ≡ t → started p (suc a) ≡ false
-    go true q = absurd (true≢false (sym (and-parts (allowed r a m (suc a)) (follow r (suc a) (runWith a m (suc a)) (keep (started p) (upFrom (suc (suc a)) k))) (rw q at e) .0) ∙ too-near r a m f))
+    go true q = absurd (true≢false (sym (and-parts (allowed r a m (suc a)) (follow r (suc a) (runWith a m (suc a)) (filter (started p) (upFrom (suc (suc a)) k))) (rw q at e) .0) ∙ too-near r a m f))
     go false q = q
 
-follow-apart : (r : Rules) (p k a prev run : ℕ) → follow r prev run (keep (started p) (upFrom a k)) ≡ true
+follow-apart : (r : Rules) (p k a prev run : ℕ) → follow r prev run (filter (started p) (upFrom a k)) ≡ true
     → (x : ℕ) → a ≤ x → suc x < a + k → started p x ≡ true → started p (suc x) ≡ false
-unfolding keep upFrom follow
+unfolding filter upFrom follow
 follow-apart r p zero a prev run e x l h s = absurd (omega arith)
 follow-apart r p (suc k) a prev run e x l h s =
     go (started p a) refl (eq-or-lt-of-le l)
     (λ prev′ run′ f y. follow-apart r p k (suc a) prev′ run′ f x (omega arith) (omega arith) s)
   where
     go : (t : Bool) → started p a ≡ t → (a ≡ x) ⊎ (a < x)
-        → ((prev′ run′ : ℕ) → follow r prev′ run′ (keep (started p) (upFrom (suc a) k)) ≡ true → a < x → started p (suc x) ≡ false)
+        → ((prev′ run′ : ℕ) → follow r prev′ run′ (filter (started p) (upFrom (suc a) k)) ≡ true → a < x → started p (suc x) ≡ false)
         → started p (suc x) ≡ false
     go true q (inl y) later =
         subst (λ (z : ℕ). started p (suc z) ≡ false) y
-        (day-after r p a k (runWith prev run a) (run-some prev run a) (omega arith) (and-parts (allowed r prev run a) (follow r a (runWith prev run a) (keep (started p) (upFrom (suc a) k))) (rw q at e) .1))
+        (day-after r p a k (runWith prev run a) (run-some prev run a) (omega arith) (and-parts (allowed r prev run a) (follow r a (runWith prev run a) (filter (started p) (upFrom (suc a) k))) (rw q at e) .1))
     go false q (inl y) later = absurd (true≢false (sym s ∙ ap (started p) (sym y) ∙ q))
-    go true q (inr y) later = later a (runWith prev run a) (and-parts (allowed r prev run a) (follow r a (runWith prev run a) (keep (started p) (upFrom (suc a) k))) (rw q at e) .1) y
+    go true q (inr y) later = later a (runWith prev run a) (and-parts (allowed r prev run a) (follow r a (runWith prev run a) (filter (started p) (upFrom (suc a) k))) (rw q at e) .1) y
     go false q (inr y) later = later prev run (rw q at e) y
 
 pub common-apart : (r : Rules) (n p d : ℕ) → inCommon r n p ≡ true → has p d ≡ true → suc d < n → has p (suc d) ≡ false

@@ -8,7 +8,7 @@ use native.Mathlib.Numerals.{add-one}
 use lib.Dec.{leb, ltb, eqb}
 use lib.ListN.{length, getD}
 use borrow.Author.Tests.{ne-eqb}
-use Rattle.numbers.specs.Range.{upFrom, keep}
+use Rattle.numbers.specs.Range.{upFrom, filter}
 use Rattle.numbers.specs.Digits.{has}
 use Rattle.numbers.proofs.RangeLaws.{range-turn, range-done}
 use Rattle.fields.specs.Fields.{days, block}
@@ -21,22 +21,22 @@ use Rattle.nights.specs.Hers.{shifted, through, lastDuty, lastRun, hers,
 -- ---- the starts that are left
 
 abbrev pub left : ℕ → ℕ → ℕ → List ℕ
-left p n d = keep (started p) (upFrom (suc d) (n - d))
+left p n d = filter (started p) (upFrom (suc d) (n - d))
 
 pub left-all : (p n : ℕ) → left p n 0 ≡ starts n p
 unfolding starts
 left-all p n = rw (sub-zero n)
 
 pub left-done : (p n d : ℕ) → n ≤ d → left p n d ≡ []
-unfolding keep
+unfolding filter
 left-done p n d h = rw (range-done (suc d) n d h)
 
 pub left-yes : (p n d : ℕ) → d < n → has p d ≡ true → left p n d ≡ suc d ∷ left p n (d + 1)
-unfolding keep
+unfolding filter
 left-yes p n d h e = rw (range-turn n d h, e)
 
 pub left-no : (p n d : ℕ) → d < n → has p d ≡ false → left p n d ≡ left p n (d + 1)
-unfolding keep
+unfolding filter
 left-no p n d h e = rw (range-turn n d h, e)
 
 module _ (r : Rules) (prev run off p n d : ℕ) (h : d < n) where
@@ -56,7 +56,7 @@ follow-done r prev run off p n d h = rw (left-done p n d h)
 -- ---- the seven days
 
 abbrev pub lately : List ℕ → ℕ → List ℕ
-lately b d = keep (λ x. eqb (lastDuty b x) 2) (upFrom (suc d) (7 - d))
+lately b d = filter (λ x. eqb (lastDuty b x) 2) (upFrom (suc d) (7 - d))
 
 pub lately-all : (b : List ℕ) → lastRun b ≡ through 0 0 (lately b 0)
 unfolding lastRun
@@ -64,15 +64,15 @@ lately-all b = refl
 
 module _ (b : List ℕ) (prev run d : ℕ) (h : d < 7) where
   pub through-yes : getD b d 0 ≡ 2 → through prev run (lately b d) ≡ through (d + 1) (runWith prev run (d + 1)) (lately b (d + 1))
-  unfolding through keep
+  unfolding through filter
   through-yes e = rw (range-turn 7 d h, e, add-one d)
 
   pub through-no : (getD b d 0 ≡ 2 → ⊥) → through prev run (lately b d) ≡ through prev run (lately b (d + 1))
-  unfolding through keep
+  unfolding through filter
   through-no f = rw (range-turn 7 d h, ne-eqb (getD b d 0) 2 f)
 
 pub through-done : (b : List ℕ) (prev run d : ℕ) → 7 ≤ d → through prev run (lately b d) ≡ (prev, run)
-unfolding through keep
+unfolding through filter
 through-done b prev run d h = rw (range-done (suc d) 7 d h)
 
 -- ---- hers

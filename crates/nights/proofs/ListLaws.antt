@@ -8,8 +8,8 @@ use lib.Dec.{ltb}
 use lib.ListN.{length, getD, length-append, List·getD-append}
 use lib.Seq.{getD-append-add}
 use borrow.Author.Tests.{ltb-true, lt-ltb}
-use Rattle.numbers.specs.Range.{upFrom, keep, Exactly}
-use Rattle.numbers.proofs.RangeLaws.{keep-append, keep-passes, kept-below, kept-exactly, and-parts}
+use Rattle.numbers.specs.Range.{upFrom, filter, Exactly}
+use Rattle.numbers.proofs.RangeLaws.{filter-append, filter-passes, filtered-below, filtered-exactly, and-parts}
 use Rattle.fields.specs.Fields.{days, block}
 use Rattle.fields.specs.declared.rules.Rules.{Rules}
 use Rattle.fields.specs.Rules.{rulesOf}
@@ -23,17 +23,17 @@ use Rattle.nights.specs.Hers.{hers, hersOf, nightList}
 -- each of its numbers keeps the rule and is a pattern of the month
 pub common-keeps : (r : Rules) (n k : ℕ) → k < length (common r n) → inCommon r n (getD (common r n) k 0) ≡ true
 unfolding common
-common-keeps r n k h = keep-passes (inCommon r n) (upFrom 0 (2 ^ n)) k h
+common-keeps r n k h = filter-passes (inCommon r n) (upFrom 0 (2 ^ n)) k h
 
 pub common-below : (r : Rules) (n k : ℕ) → k < length (common r n) → getD (common r n) k 0 < 2 ^ n
 unfolding common
-common-below r n k h = omega (arith, kept-below (inCommon r n) 0 (2 ^ n) k h .1)
+common-below r n k h = omega (arith, filtered-below (inCommon r n) 0 (2 ^ n) k h .1)
 
 -- a number is in it exactly where it is a pattern of the month and keeps the rule
 pub common-exactly : (r : Rules) (n : ℕ) → Exactly (λ p. ltb p (2 ^ n) && inCommon r n p) (common r n)
 unfolding common
 common-exactly r n =
-    kept-exactly (λ p. ltb p (2 ^ n) && inCommon r n p) (inCommon r n) (2 ^ n)
+    filtered-exactly (λ p. ltb p (2 ^ n) && inCommon r n p) (inCommon r n) (2 ^ n)
     (λ p e. let h = and-parts (ltb p (2 ^ n)) (inCommon r n p) e in (ltb-true p (2 ^ n) (h .0), h .1))
     (λ p l e. rw (lt-ltb p (2 ^ n) l) e)
 
@@ -46,7 +46,7 @@ hers-below w i p e = ltb-true p (2 ^ days w) (and-parts (ltb p (2 ^ days w)) _ e
 
 pub list-exactly : (w : List ℕ) (i : ℕ) → Exactly (hersOf w i) (nightList w i)
 unfolding nightList
-list-exactly w i = kept-exactly (hersOf w i) (hersOf w i) (2 ^ days w) (λ p e. (hers-below w i p e, e)) (λ p l e. e)
+list-exactly w i = filtered-exactly (hersOf w i) (hersOf w i) (2 ^ days w) (λ p e. (hers-below w i p e, e)) (λ p l e. e)
 
 -- what is hers is in the common list
 pub hers-common : (table : List (List ℕ)) (r : Rules) (n : ℕ) (b : List ℕ) (p : ℕ) → hers table r n b p ≡ true → inCommon r n p ≡ true
@@ -58,39 +58,39 @@ false-here : (t : Bool) → (t ≡ true → false ≡ true) → t ≡ false
 false-here true f = sym (f refl)
 false-here false f = refl
 
-keep-within : (t u : ℕ → Bool) → ((x : ℕ) → t x ≡ true → u x ≡ true) → (xs : List ℕ) → keep t (keep u xs) ≡ keep t xs
-unfolding keep
-keep-within t u f [] = refl
-keep-within t u f (x ∷ xs) = go (u x) refl (keep-within t u f xs)
+filter-within : (t u : ℕ → Bool) → ((x : ℕ) → t x ≡ true → u x ≡ true) → (xs : List ℕ) → filter t (filter u xs) ≡ filter t xs
+unfolding filter
+filter-within t u f [] = refl
+filter-within t u f (x ∷ xs) = go (u x) refl (filter-within t u f xs)
   where
-    go : (v : Bool) → u x ≡ v → keep t (keep u xs) ≡ keep t xs → keep t (cond (u x) (x ∷ keep u xs) (keep u xs)) ≡ cond (t x) (x ∷ keep t xs) (keep t xs)
+    go : (v : Bool) → u x ≡ v → filter t (filter u xs) ≡ filter t xs → filter t (cond (u x) (x ∷ filter u xs) (filter u xs)) ≡ cond (t x) (x ∷ filter t xs) (filter t xs)
     go true e q = rw (e, q)
     go false e q = rw (e, q, false-here (t x) (λ h. sym e ∙ f x h))
 
 -- her list is what the test keeps of the common list
-pub list-of-common : (w : List ℕ) (i : ℕ) → nightList w i ≡ keep (hersOf w i) (commonOf w)
+pub list-of-common : (w : List ℕ) (i : ℕ) → nightList w i ≡ filter (hersOf w i) (commonOf w)
 unfolding nightList common
-list-of-common w i = sym (keep-within (hersOf w i) (inCommon (rulesOf w) (days w)) (hers-common allowTable (rulesOf w) (days w) (block w i)) (upFrom 0 (2 ^ days w)))
+list-of-common w i = sym (filter-within (hersOf w i) (inCommon (rulesOf w) (days w)) (hers-common allowTable (rulesOf w) (days w) (block w i)) (upFrom 0 (2 ^ days w)))
 
 -- ---- whether a list has one of hers
 
-pub some-append : (t : ℕ → Bool) (xs ys : List ℕ) → ltb 0 (length (keep t (xs ++ ys))) ≡ (ltb 0 (length (keep t xs)) || ltb 0 (length (keep t ys)))
-some-append t xs ys = ap (λ (l : List ℕ). ltb 0 (length l)) (keep-append t xs ys) ∙ go (keep t xs)
+pub some-append : (t : ℕ → Bool) (xs ys : List ℕ) → ltb 0 (length (filter t (xs ++ ys))) ≡ (ltb 0 (length (filter t xs)) || ltb 0 (length (filter t ys)))
+some-append t xs ys = ap (λ (l : List ℕ). ltb 0 (length l)) (filter-append t xs ys) ∙ go (filter t xs)
   where
-    go : (zs : List ℕ) → ltb 0 (length (zs ++ keep t ys)) ≡ (ltb 0 (length zs) || ltb 0 (length (keep t ys)))
+    go : (zs : List ℕ) → ltb 0 (length (zs ++ filter t ys)) ≡ (ltb 0 (length zs) || ltb 0 (length (filter t ys)))
     go [] = refl
-    go (z ∷ zs) = rw (lt-ltb 0 (length (z ∷ (zs ++ keep t ys))) (omega arith), lt-ltb 0 (length (z ∷ zs)) (omega arith))
+    go (z ∷ zs) = rw (lt-ltb 0 (length (z ∷ (zs ++ filter t ys))) (omega arith), lt-ltb 0 (length (z ∷ zs)) (omega arith))
 
-pub some-one : (t : ℕ → Bool) (x : ℕ) → ltb 0 (length (keep t (x ∷ []))) ≡ t x
-unfolding keep
+pub some-one : (t : ℕ → Bool) (x : ℕ) → ltb 0 (length (filter t (x ∷ []))) ≡ t x
+unfolding filter
 some-one t x = go (t x)
   where
     go : (v : Bool) → ltb 0 (length (cond v (x ∷ []) [])) ≡ v
     go true = refl
     go false = refl
 
-pub some-none : (t : ℕ → Bool) → ltb 0 (length (keep t [])) ≡ false
-unfolding keep
+pub some-none : (t : ℕ → Bool) → ltb 0 (length (filter t [])) ≡ false
+unfolding filter
 some-none t = refl
 
 pub among-common : (r : Rules) (n : ℕ) → Among r n (common r n)
@@ -111,33 +111,33 @@ among-second r n xs ys a k h =
 
 -- the ways out of the walk that looks for one of hers: at a leaf, and below a day
 module _ (r : Rules) (n : ℕ) (t : ℕ → Bool) (L : List ℕ) (h : Bool) where
-  pub some-leaf : (x : ℕ) → L ≡ x ∷ [] → (x < 2 ^ n → inCommon r n x ≡ true → h ≡ t x) → Among r n L → h ≡ ltb 0 (length (keep t L))
+  pub some-leaf : (x : ℕ) → L ≡ x ∷ [] → (x < 2 ^ n → inCommon r n x ≡ true → h ≡ t x) → Among r n L → h ≡ ltb 0 (length (filter t L))
   unfolding Among
   some-leaf x e f a =
       let q = subst (Among r n) e a 0 (omega arith) in
-      f (q .0) (q .1) ∙ sym (ap (λ (l : List ℕ). ltb 0 (length (keep t l))) e ∙ some-one t x)
+      f (q .0) (q .1) ∙ sym (ap (λ (l : List ℕ). ltb 0 (length (filter t l))) e ∙ some-one t x)
 
-  pub some-empty : L ≡ [] → false ≡ ltb 0 (length (keep t L))
-  some-empty e = sym (ap (λ (l : List ℕ). ltb 0 (length (keep t l))) e ∙ some-none t)
+  pub some-empty : L ≡ [] → false ≡ ltb 0 (length (filter t L))
+  some-empty e = sym (ap (λ (l : List ℕ). ltb 0 (length (filter t l))) e ∙ some-none t)
 
-  pub some-low : (A B : List ℕ) → L ≡ A ++ B → (Among r n A → h ≡ ltb 0 (length (keep t A))) → h ≡ true → Among r n L → true ≡ ltb 0 (length (keep t L))
+  pub some-low : (A B : List ℕ) → L ≡ A ++ B → (Among r n A → h ≡ ltb 0 (length (filter t A))) → h ≡ true → Among r n L → true ≡ ltb 0 (length (filter t L))
   some-low A B e f is a =
       let low = f (among-first r n A B (subst (Among r n) e a)) in
-      sym (ap (λ (l : List ℕ). ltb 0 (length (keep t l))) e ∙ some-append t A B ∙ rw (sym low ∙ is))
+      sym (ap (λ (l : List ℕ). ltb 0 (length (filter t l))) e ∙ some-append t A B ∙ rw (sym low ∙ is))
 
-  pub some-high : (A B : List ℕ) (g : Bool) → L ≡ A ++ B → (Among r n A → h ≡ ltb 0 (length (keep t A))) → h ≡ false
-      → (Among r n B → g ≡ ltb 0 (length (keep t B))) → Among r n L → g ≡ ltb 0 (length (keep t L))
+  pub some-high : (A B : List ℕ) (g : Bool) → L ≡ A ++ B → (Among r n A → h ≡ ltb 0 (length (filter t A))) → h ≡ false
+      → (Among r n B → g ≡ ltb 0 (length (filter t B))) → Among r n L → g ≡ ltb 0 (length (filter t L))
   some-high A B g e f is k a =
       let both = subst (Among r n) e a in
       let low = f (among-first r n A B both) in
-      k (among-second r n A B both) ∙ sym (ap (λ (l : List ℕ). ltb 0 (length (keep t l))) e ∙ some-append t A B ∙ rw (sym low ∙ is))
+      k (among-second r n A B both) ∙ sym (ap (λ (l : List ℕ). ltb 0 (length (filter t l))) e ∙ some-append t A B ∙ rw (sym low ∙ is))
 
-  pub some-only : (A : List ℕ) → L ≡ A → (Among r n A → h ≡ ltb 0 (length (keep t A))) → h ≡ false → Among r n L → false ≡ ltb 0 (length (keep t L))
-  some-only A e f is a = sym (ap (λ (l : List ℕ). ltb 0 (length (keep t l))) e ∙ sym (f (subst (Among r n) e a)) ∙ is)
+  pub some-only : (A : List ℕ) → L ≡ A → (Among r n A → h ≡ ltb 0 (length (filter t A))) → h ≡ false → Among r n L → false ≡ ltb 0 (length (filter t L))
+  some-only A e f is a = sym (ap (λ (l : List ℕ). ltb 0 (length (filter t l))) e ∙ sym (f (subst (Among r n) e a)) ∙ is)
 
 -- the walk over the whole month
 pub some-of-list : (w : List ℕ) (i : ℕ) (L : List ℕ) (h : Bool) → L ≡ commonOf w
-    → (Among (rulesOf w) (days w) L → h ≡ ltb 0 (length (keep (hersOf w i) L))) → h ≡ ltb 0 (length (nightList w i))
+    → (Among (rulesOf w) (days w) L → h ≡ ltb 0 (length (filter (hersOf w i) L))) → h ≡ ltb 0 (length (nightList w i))
 some-of-list w i L h e f =
     f (subst (Among (rulesOf w) (days w)) (sym e) (among-common (rulesOf w) (days w)))
-    ∙ ap (λ (l : List ℕ). ltb 0 (length (keep (hersOf w i) l))) e ∙ ap (λ (l : List ℕ). ltb 0 (length l)) (sym (list-of-common w i))
+    ∙ ap (λ (l : List ℕ). ltb 0 (length (filter (hersOf w i) l))) e ∙ ap (λ (l : List ℕ). ltb 0 (length l)) (sym (list-of-common w i))

@@ -11,8 +11,8 @@ use lib.Dec.{leb, ltb, eqb}
 use lib.ListN.{length, getD, take, drop, length-append, drop-of-length-le}
 use lib.Seq.{drop-cons, take-append-seam, drop-append-seam}
 use borrow.Author.Tests.{ltb-true, lt-ltb, leb-true, le-leb, eqb-true, eqb-false, ne-eqb}
-use Rattle.numbers.specs.Range.{keep}
-use Rattle.numbers.proofs.RangeLaws.{and-parts, range-all, range-each, keep-each}
+use Rattle.numbers.specs.Range.{filter}
+use Rattle.numbers.proofs.RangeLaws.{and-parts, range-all, range-each, filter-each}
 use Rattle.fields.specs.Fields.{days, block, longestRun, leastNightsOf, mostNightsOf, markOn}
 use Rattle.fields.specs.Rules.{rulesOf, gap}
 use Rattle.fields.specs.declared.rules.Rules.{Rules}
@@ -209,9 +209,9 @@ module _ (w : List ℕ) (p : ℕ) (some : 1 ≤ longestRun w) where
         )
 
 -- her list is what of the common list meets what is hers
-pub list-filtered : (w : List ℕ) (i : ℕ) → nightList w i ≡ keep (meetsHersOf w i) (commonOf w)
+pub list-filtered : (w : List ℕ) (i : ℕ) → nightList w i ≡ filter (meetsHersOf w i) (commonOf w)
 unfolding hers
 list-filtered w i =
     list-of-common w i
-    ∙ keep-each (hersOf w i) (meetsHersOf w i) (commonOf w)
+    ∙ filter-each (hersOf w i) (meetsHersOf w i) (commonOf w)
     (λ k h. rw (lt-ltb (getD (commonOf w) k 0) (2 ^ days w) (common-below (rulesOf w) (days w) k h), common-keeps (rulesOf w) (days w) k h))

@@ -4,7 +4,7 @@ use mathlib.Core.List.{List, [], _∷_}
 use Prim.Native.Nat.{ℕ, zero, suc, _+_, _^_}
 use lib.Dec.{leb, ltb, eqb}
 use lib.ListN.{length}
-use Rattle.numbers.specs.Range.{upFrom, keep}
+use Rattle.numbers.specs.Range.{upFrom, filter}
 use Rattle.fields.specs.Fields.{days, block, duty, leastNightsOf, mostNightsOf}
 use Rattle.rows.specs.Rows.{allowTable, marksAllow}
 use Rattle.fields.specs.declared.rules.Rules.{Rules}
@@ -28,7 +28,7 @@ lastDuty b (suc k) = duty b k
 
 -- the 2s of her seven days
 abbrev pub twos : List ℕ → List ℕ
-twos b = keep (λ d. eqb (lastDuty b d) 2) (upFrom 1 7)
+twos b = filter (λ d. eqb (lastDuty b d) 2) (upFrom 1 7)
 
 -- the last of them, and the length of its run; 0 and 0 where there is none
 unfoldable pub lastRun : List ℕ → ℕ × ℕ
@@ -55,4 +55,4 @@ hersOf w i p = hers allowTable (rulesOf w) (days w) (block w i) p
 
 -- her list, by ascending number
 unfoldable pub nightList : List ℕ → ℕ → List ℕ
-nightList w i = keep (hersOf w i) (upFrom 0 (2 ^ days w))
+nightList w i = filter (hersOf w i) (upFrom 0 (2 ^ days w))

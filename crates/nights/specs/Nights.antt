@@ -4,7 +4,7 @@ use mathlib.Core.List.{List, [], _∷_}
 use Prim.Native.Nat.{ℕ, _+_, _^_}
 use lib.Dec.{leb, eqb}
 use lib.ListN.{length}
-use Rattle.numbers.specs.Range.{upFrom, keep}
+use Rattle.numbers.specs.Range.{upFrom, filter}
 use Rattle.rows.specs.Rows.{started}
 use Rattle.fields.specs.Fields.{days}
 use Rattle.fields.specs.Rules.{rulesOf, gap}
@@ -12,7 +12,7 @@ use Rattle.fields.specs.declared.rules.Rules.{Rules}
 
 -- the starts of p in a month of n days, ascending
 unfoldable pub starts : ℕ → ℕ → List ℕ
-starts n p = keep (started p) (upFrom 1 n)
+starts n p = filter (started p) (upFrom 1 n)
 
 -- A start on day s, where the start before it was on day prev, the run-th of its run; run 0: there is none before it.
 -- Two days on is one run, of at most `longest` starts; anything else is a new run, and is at least 2 and the gap days on.
@@ -34,7 +34,7 @@ inCommon r n p = leb (length (starts n p)) (r .most) && follow r 0 0 (starts n p
 
 -- all patterns of at most V starts that keep the rule, by ascending number
 unfoldable pub common : Rules → ℕ → List ℕ
-common r n = keep (inCommon r n) (upFrom 0 (2 ^ n))
+common r n = filter (inCommon r n) (upFrom 0 (2 ^ n))
 
 abbrev pub commonOf : List ℕ → List ℕ
 commonOf w = common (rulesOf w) (days w)

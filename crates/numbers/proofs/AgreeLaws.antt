@@ -8,9 +8,9 @@ use lib.Dec.{eqb}
 use lib.ListN.{length, getD}
 use lib.Bits.{bitOr}
 use lib.Pow.{shr-shr, shl-shr}
-use Rattle.numbers.specs.Range.{upFrom, keep, all}
+use Rattle.numbers.specs.Range.{upFrom, filter, all}
 use Rattle.numbers.specs.Digits.{has}
-use Rattle.numbers.proofs.RangeLaws.{range-below, keep-each}
+use Rattle.numbers.proofs.RangeLaws.{range-below, filter-each}
 use Rattle.numbers.proofs.DigitLaws.{low-digit}
 use Rattle.numbers.proofs.SetLaws.{has-or}
 
@@ -21,8 +21,8 @@ unfolding upFrom
 map-agree f g a zero h = refl
 map-agree f g a (suc n) h = rw (h a (omega arith) (omega arith), map-agree f g (suc a) n (λ x l k. h x (omega arith) (omega arith)))
 
-pub keep-agree : (t u : ℕ → Bool) (a n : ℕ) → ((x : ℕ) → a ≤ x → x < a + n → t x ≡ u x) → keep t (upFrom a n) ≡ keep u (upFrom a n)
-keep-agree t u a n h = keep-each t u (upFrom a n) (λ i l. h (getD (upFrom a n) i 0) (range-below a n i l .0) (range-below a n i l .1))
+pub filter-agree : (t u : ℕ → Bool) (a n : ℕ) → ((x : ℕ) → a ≤ x → x < a + n → t x ≡ u x) → filter t (upFrom a n) ≡ filter u (upFrom a n)
+filter-agree t u a n h = filter-each t u (upFrom a n) (λ i l. h (getD (upFrom a n) i 0) (range-below a n i l .0) (range-below a n i l .1))
 
 pub all-agree : (t u : ℕ → Bool) (a n : ℕ) → ((x : ℕ) → a ≤ x → x < a + n → t x ≡ u x) → all t (upFrom a n) ≡ all u (upFrom a n)
 unfolding upFrom all
@@ -30,19 +30,19 @@ all-agree t u a zero h = refl
 all-agree t u a (suc n) h = rw (h a (omega arith) (omega arith), all-agree t u (suc a) n (λ x l k. h x (omega arith) (omega arith)))
 
 -- nothing is kept where nothing passes
-pub keep-none : (t : ℕ → Bool) (a n : ℕ) → ((x : ℕ) → a ≤ x → x < a + n → t x ≡ false) → keep t (upFrom a n) ≡ []
-unfolding upFrom keep
-keep-none t a zero h = refl
-keep-none t a (suc n) h = rw (h a (omega arith) (omega arith)) (keep-none t (suc a) n (λ x l k. h x (omega arith) (omega arith)))
+pub filter-none : (t : ℕ → Bool) (a n : ℕ) → ((x : ℕ) → a ≤ x → x < a + n → t x ≡ false) → filter t (upFrom a n) ≡ []
+unfolding upFrom filter
+filter-none t a zero h = refl
+filter-none t a (suc n) h = rw (h a (omega arith) (omega arith)) (filter-none t (suc a) n (λ x l k. h x (omega arith) (omega arith)))
 
-kept-le : (b : Bool) (x : ℕ) (xs : List ℕ) → length (cond b (x ∷ xs) xs) ≤ suc (length xs)
-kept-le true x xs = omega arith
-kept-le false x xs = omega arith
+filtered-le : (b : Bool) (x : ℕ) (xs : List ℕ) → length (cond b (x ∷ xs) xs) ≤ suc (length xs)
+filtered-le true x xs = omega arith
+filtered-le false x xs = omega arith
 
-pub keep-le : (t : ℕ → Bool) (xs : List ℕ) → length (keep t xs) ≤ length xs
-unfolding keep
-keep-le t [] = omega arith
-keep-le t (x ∷ xs) = omega (arith, kept-le (t x) x (keep t xs), keep-le t xs)
+pub filter-le : (t : ℕ → Bool) (xs : List ℕ) → length (filter t xs) ≤ length xs
+unfolding filter
+filter-le t [] = omega arith
+filter-le t (x ∷ xs) = omega (arith, filtered-le (t x) x (filter t xs), filter-le t xs)
 
 -- ---- digits
 

@@ -6,8 +6,8 @@ use Prim.Native.Nat.{ℕ, zero, suc, _+_, _-_, _*_, _^_}
 use native.Mathlib.Nat.{pow-suc, mul-comm, mul-assoc, add-mul, one-mul}
 use native.Mathlib.Numerals.{sub-one}
 use native.Mathlib.Omega.{arith}
-use Rattle.numbers.specs.Range.{upFrom, keep}
-use Rattle.numbers.proofs.RangeLaws.{range-add, keep-append}
+use Rattle.numbers.specs.Range.{upFrom, filter}
+use Rattle.numbers.proofs.RangeLaws.{range-add, filter-append}
 
 pub pow-twice : (d : ℕ) → 2 ^ suc d ≡ 2 ^ d + 2 ^ d
 pow-twice d = rw (pow-suc 2 d) (omega arith)
@@ -24,8 +24,8 @@ pub high-half : (d q : ℕ) → q * 2 ^ suc d + 2 ^ d ≡ (q * 2 + 1) * 2 ^ d
 high-half d q = rw (add-mul, one-mul, low-half)
 
 -- what a test keeps of both halves
-pub keep-halves : (t : ℕ → Bool) (a d : ℕ) → keep t (upFrom a (2 ^ suc d)) ≡ keep t (upFrom a (2 ^ d)) ++ keep t (upFrom (a + 2 ^ d) (2 ^ d))
-keep-halves t a d =
-    ap (λ (k : ℕ). keep t (upFrom a k)) (pow-twice d)
-    ∙ ap (keep t) (range-add a (2 ^ d) (2 ^ d))
-    ∙ keep-append t (upFrom a (2 ^ d)) (upFrom (a + 2 ^ d) (2 ^ d))
+pub filter-halves : (t : ℕ → Bool) (a d : ℕ) → filter t (upFrom a (2 ^ suc d)) ≡ filter t (upFrom a (2 ^ d)) ++ filter t (upFrom (a + 2 ^ d) (2 ^ d))
+filter-halves t a d =
+    ap (λ (k : ℕ). filter t (upFrom a k)) (pow-twice d)
+    ∙ ap (filter t) (range-add a (2 ^ d) (2 ^ d))
+    ∙ filter-append t (upFrom a (2 ^ d)) (upFrom (a + 2 ^ d) (2 ^ d))

@@ -8,7 +8,7 @@ use native.Mathlib.Omega.{arith}
 use native.Mathlib.Decide.{decLt}
 use mathlib.Core.Logic.{_⊎_, inl, inr}
 use lib.ListN.{length, getD}
-use Rattle.numbers.specs.Range.{upFrom, keep, all, Ascending, At, Exactly}
+use Rattle.numbers.specs.Range.{upFrom, filter, all, Ascending, At, Exactly}
 use Rattle.numbers.specs.Sum.{oneIf}
 
 -- ---- ranges
@@ -51,26 +51,26 @@ range-turn n d h = range-next (suc d) (suc (d + 1)) n d (omega arith) h
 -- ---- what a test keeps
 
 -- tests that agree on each of a list keep the same of it
-pub keep-each : (t u : ℕ → Bool) (xs : List ℕ) → ((i : ℕ) → i < length xs → t (getD xs i 0) ≡ u (getD xs i 0)) → keep t xs ≡ keep u xs
-unfolding keep
-keep-each t u [] h = refl
-keep-each t u (x ∷ xs) h = rw (h 0 (omega arith), keep-each t u xs (λ i l. h (suc i) (suc-le-suc l)))
+pub filter-each : (t u : ℕ → Bool) (xs : List ℕ) → ((i : ℕ) → i < length xs → t (getD xs i 0) ≡ u (getD xs i 0)) → filter t xs ≡ filter u xs
+unfolding filter
+filter-each t u [] h = refl
+filter-each t u (x ∷ xs) h = rw (h 0 (omega arith), filter-each t u xs (λ i l. h (suc i) (suc-le-suc l)))
 
-pub keep-same : (t u : ℕ → Bool) → ((x : ℕ) → t x ≡ u x) → (xs : List ℕ) → keep t xs ≡ keep u xs
-keep-same t u e xs = keep-each t u xs (λ i l. e (getD xs i 0))
+pub filter-same : (t u : ℕ → Bool) → ((x : ℕ) → t x ≡ u x) → (xs : List ℕ) → filter t xs ≡ filter u xs
+filter-same t u e xs = filter-each t u xs (λ i l. e (getD xs i 0))
 
 cond-append : (b : Bool) (x : ℕ) (xs ys : List ℕ) → cond b (x ∷ (xs ++ ys)) (xs ++ ys) ≡ cond b (x ∷ xs) xs ++ ys
 cond-append true x xs ys = refl
 cond-append false x xs ys = refl
 
-pub keep-append : (t : ℕ → Bool) (xs ys : List ℕ) → keep t (xs ++ ys) ≡ keep t xs ++ keep t ys
-unfolding keep
-keep-append t [] ys = refl
-keep-append t (x ∷ xs) ys = rw (keep-append t xs ys) (cond-append (t x) x (keep t xs) (keep t ys))
+pub filter-append : (t : ℕ → Bool) (xs ys : List ℕ) → filter t (xs ++ ys) ≡ filter t xs ++ filter t ys
+unfolding filter
+filter-append t [] ys = refl
+filter-append t (x ∷ xs) ys = rw (filter-append t xs ys) (cond-append (t x) x (filter t xs) (filter t ys))
 
-pub length-kept : (b : Bool) (x : ℕ) (xs : List ℕ) → length (cond b (x ∷ xs) xs) ≡ oneIf b + length xs
-length-kept true x xs = omega arith
-length-kept false x xs = omega arith
+pub length-filtered : (b : Bool) (x : ℕ) (xs : List ℕ) → length (cond b (x ∷ xs) xs) ≡ oneIf b + length xs
+length-filtered true x xs = omega arith
+length-filtered false x xs = omega arith
 
 -- one more number in front, kept or not
 front : (P : ℕ → Type 0) (x : ℕ) (ys : List ℕ) (b : Bool) → (b ≡ true → P x) → ((k : ℕ) → k < length ys → P (getD ys k 0))
@@ -80,17 +80,17 @@ front P x ys true p rest (suc k) l = rest k (le-of-suc-le-suc l)
 front P x ys false p rest k l = rest k l
 
 -- what all have that pass the test, all of the kept have
-pub keep-all : (P : ℕ → Type 0) (t : ℕ → Bool) (xs : List ℕ)
+pub filter-all : (P : ℕ → Type 0) (t : ℕ → Bool) (xs : List ℕ)
     → ((i : ℕ) → i < length xs → t (getD xs i 0) ≡ true → P (getD xs i 0))
-    → (k : ℕ) → k < length (keep t xs) → P (getD (keep t xs) k 0)
-unfolding keep
-keep-all P t [] f k h = absurd (not-suc-le-zero h)
-keep-all P t (x ∷ xs) f k h =
-    front P x (keep t xs) (t x) (λ e. f 0 (omega arith) e) (λ j l. keep-all P t xs (λ i m e. f (suc i) (suc-le-suc m) e) j l) k h
+    → (k : ℕ) → k < length (filter t xs) → P (getD (filter t xs) k 0)
+unfolding filter
+filter-all P t [] f k h = absurd (not-suc-le-zero h)
+filter-all P t (x ∷ xs) f k h =
+    front P x (filter t xs) (t x) (λ e. f 0 (omega arith) e) (λ j l. filter-all P t xs (λ i m e. f (suc i) (suc-le-suc m) e) j l) k h
 
 -- each of the kept passes the test
-pub keep-passes : (t : ℕ → Bool) (xs : List ℕ) (k : ℕ) → k < length (keep t xs) → t (getD (keep t xs) k 0) ≡ true
-keep-passes t xs k h = keep-all (λ (x : ℕ). t x ≡ true) t xs (λ i l e. e) k h
+pub filter-passes : (t : ℕ → Bool) (xs : List ℕ) (k : ℕ) → k < length (filter t xs) → t (getD (filter t xs) k 0) ≡ true
+filter-passes t xs k h = filter-all (λ (x : ℕ). t x ≡ true) t xs (λ i l e. e) k h
 
 -- each of a range is in its bounds
 pub range-below : (a n i : ℕ) → i < length (upFrom a n) → (a ≤ getD (upFrom a n) i 0) × (getD (upFrom a n) i 0 < a + n)
@@ -99,8 +99,8 @@ range-below a n i h =
     let e = range-at a n i l in
     (omega arith, omega arith)
 
-pub kept-below : (t : ℕ → Bool) (a n k : ℕ) → k < length (keep t (upFrom a n)) → (a ≤ getD (keep t (upFrom a n)) k 0) × (getD (keep t (upFrom a n)) k 0 < a + n)
-kept-below t a n k h = keep-all (λ (x : ℕ). (a ≤ x) × (x < a + n)) t (upFrom a n) (λ i l e. range-below a n i l) k h
+pub filtered-below : (t : ℕ → Bool) (a n k : ℕ) → k < length (filter t (upFrom a n)) → (a ≤ getD (filter t (upFrom a n)) k 0) × (getD (filter t (upFrom a n)) k 0 < a + n)
+filtered-below t a n k h = filter-all (λ (x : ℕ). (a ≤ x) × (x < a + n)) t (upFrom a n) (λ i l e. range-below a n i l) k h
 
 -- ---- order
 
@@ -115,16 +115,16 @@ ascending-cons x xs f up zero (suc k) l h = f k (le-of-suc-le-suc h)
 ascending-cons x xs f up (suc j) zero l h = absurd (not-suc-le-zero l)
 ascending-cons x xs f up (suc j) (suc k) l h = up j k (le-of-suc-le-suc l) (le-of-suc-le-suc h)
 
-kept-ascending : (b : Bool) (x : ℕ) (ys : List ℕ) → ((k : ℕ) → k < length ys → x < getD ys k 0) → Ascending ys → Ascending (cond b (x ∷ ys) ys)
-kept-ascending true x ys f up = ascending-cons x ys f up
-kept-ascending false x ys f up = up
+filtered-ascending : (b : Bool) (x : ℕ) (ys : List ℕ) → ((k : ℕ) → k < length ys → x < getD ys k 0) → Ascending ys → Ascending (cond b (x ∷ ys) ys)
+filtered-ascending true x ys f up = ascending-cons x ys f up
+filtered-ascending false x ys f up = up
 
 -- what a test keeps of a range is ascending, so each number is there once
-pub keep-ascending : (t : ℕ → Bool) (a n : ℕ) → Ascending (keep t (upFrom a n))
-unfolding keep upFrom
-keep-ascending t a zero = ascending-nil
-keep-ascending t a (suc n) =
-    kept-ascending (t a) a (keep t (upFrom (suc a) n)) (λ k h. kept-below t (suc a) n k h .0) (keep-ascending t (suc a) n)
+pub filter-ascending : (t : ℕ → Bool) (a n : ℕ) → Ascending (filter t (upFrom a n))
+unfolding filter upFrom
+filter-ascending t a zero = ascending-nil
+filter-ascending t a (suc n) =
+    filtered-ascending (t a) a (filter t (upFrom (suc a) n)) (λ k h. filtered-below t (suc a) n k h .0) (filter-ascending t (suc a) n)
 
 -- ---- membership
 
@@ -140,18 +140,18 @@ in-step t a x ys e f (inl q) = subst (λ (y : ℕ). At (cond (t y) (y ∷ ys) ys
 in-step t a x ys e f (inr q) = at-front (t a) x a ys (f q)
 
 -- a number of the range that passes the test is kept
-pub kept-in : (t : ℕ → Bool) (a n x : ℕ) → a ≤ x → x < a + n → t x ≡ true → At (keep t (upFrom a n)) x
-unfolding keep upFrom
-kept-in t a zero x l h e = absurd (omega arith)
-kept-in t a (suc n) x l h e =
-    in-step t a x (keep t (upFrom (suc a) n)) e (λ q. kept-in t (suc a) n x q (omega arith) e) (eq-or-lt-of-le l)
+pub filtered-in : (t : ℕ → Bool) (a n x : ℕ) → a ≤ x → x < a + n → t x ≡ true → At (filter t (upFrom a n)) x
+unfolding filter upFrom
+filtered-in t a zero x l h e = absurd (omega arith)
+filtered-in t a (suc n) x l h e =
+    in-step t a x (filter t (upFrom (suc a) n)) e (λ q. filtered-in t (suc a) n x q (omega arith) e) (eq-or-lt-of-le l)
 
 -- and nothing else is
-pub kept-only : (t : ℕ → Bool) (a n x : ℕ) → At (keep t (upFrom a n)) x → (t x ≡ true) × (a ≤ x) × (x < a + n)
-kept-only t a n x at =
+pub filtered-only : (t : ℕ → Bool) (a n x : ℕ) → At (filter t (upFrom a n)) x → (t x ≡ true) × (a ≤ x) × (x < a + n)
+filtered-only t a n x at =
     let k = at .place in
-    let p = keep-passes t (upFrom a n) k (at .inside) in
-    let b = kept-below t a n k (at .inside) in
+    let p = filter-passes t (upFrom a n) k (at .inside) in
+    let b = filtered-below t a n k (at .inside) in
     (ap t (sym (at .there)) ∙ p, omega (arith, at .there, b .0), omega (arith, at .there, b .1))
 
 -- an ascending list has each number once
@@ -165,13 +165,13 @@ ascending-once xs a j k l h e = go (decLt j k) (decLt k j)
     go (no p) (no q) = omega arith
 
 -- what a test keeps of the numbers below n is exactly what passes a rule, where the rule is the test and being below n
-pub kept-exactly : (rule t : ℕ → Bool) (n : ℕ) → ((x : ℕ) → rule x ≡ true → (x < n) × (t x ≡ true)) → ((x : ℕ) → x < n → t x ≡ true → rule x ≡ true)
-    → Exactly rule (keep t (upFrom 0 n))
-kept-exactly rule t n f g = record {
-  every = λ x e. let p = f x e in kept-in t 0 n x (omega arith) (omega (arith, p .0)) (p .1);
-  only = λ x a. let p = kept-only t 0 n x a in g x (omega (arith, p .2)) (p .0);
-  once = ascending-once (keep t (upFrom 0 n)) (keep-ascending t 0 n);
-  ascending = keep-ascending t 0 n;
+pub filtered-exactly : (rule t : ℕ → Bool) (n : ℕ) → ((x : ℕ) → rule x ≡ true → (x < n) × (t x ≡ true)) → ((x : ℕ) → x < n → t x ≡ true → rule x ≡ true)
+    → Exactly rule (filter t (upFrom 0 n))
+filtered-exactly rule t n f g = record {
+  every = λ x e. let p = f x e in filtered-in t 0 n x (omega arith) (omega (arith, p .0)) (p .1);
+  only = λ x a. let p = filtered-only t 0 n x a in g x (omega (arith, p .2)) (p .0);
+  once = ascending-once (filter t (upFrom 0 n)) (filter-ascending t 0 n);
+  ascending = filter-ascending t 0 n;
 }
 
 -- ---- all

@@ -11,9 +11,9 @@ upFrom a zero = []
 upFrom a (suc n) = a ∷ upFrom (suc a) n
 
 -- those of a list that pass a test, in their order
-unfoldable pub keep : (ℕ → Bool) → List ℕ → List ℕ
-keep t [] = []
-keep t (x ∷ xs) = cond (t x) (x ∷ keep t xs) (keep t xs)
+unfoldable pub filter : (ℕ → Bool) → List ℕ → List ℕ
+filter t [] = []
+filter t (x ∷ xs) = cond (t x) (x ∷ filter t xs) (filter t xs)
 
 -- whether all of a list pass a test
 unfoldable pub all : (ℕ → Bool) → List ℕ → Bool

@@ -11,10 +11,10 @@ use lib.ListN.{length, getD}
 use lib.Pow.{pow-pos}
 use borrow.Author.Tests.{eqb-true, eqb-false, eq-eqb, ne-eqb, le-leb, lt-leb, lt-ltb}
 use Rattle.fields.specs.Sizes.{dayPlaces}
-use Rattle.numbers.specs.Range.{upFrom, keep}
+use Rattle.numbers.specs.Range.{upFrom, filter}
 use Rattle.numbers.specs.Sum.{countTo}
 use Rattle.numbers.specs.Digits.{has}
-use Rattle.numbers.proofs.RangeLaws.{keep-passes, and-parts, tests-alike}
+use Rattle.numbers.proofs.RangeLaws.{filter-passes, and-parts, tests-alike}
 use Rattle.numbers.proofs.SetLaws.{has-and, has-not, has-above}
 use Rattle.rows.specs.Rows.{started, allowTable, marksAllow}
 use Rattle.fields.specs.Fields.{leastNightsOf, mostNightsOf}
@@ -100,8 +100,8 @@ late-start k p (suc d) e h = go (decLt d k)
 first-late : (k p n s : ℕ) (ss : List ℕ) → bitAnd p (2 ^ k - 1) ≡ 0 → starts n p ≡ s ∷ ss → k + 8 ≤ s + 7
 unfolding starts
 first-late k p n s ss e h =
-    let there : 0 < length (keep (started p) (upFrom 1 n)) = rw h (omega arith) in
-    let passes = keep-passes (started p) (upFrom 1 n) 0 there in
+    let there : 0 < length (filter (started p) (upFrom 1 n)) = rw h (omega arith) in
+    let passes = filter-passes (started p) (upFrom 1 n) 0 there in
     late-start k p s e (ap (λ (l : List ℕ). started p (getD l 0 0)) (sym h) ∙ passes)
 
 nothing : (r : Rules) (prev run : ℕ) → follow r prev run [] ≡ follow r 0 0 []

@@ -10,8 +10,8 @@ use native.Mathlib.Omega.{arith}
 use borrow.Author.Tests.{lt-ltb, le-ltb, eq-eqb, ne-eqb}
 use lib.Dec.{ltb, eqb}
 use lib.ListN.{length, getD}
-use Rattle.numbers.specs.Range.{upFrom, keep, all, At}
-use Rattle.numbers.proofs.RangeLaws.{kept-in}
+use Rattle.numbers.specs.Range.{upFrom, filter, all, At}
+use Rattle.numbers.proofs.RangeLaws.{filtered-in}
 use Rattle.fields.specs.Fields.{Accepted, nurses, days, tabu}
 use Rattle.nights.specs.Hers.{hersOf, nightList}
 use Rattle.nights.proofs.ListLaws.{hers-below}
@@ -43,33 +43,33 @@ among-place (x ∷ xs) zero p l e = rw (eq-eqb x p e)
 among-place (x ∷ xs) (suc k) p l e = or-right (eqb x p) (among xs p) (among-place xs k p (le-of-suc-le-suc l) e)
 
 -- a number that fails the test is not among what it keeps
-among-not : (t : ℕ → Bool) (p : ℕ) → t p ≡ false → (xs : List ℕ) → among (keep t xs) p ≡ false
-unfolding keep
+among-not : (t : ℕ → Bool) (p : ℕ) → t p ≡ false → (xs : List ℕ) → among (filter t xs) p ≡ false
+unfolding filter
 among-not t p e [] = refl
 among-not t p e (x ∷ xs) = go (t x) refl (among-not t p e xs)
   where
-    go : (b : Bool) → t x ≡ b → among (keep t xs) p ≡ false → among (cond (t x) (x ∷ keep t xs) (keep t xs)) p ≡ false
+    go : (b : Bool) → t x ≡ b → among (filter t xs) p ≡ false → among (cond (t x) (x ∷ filter t xs) (filter t xs)) p ≡ false
     go true h q = rw (h, ne-eqb x p (λ s. not-both h (ap t s ∙ e))) q
     go false h q = rw h q
 
 -- whether p is among what a test keeps of the numbers below n is the test, where it passes no others
-pub among-keep : (t : ℕ → Bool) (n p : ℕ) → (t p ≡ true → p < n) → among (keep t (upFrom 0 n)) p ≡ t p
-among-keep t n p f = go (t p) refl
+pub among-filter : (t : ℕ → Bool) (n p : ℕ) → (t p ≡ true → p < n) → among (filter t (upFrom 0 n)) p ≡ t p
+among-filter t n p f = go (t p) refl
   where
-    go : (b : Bool) → t p ≡ b → among (keep t (upFrom 0 n)) p ≡ t p
+    go : (b : Bool) → t p ≡ b → among (filter t (upFrom 0 n)) p ≡ t p
     go true e =
-        let a : At (keep t (upFrom 0 n)) p = kept-in t 0 n p (omega arith) (omega (arith, f e)) e in
-        among-place (keep t (upFrom 0 n)) (a .place) p (a .inside) (a .there) ∙ sym e
+        let a : At (filter t (upFrom 0 n)) p = filtered-in t 0 n p (omega arith) (omega (arith, f e)) e in
+        among-place (filter t (upFrom 0 n)) (a .place) p (a .inside) (a .there) ∙ sym e
     go false e = among-not t p e (upFrom 0 n) ∙ sym e
 
 module _ (w nights : List ℕ) (i p : ℕ) where
   pub hers-by-night : hersOf w i p ≡ among (phaseOf Nights w nights .patterns i) p
   unfolding phaseOf nightPhase nightList
-  hers-by-night = sym (among-keep (hersOf w i) (2 ^ days w) p (hers-below w i p))
+  hers-by-night = sym (among-filter (hersOf w i) (2 ^ days w) p (hers-below w i p))
 
   pub hers-by-day : dayRuleOf w i (getD nights i 0) p ≡ among (phaseOf Days w nights .patterns i) p
   unfolding phaseOf dayPhase dayList
-  hers-by-day = sym (among-keep (dayRuleOf w i (getD nights i 0)) (2 ^ days w) p (rule-below w i (getD nights i 0) p))
+  hers-by-day = sym (among-filter (dayRuleOf w i (getD nights i 0)) (2 ^ days w) p (rule-below w i (getD nights i 0) p))
 
   pub own-night : {which : Search} {r : Bool} → which ≡ Nights → r ≡ hersOf w i p → r ≡ among (phaseOf which w nights .patterns i) p
   own-night e h = rw e (h ∙ hers-by-night)

@@ -7,7 +7,7 @@ use mathlib.Core.List.{List, [], _∷_, List·Memᴰ, List·Memᴰ·not-nil, Lis
 use mathlib.Core.Option.{none, some}
 use lib.Dec.{leb, eqb}
 use borrow.Author.Tests.{eqb-true}
-use Rattle.numbers.specs.Range.{keep, upFrom, all}
+use Rattle.numbers.specs.Range.{filter, upFrom, all}
 use Rattle.numbers.specs.Digits.{has}
 use Rattle.numbers.proofs.AllLaws.{all-each}
 use Rattle.fields.specs.Fields.{Accepted, nurses, days}
@@ -47,14 +47,14 @@ use Rattle.phases.proofs.PhaseLaws.{night-fits, night-lawful, day-fits, day-law
 
 -- ---- what is kept passes the test
 
-kept-front : (t : ℕ → Bool) (y x : ℕ) (rest : List ℕ) (b : Bool) → t y ≡ b → (List·Memᴰ x rest → t x ≡ true) → List·Memᴰ x (cond b (y ∷ rest) rest) → t x ≡ true
-kept-front t y x rest true e f m = ⊎-elim (λ q. ap t q ∙ e) f (List·Memᴰ·cases-cons m)
-kept-front t y x rest false e f m = f m
+filtered-front : (t : ℕ → Bool) (y x : ℕ) (rest : List ℕ) (b : Bool) → t y ≡ b → (List·Memᴰ x rest → t x ≡ true) → List·Memᴰ x (cond b (y ∷ rest) rest) → t x ≡ true
+filtered-front t y x rest true e f m = ⊎-elim (λ q. ap t q ∙ e) f (List·Memᴰ·cases-cons m)
+filtered-front t y x rest false e f m = f m
 
-pub member-kept : (t : ℕ → Bool) (xs : List ℕ) (x : ℕ) → List·Memᴰ x (keep t xs) → t x ≡ true
-unfolding keep
-member-kept t [] x m = absurd (List·Memᴰ·not-nil m)
-member-kept t (y ∷ ys) x m = kept-front t y x (keep t ys) (t y) refl (λ r. member-kept t ys x r) m
+pub member-filtered : (t : ℕ → Bool) (xs : List ℕ) (x : ℕ) → List·Memᴰ x (filter t xs) → t x ≡ true
+unfolding filter
+member-filtered t [] x m = absurd (List·Memᴰ·not-nil m)
+member-filtered t (y ∷ ys) x m = filtered-front t y x (filter t ys) (t y) refl (λ r. member-filtered t ys x r) m
 
 -- ---- the roster
 
@@ -122,7 +122,7 @@ module _ (w : List ℕ) (nights : ℕ → ℕ) where
         let parts = and-true (all (λ i. hersOf w i (nights i)) (upFrom 0 (nurses w))) (eqb (nightPenalty w (λ i. some (nights i))) 0) o in
         let all-hers : Patterns w nights (patterns slots z) = record {
           nights-hers = λ i l. all-each (λ j. hersOf w j (nights j)) (nurses w) i (parts .0) l;
-          days-hers = λ i l. member-kept (dayRuleOf w i (nights i)) _ (patterns slots z i) (own i (patterns slots z i) (placed slots z i l));
+          days-hers = λ i l. member-filtered (dayRuleOf w i (nights i)) _ (patterns slots z i) (own i (patterns slots z i) (placed slots z i l));
         } in
         let g = given-at-zero w nights (patterns slots z) a all-hers (eqb-true _ 0 (parts .1)) (penalty-alike slots z) in
         (g .placed, g .yes-said)

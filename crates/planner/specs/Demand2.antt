@@ -8,7 +8,7 @@ use mathlib.Core.List.{List}
 use mathlib.Core.Option.{none}
 use lib.Dec.{ltb}
 use lib.ListN.{getD}
-use Rattle.numbers.specs.Range.{keep, Exactly}
+use Rattle.numbers.specs.Range.{filter, Exactly}
 use Rattle.fields.specs.Fields.{nurses, days, longestDays, block}
 use Rattle.fields.specs.Rules.{rulesOf}
 use Rattle.layout.specs.Grammar.{good}
@@ -59,7 +59,7 @@ pub record Demand2 : Type 0 where
   pub nights-listed : (w : List ℕ) (i : ℕ) → Exactly (hersOf w i) (nightList w i)
   pub days-listed : (w : List ℕ) (i p : ℕ) → Exactly (dayRuleOf w i p) (dayList w i p)
   -- at night one list holds the ward's, and hers are exactly those in it that meet hers
-  pub nights-of-common : (w : List ℕ) (i : ℕ) → nightList w i ≡ keep (meetsHersOf w i) (commonOf w)
+  pub nights-of-common : (w : List ℕ) (i : ℕ) → nightList w i ≡ filter (meetsHersOf w i) (commonOf w)
   -- the rules and the penalties, of every ward that the reader says yes to
   pub means : (file w : List ℕ) → ((i : ℕ) → getD file i 0 < 256) → readWard file ≡ good w → WardMeans w
   -- the check says yes exactly when every rule holds

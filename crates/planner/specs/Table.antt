@@ -4,7 +4,7 @@ use mathlib.Core.Path.{_≡_, refl}
 use mathlib.Core.List.{List, [], _∷_}
 use mathlib.Core.Option.{none}
 use lib.ListN.{length, getD}
-use Rattle.numbers.specs.Range.{upFrom, keep, all}
+use Rattle.numbers.specs.Range.{upFrom, filter, all}
 use Rattle.numbers.specs.Sum.{sumTo, oneIf}
 use Rattle.numbers.specs.Digits.{numberOf}
 use Rattle.codec.specs.Groups.{encode}
@@ -81,5 +81,5 @@ Holds [] = Unit
 Holds (row comes-to says ∷ rows) = (comes-to 0 ≡ says) × Holds rows
 
 pub examples-hold : Holds table
-unfolding encode workedWard common inCommon starts follow shifted through lastRun marksAllow hers nightList keep all upFrom sumTo numberOf blockAt block groupsAt memberSets needsAt needs rowState availableOn dutyOn onDuty members shortOn overOn unplacedIn nightParts nightPenalty dayParts dayPenalty dayList dayRule choice rowDuty same anyOf freeOf windowsHold rests letters rowLettersOf letter
+unfolding encode workedWard common inCommon starts follow shifted through lastRun marksAllow hers nightList filter all upFrom sumTo numberOf blockAt block groupsAt memberSets needsAt needs rowState availableOn dutyOn onDuty members shortOn overOn unplacedIn nightParts nightPenalty dayParts dayPenalty dayList dayRule choice rowDuty same anyOf freeOf windowsHold rests letters rowLettersOf letter
 examples-hold = (refl, (refl, (refl, (refl, (refl, (refl, (refl, (refl, (refl, (refl, (refl, (refl, (refl, (refl, (refl, (refl, (refl, (refl, (refl, tt)))))))))))))))))))

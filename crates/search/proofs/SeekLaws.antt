@@ -43,7 +43,7 @@ use Rattle.search.specs.CodeSteps.{exchangedIn, steppedOf}
 use Rattle.search.specs.CodeSeek.{costOf, patternFor, Agree, stretch, triedBy, Lists, NurseNeeds, NightsNeeds, Seeks}
 use Rattle.trials.specs.CodeTables.{tableTrial, DayTrials, NightTrials, TableTrials, Tables}
 use Rattle.search.proofs.AdvanceLaws.{takes-none, takes-some, takes-nurse}
-use Rattle.best.proofs.BestLaws.{turn-barred, turn-worse, turn-considered, over-keep, nurses-none, nurses-turn}
+use Rattle.best.proofs.BestLaws.{turn-barred, turn-worse, turn-considered, over-filter, nurses-none, nurses-turn}
 use Rattle.search.specs.declared.Record.{Record as Stored}
 use Rattle.best.specs.declared.Best.{Best}
 use Rattle.best.specs.declared.Best.the-variants.{Nothing, Exchange}
@@ -296,7 +296,7 @@ module _ {which : Search} {w lists ends : List ℕ} {cols : Columns} {u : ℕ} {
         g (P .nurses) trial inside (subst (λ (b : Search). TableTrials b w i t trial) d trials)
         ∙ ap (λ (v : Record). overList (λ p. hersOf w i p && mayTake v i p) (λ p. trial p + 10000000 * others) i held lists) same-view
         ∙ ap (λ (c : ℕ → ℕ). overList (λ p. hersOf w i p && may p) c i held lists) costs
-        ∙ sym (over-keep (hersOf w i) may (costIn P (viewOf P r) i) i held lists)
+        ∙ sym (over-filter (hersOf w i) may (costIn P (viewOf P r) i) i held lists)
         ∙ ap (overList may (costIn P (viewOf P r) i) i held) (sym (s .patterns-are i (n .nurse) ∙ ap (λ (b : Search). triedBy b w lists ends i) d))
 
 -- the loop over the nurses

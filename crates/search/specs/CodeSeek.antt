@@ -5,7 +5,7 @@ use mathlib.Core.Bool.{true, false, not}
 use mathlib.Core.List.{List, []}
 use lib.ListN.{length, getD, take, drop}
 use Rattle.fields.specs.Sizes.{nursePlaces, tabuMost}
-use Rattle.numbers.specs.Range.{keep, Ascending}
+use Rattle.numbers.specs.Range.{filter, Ascending}
 use Rattle.numbers.specs.Sum.{countTo, Is}
 use Rattle.fields.specs.Fields.{Accepted, nurses, days, tabu, block}
 use Rattle.fields.specs.Rules.{rulesOf}
@@ -48,7 +48,7 @@ stretch lists ends i = take (getD ends (i + 1) 0 - getD ends i 0) (drop (getD en
 -- what nurse i tries: by day her stretch, by night what is hers of the common list
 abbrev pub triedBy : Search → List ℕ → List ℕ → List ℕ → ℕ → List ℕ
 triedBy Days w lists ends i = stretch lists ends i
-triedBy Nights w lists ends i = keep (hersOf w i) lists
+triedBy Nights w lists ends i = filter (hersOf w i) lists
 
 -- the lists as the loops over them need them
 pub record Lists (which : Search) (w lists ends : List ℕ) : Type 0 where
