@@ -2,13 +2,14 @@
 // of the days before it meets the rules. The walk goes only there.
 use days::month::Month;
 use days::rule;
+use fields::sizes::ROW;
 ghost use mathlib.Core.Path.{_≡_};
 ghost use Prim.Native.Nat.{_+_, _*_, _/_, _%_, _^_, _≤_, _<_, min};
 ghost use Rattle.days.specs.CodeMonth.{SmallMonth};
 ghost use Rattle.daylists.specs.CodeWalk.{stepHolds, branch, reach, Filled};
 
 // Day d is as the choice of q asks, and the windows hold that end six days after it, if that is in the month.
-pub(crate) fn step_holds(m: Month, row: &[u64; 38], d: usize, q: u64) -> bool
+pub(crate) fn step_holds(m: Month, row: &[u64; ROW], d: usize, q: u64) -> bool
     requires { ⌜ SmallMonth m ⌝ }
     requires { ⌜ d ≤ m .days ⌝ }
     ensures { λ r. ⌜ r ≡ stepHolds m (now (row .entry)) d q ⌝ }
@@ -31,7 +32,7 @@ pub(crate) fn place(q: u64, d: usize) -> usize
 }
 
 // The counts of rests after day d from which day d, chosen as in q, leads on.
-fn branch(m: Month, row: &[u64; 38], table: &[u64; 2048], d: usize, q: u64) -> u64
+fn branch(m: Month, row: &[u64; ROW], table: &[u64; 2048], d: usize, q: u64) -> u64
     requires { ⌜ SmallMonth m ⌝ }
     requires { ⌜ d < m .days ⌝ }
     requires { ⌜ Filled m (now row) (now table) (64 * d + 64) ⌝ }
@@ -54,7 +55,7 @@ fn first_six(n: usize) -> usize
 }
 
 // The table's place i, by those before it.
-fn entry(m: Month, row: &[u64; 38], table: &[u64; 2048], i: usize) -> u64
+fn entry(m: Month, row: &[u64; ROW], table: &[u64; 2048], i: usize) -> u64
     requires { ⌜ SmallMonth m ⌝ }
     requires { ⌜ i < 64 * m .days + 64 ⌝ }
     requires { ⌜ Filled m (now row) (now table) i ⌝ }
@@ -75,7 +76,7 @@ fn entry(m: Month, row: &[u64; 38], table: &[u64; 2048], i: usize) -> u64
 }
 
 // The whole table.
-pub(crate) fn table_of(m: Month, row: &[u64; 38]) -> [u64; 2048]
+pub(crate) fn table_of(m: Month, row: &[u64; ROW]) -> [u64; 2048]
     requires { ⌜ SmallMonth m ⌝ }
     ensures { λ r. ⌜ Filled m (now (row .entry)) r (64 * m .days + 64) ⌝ }
 {

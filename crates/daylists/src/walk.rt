@@ -2,6 +2,7 @@
 use crate::reach;
 use days::month::Month;
 use days::rule;
+use fields::sizes::ROW;
 ghost use mathlib.Core.Path.{_≡_};
 ghost use mathlib.Core.List.{_++_};
 ghost use Prim.Native.Nat.{_≤_, _<_, min};
@@ -28,7 +29,7 @@ pub(crate) fn start(n: usize) -> Point
 }
 
 // One more day decided, so that the number is `from`.
-fn decided(row: &[u64; 38], s: Point, from: u64) -> Point
+fn decided(row: &[u64; ROW], s: Point, from: u64) -> Point
     requires { ⌜ 0 < s .left ⌝ }
     requires { ⌜ s .left ≤ dayPlaces ⌝ }
     requires { ⌜ s .rests ≤ dayPlaces ⌝ }
@@ -43,7 +44,7 @@ fn decided(row: &[u64; 38], s: Point, from: u64) -> Point
 }
 
 // Whether a pattern may remain. With no day left to decide, whether the pattern is hers.
-fn goes_on(m: Month, row: &[u64; 38], table: &[u64; 2048], s: Point) -> bool
+fn goes_on(m: Month, row: &[u64; ROW], table: &[u64; 2048], s: Point) -> bool
     requires { ⌜ Ready m (now row) (now table) s ⌝ }
     ensures { λ r. ⌜ r ≡ goesOn m (now (row .entry)) (s .left) (s .from) (s .rests) ⌝ }
 {
@@ -55,7 +56,7 @@ fn goes_on(m: Month, row: &[u64; 38], table: &[u64; 2048], s: Point) -> bool
 }
 
 // How many patterns there are below, but no more than cap.
-pub(crate) fn count(m: Month, row: &[u64; 38], table: &[u64; 2048], s: Point, cap: usize) -> usize
+pub(crate) fn count(m: Month, row: &[u64; ROW], table: &[u64; 2048], s: Point, cap: usize) -> usize
     requires { ⌜ Ready m (now row) (now table) s ⌝ }
     ensures { λ k. ⌜ k ≡ min cap (length (listedAt m (now (row .entry)) s)) ⌝ }
 {
@@ -76,7 +77,7 @@ pub(crate) fn count(m: Month, row: &[u64; 38], table: &[u64; 2048], s: Point, ca
 // Writes the patterns below from the buffer's start: those without the next day, and in the rest of the buffer those with it.
 pub(crate) fn fill(
     m: Month,
-    row: &[u64; 38],
+    row: &[u64; ROW],
     table: &[u64; 2048],
     s: Point,
     buf: &mut [u32],

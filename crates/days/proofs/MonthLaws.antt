@@ -7,7 +7,7 @@ use native.Mathlib.Omega.{arith}
 use borrow.Author.Tests.{lt-ltb, le-ltb}
 use lib.Dec.{eqb}
 use lib.ListN.{length, getD, set, length-set}
-use Rattle.fields.specs.Sizes.{dayPlaces}
+use Rattle.fields.specs.Sizes.{dayPlaces, rowPlaces}
 use Rattle.numbers.proofs.BufferLaws.{place-turn}
 use Rattle.numbers.specs.Digits.{has, numberOf}
 use Rattle.numbers.proofs.DigitLaws.{number-lt, number-zero, number-suc, bit-of-zero}
@@ -43,12 +43,12 @@ duty-seven b p t h = rw (lt-ltb t 7 h)
 -- the month after its first d days
 pub record MonthAt (b : List ℕ) (p n d : ℕ) (row : List ℕ) (available fixed : ℕ) : Type 0 where
   pub at-most : d ≤ n
-  pub row-long : length row ≡ 38
+  pub row-long : length row ≡ rowPlaces
   pub row-is : (t : ℕ) → t < d + 7 → getD row t 0 ≡ rowDuty b p 0 t
   pub available-days : available ≡ numberOf (λ e. availableOn b p (suc e)) d
   pub fixed-is : fixed ≡ numberOf (fixedDay b) d
 
-pub month-start : (b : List ℕ) (p n : ℕ) (row : List ℕ) → length row ≡ 38 → ((t : ℕ) → t < 7 → getD row t 0 ≡ duty b t) → MonthAt b p n 0 row 0 0
+pub month-start : (b : List ℕ) (p n : ℕ) (row : List ℕ) → length row ≡ rowPlaces → ((t : ℕ) → t < 7 → getD row t 0 ≡ duty b t) → MonthAt b p n 0 row 0 0
 month-start b p n row long seven = record {
   at-most = omega arith;
   row-long = long;

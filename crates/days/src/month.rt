@@ -1,6 +1,7 @@
 // A nurse's month under her nights, made ready for the day patterns: the duties where she works no day, the days that she may
 // work, and the ward's and her own limits.
 use fields::nurse;
+use fields::sizes::ROW;
 ghost use mathlib.Core.Path.{_≡_};
 ghost use mathlib.Core.Bool.{cond};
 ghost use Prim.Native.Nat.{ℕ, _+_, _^_, _≤_, _<_};
@@ -25,7 +26,7 @@ pub struct Month {
 // The month with its row: the seven days, then each day's duty where she works no day.
 pub struct Sheet {
     pub month: Month,
-    pub row: [u64; 38],
+    pub row: [u64; ROW],
 }
 
 // The set with i put in or not, where all others are below i.
@@ -61,11 +62,11 @@ fn bounds(least: u64, most: u64) -> u64
 }
 
 // The seven days, with no duty after them.
-fn seven_days(b: &[u64]) -> [u64; 38]
+fn seven_days(b: &[u64]) -> [u64; ROW]
     requires { ⌜ 7 ≤ length (now b) ⌝ }
     ensures { λ r. ⌜ ((t : ℕ) → t < 7 → getD r t 0 ≡ duty (now (b .entry)) t) ⌝ }
 {
-    let mut row = [0u64; 38];
+    let mut row = [0u64; ROW];
     let mut t: usize = 0;
     while t < 7 {
         row[t] = nurse::duty(b, t);

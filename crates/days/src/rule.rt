@@ -1,10 +1,11 @@
 // The day rule over a nurse's month: her choice of days, the windows, and the month's rests.
 use crate::month::Month;
 use crate::month::in_bounds;
+use fields::sizes::ROW;
 ghost use mathlib.Core.Path.{_≡_};
 ghost use mathlib.Core.Bool.{cond, not};
 ghost use Prim.Native.Nat.{suc, _≤_, _<_};
-ghost use Rattle.fields.specs.Sizes.{dayPlaces};
+ghost use Rattle.fields.specs.Sizes.{dayPlaces, rowPlaces};
 ghost use Rattle.numbers.specs.Range.{upFrom, all};
 ghost use Rattle.numbers.specs.Digits.{has};
 ghost use Rattle.days.specs.Days.{inRun, isRest, alternating, anyOf, same, window, windowsHold, rests};
@@ -35,8 +36,8 @@ fn is_rest(duty: u64) -> bool
 }
 
 // Her duty at a place of the row where she works the days of q.
-fn duty_at(row: &[u64; 38], q: u64, t: usize) -> u64
-    requires { ⌜ t < 38 ⌝ }
+fn duty_at(row: &[u64; ROW], q: u64, t: usize) -> u64
+    requires { ⌜ t < rowPlaces ⌝ }
     ensures { λ r. ⌜ r ≡ dutyAt (now (row .entry)) q t ⌝ }
 {
     if t < 7 {
@@ -49,8 +50,8 @@ fn duty_at(row: &[u64; 38], q: u64, t: usize) -> u64
 }
 
 // More than `longest` day duties running, the last at place t.
-fn long_run(row: &[u64; 38], q: u64, longest: usize, t: usize) -> bool
-    requires { ⌜ t < 38 ⌝ }
+fn long_run(row: &[u64; ROW], q: u64, longest: usize, t: usize) -> bool
+    requires { ⌜ t < rowPlaces ⌝ }
     requires { ⌜ longest ≤ t ⌝ }
     ensures { λ r. ⌜ r ≡ all inRun (window (dutyAt (now (row .entry)) q) (suc longest) t) ⌝ }
 {
@@ -66,8 +67,8 @@ fn long_run(row: &[u64; 38], q: u64, longest: usize, t: usize) -> bool
 }
 
 // A rest in the seven days that end at place t.
-fn rested(row: &[u64; 38], q: u64, t: usize) -> bool
-    requires { ⌜ t < 38 ⌝ }
+fn rested(row: &[u64; ROW], q: u64, t: usize) -> bool
+    requires { ⌜ t < rowPlaces ⌝ }
     requires { ⌜ 6 ≤ t ⌝ }
     ensures { λ r. ⌜ r ≡ anyOf isRest (window (dutyAt (now (row .entry)) q) 7 t) ⌝ }
 {
@@ -82,8 +83,8 @@ fn rested(row: &[u64; 38], q: u64, t: usize) -> bool
 }
 
 // The forbidden sequence, ending at place t.
-fn is_forbidden(row: &[u64; 38], q: u64, t: usize) -> bool
-    requires { ⌜ t < 38 ⌝ }
+fn is_forbidden(row: &[u64; ROW], q: u64, t: usize) -> bool
+    requires { ⌜ t < rowPlaces ⌝ }
     requires { ⌜ 4 ≤ t ⌝ }
     ensures { λ r. ⌜ r ≡ same alternating (window (dutyAt (now (row .entry)) q) 5 t) ⌝ }
 {
@@ -99,8 +100,8 @@ fn is_forbidden(row: &[u64; 38], q: u64, t: usize) -> bool
 }
 
 // The windows that end at place t.
-pub fn windows_hold(row: &[u64; 38], q: u64, longest: usize, t: usize) -> bool
-    requires { ⌜ t < 38 ⌝ }
+pub fn windows_hold(row: &[u64; ROW], q: u64, longest: usize, t: usize) -> bool
+    requires { ⌜ t < rowPlaces ⌝ }
     requires { ⌜ 6 ≤ t ⌝ }
     requires { ⌜ longest ≤ 6 ⌝ }
     ensures { λ r. ⌜ r ≡ windowsHold (dutyAt (now (row .entry)) q) longest t ⌝ }
@@ -115,7 +116,7 @@ pub fn windows_hold(row: &[u64; 38], q: u64, longest: usize, t: usize) -> bool
 }
 
 // The windows that end on the first days of the month, `count` of them.
-pub fn all_windows_hold(row: &[u64; 38], q: u64, longest: usize, count: usize) -> bool
+pub fn all_windows_hold(row: &[u64; ROW], q: u64, longest: usize, count: usize) -> bool
     requires { ⌜ count ≤ dayPlaces ⌝ }
     requires { ⌜ longest ≤ 6 ⌝ }
     ensures { λ r. ⌜ r ≡ all (windowsHold (dutyAt (now (row .entry)) q) longest) (upFrom 7 count) ⌝ }
@@ -132,7 +133,7 @@ pub fn all_windows_hold(row: &[u64; 38], q: u64, longest: usize, count: usize) -
 }
 
 // 1 if day d is a rest.
-pub fn rest_on(row: &[u64; 38], q: u64, d: usize) -> u64
+pub fn rest_on(row: &[u64; ROW], q: u64, d: usize) -> u64
     requires { ⌜ d < dayPlaces ⌝ }
     ensures { λ r. ⌜ r ≡ restOn (now (row .entry)) q d ⌝ }
     ensures { λ r. ⌜ r ≤ 1 ⌝ }
@@ -144,7 +145,7 @@ pub fn rest_on(row: &[u64; 38], q: u64, d: usize) -> u64
 }
 
 // The rests of a month of n days.
-fn rests_of(row: &[u64; 38], q: u64, n: usize) -> u64
+fn rests_of(row: &[u64; ROW], q: u64, n: usize) -> u64
     requires { ⌜ n ≤ dayPlaces ⌝ }
     ensures { λ r. ⌜ r ≡ rests (dutyAt (now (row .entry)) q) n ⌝ }
 {
@@ -190,7 +191,7 @@ fn choice_holds(m: Month, q: u64) -> bool
 }
 
 // The day rule.
-pub(crate) fn rule_holds(m: Month, row: &[u64; 38], q: u64) -> bool
+pub(crate) fn rule_holds(m: Month, row: &[u64; ROW], q: u64) -> bool
     requires { ⌜ SmallMonth m ⌝ }
     ensures { λ r. ⌜ r ≡ ruleOf m (now (row .entry)) q ⌝ }
 {

@@ -1,5 +1,5 @@
 -- How many a ward's arrays hold, each said once here and once in src/sizes.rt.
-use Prim.Native.Nat.{ℕ}
+use Prim.Native.Nat.{ℕ, _+_}
 
 -- the nurses of a ward at most
 abbrev pub nursePlaces : ℕ
@@ -8,6 +8,10 @@ nursePlaces = 48
 -- the days of a month at most
 abbrev pub dayPlaces : ℕ
 dayPlaces = 31
+
+-- the days of a nurse's row: the seven before the month, and the month's
+abbrev pub rowPlaces : ℕ
+rowPlaces = 7 + dayPlaces
 
 -- TL at most
 abbrev pub tabuMost : ℕ

@@ -4,6 +4,8 @@
 pub const NURSES: usize = 48;
 // The days of a month at most.
 pub const DAYS: usize = 31;
+// The days of a nurse's row: the seven before the month, and the month's.
+pub const ROW: usize = 38;
 // The removals that a record keeps.
 pub const REMOVALS: usize = 64;
 // The numbers of a ward at most.

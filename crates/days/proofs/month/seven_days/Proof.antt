@@ -3,6 +3,7 @@ use mathlib.Core.Path.{_≡_, refl, _∙_}
 use Prim.Native.Nat.{ℕ, _-_, _≤_, _<_}
 use native.Mathlib.Omega.{arith}
 use lib.ListN.{length, getD, length-set}
+use Rattle.fields.specs.Sizes.{rowPlaces}
 use Rattle.fields.specs.Fields.{duty}
 use Rattle.numbers.proofs.BufferLaws.{place-turn}
 use borrow.Author.Needs.{needs}
@@ -10,7 +11,7 @@ use Rattle.days.proofs.month.seven_days.Statement.{statement}
 use Rattle.days.proofs.month.seven_days.Tie as tie
 
 abbrev Inv-loop : tie.InvT-loop
-Inv-loop b row₀ t₀ row t = (t ≤ 7) × (length row ≡ 38) × ((k : ℕ) → k < t → getD row k 0 ≡ duty b k)
+Inv-loop b row₀ t₀ row t = (t ≤ 7) × (length row ≡ rowPlaces) × ((k : ℕ) → k < t → getD row k 0 ≡ duty b k)
 
 abbrev μ-loop : tie.MeasureT-loop
 μ-loop b row₀ t₀ row t = 7 - t

@@ -3,6 +3,7 @@ use mathlib.Core.Path.{_≡_, refl, ap, ap₂, _∙_}
 use Prim.Native.Nat.{ℕ, suc, _-_}
 use native.Mathlib.Omega.{arith}
 use lib.ListN.{length}
+use Rattle.fields.specs.Sizes.{rowPlaces}
 use Rattle.numbers.specs.Digits.{numberOf}
 use Rattle.rows.specs.Rows.{availableOn, fixedDay}
 use Rattle.days.specs.CodeMonth.{inBounds}
@@ -35,7 +36,7 @@ loop-holds c =
     let states = c .before in
     let start = at-start states in
     let s = start .args in
-    let long : length (c .seven-days .result) ≡ 38 = search needs in
+    let long : length (c .seven-days .result) ≡ rowPlaces = search needs in
     month-start (s .b .now) (s .p) (s .n) (c .seven-days .result) long (c .seven-days .ensures)
 
 mark-requires : tie.Need-mark-requires Inv-loop μ-loop
