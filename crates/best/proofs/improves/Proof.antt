@@ -13,7 +13,9 @@ returns : tie.Need-returns
 returns c = search needs
 
 returns-2 : tie.Need-returns-2
-returns-2 c = rw (c .before .best .given .1)
+returns-2 c =
+    let at-best : tie.After-best = search in
+    rw (at-best .best .given .1)
 
 pub improves-spec : {M : Type 1} → statement M
 improves-spec = tie.close (tie.spec enum-told enum-known-best returns returns-2)

@@ -23,31 +23,51 @@ cast-buf : tie.Need-cast-buf Inv-loop μ-loop
 cast-buf c = omega arith
 
 slice-write-buf : tie.Need-slice-write-buf Inv-loop μ-loop
-slice-write-buf c = put-in _ _ _ _ _ _ (c .before .loop .inv) (c .before .before .pre .1) (c .loop-test .taken)
+slice-write-buf c =
+    let loop : tie.At-loop Inv-loop μ-loop = search in
+    let start : tie.Start Inv-loop μ-loop = search in
+    put-in _ _ _ _ _ _ (loop .loop .inv) (start .pre .1) (c .loop-test .taken)
 
 add-i : tie.Need-add-i Inv-loop μ-loop
-add-i c = let h = put-in _ _ _ _ _ _ (c .before .loop .inv) (c .before .before .pre .1) (c .loop-test .taken) in omega (arith, c .before .loop .inv .long, c .before .before .good)
+add-i c =
+    let loop : tie.At-loop Inv-loop μ-loop = search in
+    let start : tie.Start Inv-loop μ-loop = search in
+    let h = put-in _ _ _ _ _ _ (loop .loop .inv) (start .pre .1) (c .loop-test .taken) in omega (arith, loop .loop .inv .long, start .good)
 
 loop-less : tie.Need-loop-less Inv-loop μ-loop
 loop-less c = omega arith
 
 loop-again : tie.Need-loop-again Inv-loop μ-loop
-loop-again c = put-more _ _ _ _ _ _ (c .before .loop .inv) (c .before .before .pre .1) (c .loop-test .taken)
+loop-again c =
+    let loop : tie.At-loop Inv-loop μ-loop = search in
+    let start : tie.Start Inv-loop μ-loop = search in
+    put-more _ _ _ _ _ _ (loop .loop .inv) (start .pre .1) (c .loop-test .taken)
 
 cast-buf-2 : tie.Need-cast-buf-2 Inv-loop μ-loop
 cast-buf-2 c = omega arith
 
 slice-write-buf-2 : tie.Need-slice-write-buf-2 Inv-loop μ-loop
-slice-write-buf-2 c = last-in _ _ _ _ _ _ (c .before .loop .inv) (c .before .before .pre .1) (c .loop-test .left)
+slice-write-buf-2 c =
+    let loop : tie.At-loop Inv-loop μ-loop = search in
+    let start : tie.Start Inv-loop μ-loop = search in
+    last-in _ _ _ _ _ _ (loop .loop .inv) (start .pre .1) (c .loop-test .left)
 
 add-result : tie.Need-add-result Inv-loop μ-loop
-add-result c = let h = last-in _ _ _ _ _ _ (c .before .loop .inv) (c .before .before .pre .1) (c .loop-test .left) in omega (arith, c .before .loop .inv .long, c .before .before .good)
+add-result c =
+    let loop : tie.At-loop Inv-loop μ-loop = search in
+    let start : tie.Start Inv-loop μ-loop = search in
+    let h = last-in _ _ _ _ _ _ (loop .loop .inv) (start .pre .1) (c .loop-test .left) in omega (arith, loop .loop .inv .long, start .good)
 
 same-length : tie.Need-same-length Inv-loop μ-loop
-same-length c = simp length-set (c .before .loop .inv .long)
+same-length c =
+    let loop : tie.At-loop Inv-loop μ-loop = search in
+    simp length-set (loop .loop .inv .long)
 
 returns : tie.Need-returns Inv-loop μ-loop
-returns c = (omega (arith, c .before .loop .inv .place, one-byte _ (c .loop-test .left)), put-last _ _ _ _ _ _ (c .before .loop .inv) (c .before .before .pre .1) (c .loop-test .left))
+returns c =
+    let loop : tie.At-loop Inv-loop μ-loop = search in
+    let start : tie.Start Inv-loop μ-loop = search in
+    (omega (arith, loop .loop .inv .place, one-byte _ (c .loop-test .left)), put-last _ _ _ _ _ _ (loop .loop .inv) (start .pre .1) (c .loop-test .left))
 
 pub put-spec : {M : Type 1} → statement M
 put-spec =

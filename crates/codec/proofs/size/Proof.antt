@@ -21,13 +21,17 @@ loop-holds : tie.Need-loop-holds Inv-loop μ-loop
 loop-holds c = omega arith
 
 add-n : tie.Need-add-n Inv-loop μ-loop
-add-n c = omega (arith, encode-most (c .before .before .args .v))
+add-n c =
+    let start : tie.Start Inv-loop μ-loop = search in
+    omega (arith, encode-most (start .args .v))
 
 loop-less : tie.Need-loop-less Inv-loop μ-loop
 loop-less c = omega arith
 
 loop-again : tie.Need-loop-again Inv-loop μ-loop
-loop-again c = omega (arith, byte-more _ (c .loop-test .taken) (c .before .loop .inv .0))
+loop-again c =
+    let loop : tie.At-loop Inv-loop μ-loop = search in
+    omega (arith, byte-more _ (c .loop-test .taken) (loop .loop .inv .0))
 
 returns : tie.Need-returns Inv-loop μ-loop
 returns c = omega (arith, one-byte _ (c .loop-test .left))

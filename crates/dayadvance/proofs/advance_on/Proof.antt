@@ -10,13 +10,6 @@ use borrow.Author.Needs.{needs}
 use Rattle.dayadvance.proofs.advance_on.Statement.{statement}
 use Rattle.dayadvance.proofs.advance_on.Tie as tie
 
--- the places, each from the next
-abbrev at-start : tie.After-first-no → tie.Start
-at-start c = c .before .before .before
-
-abbrev at-questions : tie.After-enum-told → tie.After-first-no
-at-questions c = c .before .before
-
 first-no-requires : tie.Need-first-no-requires
 first-no-requires c κs = search needs
 
@@ -34,16 +27,18 @@ lists-count-requires c κs = search needs
 
 with-lists-requires : tie.Need-with-lists-requires
 with-lists-requires c κs =
-    let counted = c .before in
-    let told = counted .before in
-    let asked = at-questions told in
-    (at-start asked .pre, sym (asked .first-no .ensures) ∙ ap refusalIn (told .enum-told .given .1), counted .lists-count .ensures)
+    let counted : tie.After-lists-count = search in
+    let told : tie.After-enum-told = search in
+    let asked : tie.After-first-no = search in
+    let start : tie.Start = search in
+    (start .pre, sym (asked .first-no .ensures) ∙ ap refusalIn (told .enum-told .given .1), counted .lists-count .ensures)
 
 returns : tie.Need-returns
 returns c =
-    let refusing = c .before .before in
-    let asked = refusing .before .before in
-    let s = at-start asked .args in
+    let refusing : tie.After-n = search in
+    let asked : tie.After-first-no = search in
+    let start : tie.Start = search in
+    let s = start .args in
     let w = s .w .now in
     let nights = nightOf (s .nights .now) in
     told-refused (dayPhase w nights) (s .rec) (s .k) (upTo (dayListOver w nights) (nurses w)) (s .buffer .now) _

@@ -45,8 +45,9 @@ loop-less c = search needs
 
 loop-again : tie.Need-loop-again Inv-loop μ-loop
 loop-again c =
-    let turn = c .before in
-    (omega arith, λ lists e. lacking-more lists _ (turn .before .loop .inv .1 lists e) (turn .loop-test .taken) (stretch-some lists _ _ e _ (turn .loop-test .taken) (c .if1 .taken)))
+    let turn : tie.In-loop Inv-loop μ-loop = search in
+    let loop : tie.At-loop Inv-loop μ-loop = search in
+    (omega arith, λ lists e. lacking-more lists _ (loop .loop .inv .1 lists e) (turn .loop-test .taken) (stretch-some lists _ _ e _ (turn .loop-test .taken) (c .if1 .taken)))
 
 add-no : tie.Need-add-no Inv-loop μ-loop
 add-no c = search needs
@@ -56,14 +57,17 @@ no-requires c κs = search needs
 
 returns : tie.Need-returns Inv-loop μ-loop
 returns c =
-    let at-if = c .before in
-    let turn = at-if .before in
+    let at-if : tie.Else1 Inv-loop μ-loop = search in
+    let turn : tie.In-loop Inv-loop μ-loop = search in
+    let loop : tie.At-loop Inv-loop μ-loop = search in
     λ lists e.
     ap refusalIn (c .no .ensures)
-    ∙ lacking-stop lists _ (turn .before .loop .inv .1 lists e) (turn .loop-test .taken) (stretch-none lists _ _ e _ (turn .loop-test .taken) (at-if .if1 .left))
+    ∙ lacking-stop lists _ (loop .loop .inv .1 lists e) (turn .loop-test .taken) (stretch-none lists _ _ e _ (turn .loop-test .taken) (at-if .if1 .left))
 
 returns-2 : tie.Need-returns-2 Inv-loop μ-loop
-returns-2 c = λ lists e. lacking-end lists _ (c .before .loop .inv .1 lists e) (c .loop-test .left)
+returns-2 c =
+    let loop : tie.At-loop Inv-loop μ-loop = search in
+    λ lists e. lacking-end lists _ (loop .loop .inv .1 lists e) (c .loop-test .left)
 
 pub days-lacking-spec : {M : Type 1} → statement M
 days-lacking-spec =

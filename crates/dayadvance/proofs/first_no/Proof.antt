@@ -21,15 +21,15 @@ nights-asked-requires c κs = search needs
 returns : tie.Need-returns
 unfolding beforeLists
 returns c =
-    let refusing = c .before in
-    let asked = refusing .before .before in
+    let refusing : tie.After-n = search in
+    let asked : tie.After-steps-asked = search in
     first-no _ (asked .steps-asked .ensures) (refusing .n .given .1)
 
 returns-2 : tie.Need-returns-2
 unfolding beforeLists
 returns-2 c =
-    let told = c .before in
-    let asked = told .before .before in
+    let told : tie.After-enum-told = search in
+    let asked : tie.After-steps-asked = search in
     c .nights-asked .ensures ∙ first-yes _ (asked .steps-asked .ensures) (told .enum-told .given .1)
 
 pub first-no-spec : {M : Type 1} → statement M

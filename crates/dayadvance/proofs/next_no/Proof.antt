@@ -9,16 +9,6 @@ use borrow.Author.Needs.{needs}
 use Rattle.dayadvance.proofs.next_no.Statement.{statement}
 use Rattle.dayadvance.proofs.next_no.Tie as tie
 
--- the places, each from the next
-abbrev at-start : tie.After-nurses → tie.Start
-at-start c = c .before .before
-
-abbrev at-fit : tie.After-days-lacking → tie.Else1
-at-fit c = c .before .before
-
-abbrev at-lacking : tie.After-enum-told → tie.After-days-lacking
-at-lacking c = c .before .before
-
 nurses-requires : tie.Need-nurses-requires
 nurses-requires c κs = search needs
 
@@ -30,9 +20,10 @@ no-requires c κs = search needs
 
 returns : tie.Need-returns
 returns c =
-    let at-if = c .before in
-    let nurses = at-if .before in
-    let s = at-start nurses .args in
+    let at-if : tie.Then1 = search in
+    let nurses : tie.After-nurses = search in
+    let start : tie.Start = search in
+    let s = start .args in
     λ places n. ap refusalIn (c .no .ensures) ∙ after-nine (s .w .now) _ (s .rec) (nurses .nurses .ensures .0) n (at-if .if1 .taken)
 
 days-lacking-requires : tie.Need-days-lacking-requires
@@ -49,22 +40,24 @@ record-asked-requires c κs = search needs
 
 returns-2 : tie.Need-returns-2
 returns-2 c =
-    let refusing = c .before in
-    let asked = refusing .before .before in
-    let fit = at-fit asked in
-    let nurses = fit .before in
-    let s = at-start nurses .args in
+    let refusing : tie.After-n = search in
+    let asked : tie.After-days-lacking = search in
+    let fit : tie.Else1 = search in
+    let nurses : tie.After-nurses = search in
+    let start : tie.Start = search in
+    let s = start .args in
     λ places n.
     first-no _ (asked .days-lacking .ensures _ (ends-of (s .w .now) _ (s .rec) (nurses .nurses .ensures .0) n (fit .if1 .left))) (refusing .n .given .1)
     ∙ after-ten (s .w .now) (nightOf (s .nights .now)) (s .rec) (nurses .nurses .ensures .0) n (s .nights .now) refl (fit .if1 .left)
 
 returns-3 : tie.Need-returns-3
 returns-3 c =
-    let told = c .before in
-    let asked = at-lacking told in
-    let fit = at-fit asked in
-    let nurses = fit .before in
-    let s = at-start nurses .args in
+    let told : tie.After-enum-told = search in
+    let asked : tie.After-days-lacking = search in
+    let fit : tie.Else1 = search in
+    let nurses : tie.After-nurses = search in
+    let start : tie.Start = search in
+    let s = start .args in
     λ places n.
     c .record-asked .ensures
     ∙ first-yes _ (asked .days-lacking .ensures _ (ends-of (s .w .now) _ (s .rec) (nurses .nurses .ensures .0) n (fit .if1 .left))) (told .enum-told .given .1)

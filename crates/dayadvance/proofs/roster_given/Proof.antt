@@ -4,16 +4,6 @@ use borrow.Author.Needs.{needs}
 use Rattle.dayadvance.proofs.roster_given.Statement.{statement}
 use Rattle.dayadvance.proofs.roster_given.Tie as tie
 
--- the start, from each way that an advance ended
-abbrev at-zero : tie.After-enum-told → tie.Start
-at-zero c = c .before .before .before
-
-abbrev at-asked : tie.After-enum-told2 → tie.Start
-at-asked c = c .before .before .before
-
-abbrev at-none : tie.After-enum-told3 → tie.Start
-at-none c = c .before .before .before
-
 enum-told : tie.Need-enum-told
 enum-told c = search needs
 
@@ -34,20 +24,22 @@ no-roster-requires-2 c κs = search needs
 
 returns : tie.Need-returns
 returns c =
-    let told = c .before .before .before in
-    let start = at-zero told in
+    let told : tie.After-enum-told = search in
+    let start : tie.Start = search in
     given-zero (start .args .w .now) _ (start .args .x) (start .pre .1) (told .enum-told .given .1) (c .roster-of .ensures)
 
 returns-2 : tie.Need-returns-2
 returns-2 c =
-    let told = c .before in
-    let s = at-asked told .args in
+    let told : tie.After-enum-told2 = search in
+    let start : tie.Start = search in
+    let s = start .args in
     given-asked (s .w .now) _ (s .x) (told .enum-told2 .given .1) (c .no-roster .ensures)
 
 returns-3 : tie.Need-returns-3
 returns-3 c =
-    let told = c .before in
-    let s = at-none told .args in
+    let told : tie.After-enum-told3 = search in
+    let start : tie.Start = search in
+    let s = start .args in
     given-none (s .w .now) _ (s .x) (told .enum-told3 .given .1) (c .no-roster2 .ensures)
 
 pub roster-given-spec : {M : Type 1} → statement M

@@ -24,15 +24,6 @@ at-questions c = c .before .before
 abbrev from-open : tie.After-enum-told → tie.Start
 from-open c = at-start (at-questions c)
 
-abbrev at-open : tie.After-lists-fill → tie.After-enum-told
-at-open c = c .before .before
-
-abbrev at-fill : tie.After-advance-arg → tie.After-lists-fill
-at-fill c = c .before .before .before .before
-
-abbrev filled-by : tie.After-advance → tie.After-lists-fill
-filled-by c = at-fill (c .before)
-
 -- all lists, one after the other, over the nights handed in
 abbrev all-lists : tie.Start → List ℕ
 all-lists c = let w = c .args .w .now in upTo (dayListOver w (nightOf (c .args .nights .now))) (nurses w)
@@ -61,23 +52,27 @@ enum-told : tie.Need-enum-told
 enum-told c = search needs
 
 lists-fill-requires : tie.Need-lists-fill-requires
-lists-fill-requires c κs = let told = c .before in (from-open told .pre .0, open-at told .room)
+lists-fill-requires c κs =
+    let told : tie.After-enum-told = search in
+    (from-open told .pre .0, open-at told .room)
 
 slice-reshare-prefix-advance : tie.Need-slice-reshare-prefix-advance
 slice-reshare-prefix-advance c =
-    let filled = c .before .before .before in
-    front-fits (all-lists (from-open (at-open filled))) _ (filled .lists-fill .ensures .0) (filled .lists-fill .ensures .1)
+    let filled : tie.After-lists-fill = search in
+    let start : tie.Start = search in
+    front-fits (all-lists start) _ (filled .lists-fill .ensures .0) (filled .lists-fill .ensures .1)
 
 slice-aggregate-advance : tie.Need-slice-aggregate-advance
 slice-aggregate-advance c =
-    let filled = at-fill c in
-    sym (length-take-le _ _ (front-fits (all-lists (from-open (at-open filled))) _ (filled .lists-fill .ensures .0) (filled .lists-fill .ensures .1)))
+    let filled : tie.After-lists-fill = search in
+    let start : tie.Start = search in
+    sym (length-take-le _ _ (front-fits (all-lists start) _ (filled .lists-fill .ensures .0) (filled .lists-fill .ensures .1)))
 
 advance-requires : tie.Need-advance-requires
 advance-requires c κs =
-    let filled = at-fill c in
-    let told = at-open filled in
-    let start = from-open told in
+    let filled : tie.After-lists-fill = search in
+    let told : tie.After-enum-told = search in
+    let start : tie.Start = search in
     let w = start .args .w .now in
     let nights = nightOf (start .args .nights .now) in
     let ok = open-at told in
@@ -88,9 +83,9 @@ advance-requires c κs =
 
 roster-given-requires : tie.Need-roster-given-requires
 roster-given-requires c κs =
-    let filled = filled-by c in
-    let told = at-open filled in
-    let start = from-open told in
+    let filled : tie.After-lists-fill = search in
+    let told : tie.After-enum-told = search in
+    let start : tie.Start = search in
     let s = start .args in
     let w = s .w .now in
     let nights = nightOf (s .nights .now) in
@@ -106,9 +101,9 @@ finished-requires c κs = search needs
 
 returns : tie.Need-returns
 returns c =
-    let refusing = c .before .before in
-    let asked = refusing .before .before in
-    let start = at-start asked in
+    let refusing : tie.After-n = search in
+    let asked : tie.After-next-no = search in
+    let start : tie.Start = search in
     let s = start .args in
     let w = s .w .now in
     let nights = nightOf (s .nights .now) in
@@ -120,11 +115,11 @@ same-length c = search needs
 
 returns-2 : tie.Need-returns-2
 returns-2 c =
-    let given = c .before in
-    let advanced = given .before in
-    let filled = filled-by advanced in
-    let told = at-open filled in
-    let start = from-open told in
+    let given : tie.After-roster-given = search in
+    let advanced : tie.After-advance = search in
+    let filled : tie.After-lists-fill = search in
+    let told : tie.After-enum-told = search in
+    let start : tie.Start = search in
     let s = start .args in
     let w = s .w .now in
     let nights = nightOf (s .nights .now) in

@@ -5,10 +5,6 @@ use borrow.Author.Needs.{needs}
 use Rattle.days.proofs.nurse_sheet.Statement.{statement}
 use Rattle.days.proofs.nurse_sheet.Tie as tie
 
--- the places of the function, each from the next
-abbrev at-start : tie.After-days → tie.Start
-at-start c = c .before .before
-
 days-requires : tie.Need-days-requires
 days-requires c κs = search needs
 
@@ -20,18 +16,17 @@ block-requires c κs = search needs
 
 sheet-of-requires : tie.Need-sheet-of-requires
 sheet-of-requires c κs =
-    let longest-days = c .before in
-    let days = longest-days .before in
-    let start = at-start days in
+    let days : tie.After-days = search in
+    let start : tie.Start = search in
     let s = start .args in
     (block-as (s .w .now) (s .i) (start .pre .0) (start .pre .1) (c .block .ensures) (days .days .ensures .0), days .days .ensures .1)
 
 returns : tie.Need-returns
 returns c =
-    let block = c .before in
-    let longest-days = block .before in
-    let days = longest-days .before in
-    let start = at-start days in
+    let block : tie.After-block = search in
+    let longest-days : tie.After-longest-days = search in
+    let days : tie.After-days = search in
+    let start : tie.Start = search in
     let s = start .args in
     sheet-as (s .w .now) (s .i) (s .p) (c .sheet-of .result .month) (c .sheet-of .result .row) (block .block .ensures) (days .days .ensures .0) (longest-days .longest-days .ensures .0) (c .sheet-of .ensures)
 

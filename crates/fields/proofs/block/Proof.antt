@@ -17,16 +17,24 @@ add-size : tie.Need-add-size
 add-size c = search needs
 
 mul-a : tie.Need-mul-a
-mul-a c = omega (arith, block-end _ (c .before .before .args .i) (c .before .before .pre .0) (c .before .before .pre .1) (c .days .ensures .0), c .before .before .pre .0 .bound)
+mul-a c =
+    let start : tie.Start = search in
+    omega (arith, block-end _ (start .args .i) (start .pre .0) (start .pre .1) (c .days .ensures .0), start .pre .0 .bound)
 
 add-a : tie.Need-add-a
-add-a c = omega (arith, block-end _ (c .before .before .args .i) (c .before .before .pre .0) (c .before .before .pre .1) (c .days .ensures .0), c .before .before .pre .0 .bound)
+add-a c =
+    let start : tie.Start = search in
+    omega (arith, block-end _ (start .args .i) (start .pre .0) (start .pre .1) (c .days .ensures .0), start .pre .0 .bound)
 
 add-e : tie.Need-add-e
-add-e c = omega (arith, block-end _ (c .before .before .args .i) (c .before .before .pre .0) (c .before .before .pre .1) (c .days .ensures .0), c .before .before .pre .0 .bound)
+add-e c =
+    let start : tie.Start = search in
+    omega (arith, block-end _ (start .args .i) (start .pre .0) (start .pre .1) (c .days .ensures .0), start .pre .0 .bound)
 
 mul-result : tie.Need-mul-result
-mul-result c = omega (arith, block-end _ (c .before .before .args .i) (c .before .before .pre .0) (c .before .before .pre .1) (c .days .ensures .0), c .before .before .pre .0 .bound)
+mul-result c =
+    let start : tie.Start = search in
+    omega (arith, block-end _ (start .args .i) (start .pre .0) (start .pre .1) (c .days .ensures .0), start .pre .0 .bound)
 
 sub-result : tie.Need-sub-result
 sub-result c = search needs
@@ -35,11 +43,15 @@ part-result-start : tie.Need-part-result-start
 part-result-start c = search needs
 
 part-result-end : tie.Need-part-result-end
-part-result-end c = omega (arith, block-end _ (c .before .before .args .i) (c .before .before .pre .0) (c .before .before .pre .1) (c .days .ensures .0))
+part-result-end c =
+    let start : tie.Start = search in
+    omega (arith, block-end _ (start .args .i) (start .pre .0) (start .pre .1) (c .days .ensures .0))
 
 returns : tie.Need-returns
 unfolding block
-returns c = rw (add-sub-cancel-left, c .before .days .ensures .0)
+returns c =
+    let at-days : tie.After-days = search in
+    rw (add-sub-cancel-left, at-days .days .ensures .0)
 
 pub block-spec : {M : Type 1} → statement M
 block-spec =

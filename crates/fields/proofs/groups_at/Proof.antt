@@ -20,14 +20,22 @@ add-size : tie.Need-add-size
 add-size c = search needs
 
 mul-result : tie.Need-mul-result
-mul-result c = omega (arith, groups-end _ (c .before .before .before .pre) (c .before .nurses .ensures .0) (c .days .ensures .0), c .before .before .before .pre .bound)
+mul-result c =
+    let at-nurses : tie.After-nurses = search in
+    let start : tie.Start = search in
+    omega (arith, groups-end _ (start .pre) (at-nurses .nurses .ensures .0) (c .days .ensures .0), start .pre .bound)
 
 add-result : tie.Need-add-result
-add-result c = omega (arith, groups-end _ (c .before .before .before .pre) (c .before .nurses .ensures .0) (c .days .ensures .0), c .before .before .before .pre .bound)
+add-result c =
+    let at-nurses : tie.After-nurses = search in
+    let start : tie.Start = search in
+    omega (arith, groups-end _ (start .pre) (at-nurses .nurses .ensures .0) (c .days .ensures .0), start .pre .bound)
 
 returns : tie.Need-returns
 unfolding groupsAt
-returns c = rw (c .before .nurses .ensures .0, c .days .ensures .0)
+returns c =
+    let at-nurses : tie.After-nurses = search in
+    rw (at-nurses .nurses .ensures .0, c .days .ensures .0)
 
 pub groups-at-spec : {M : Type 1} → statement M
 groups-at-spec =

@@ -28,7 +28,10 @@ part-result-end c = search needs
 
 returns : tie.Need-returns
 unfolding memberSets
-returns c = rw (add-sub-cancel-left, c .before .before .groups-at .ensures, c .before .groups .ensures .0)
+returns c =
+    let at-groups : tie.After-groups = search in
+    let at-groups-at : tie.After-groups-at = search in
+    rw (add-sub-cancel-left, at-groups-at .groups-at .ensures, at-groups .groups .ensures .0)
 
 pub member-sets-spec : {M : Type 1} → statement M
 member-sets-spec =

@@ -24,19 +24,34 @@ groups-at-requires : tie.Need-groups-at-requires
 groups-at-requires c κs = search needs
 
 add-a : tie.Need-add-a
-add-a c = omega (arith, needs-end _ (c .before .before .before .args .d) (c .before .before .before .pre .0) (c .before .before .before .pre .1) (c .before .groups .ensures .0) (c .groups-at .ensures), c .before .before .before .pre .0 .bound)
+add-a c =
+    let at-groups : tie.After-groups = search in
+    let start : tie.Start = search in
+    omega (arith, needs-end _ (start .args .d) (start .pre .0) (start .pre .1) (at-groups .groups .ensures .0) (c .groups-at .ensures), start .pre .0 .bound)
 
 mul-a : tie.Need-mul-a
-mul-a c = omega (arith, needs-end _ (c .before .before .before .args .d) (c .before .before .before .pre .0) (c .before .before .before .pre .1) (c .before .groups .ensures .0) (c .groups-at .ensures), c .before .before .before .pre .0 .bound)
+mul-a c =
+    let at-groups : tie.After-groups = search in
+    let start : tie.Start = search in
+    omega (arith, needs-end _ (start .args .d) (start .pre .0) (start .pre .1) (at-groups .groups .ensures .0) (c .groups-at .ensures), start .pre .0 .bound)
 
 add-a-2 : tie.Need-add-a-2
-add-a-2 c = omega (arith, needs-end _ (c .before .before .before .args .d) (c .before .before .before .pre .0) (c .before .before .before .pre .1) (c .before .groups .ensures .0) (c .groups-at .ensures), c .before .before .before .pre .0 .bound)
+add-a-2 c =
+    let at-groups : tie.After-groups = search in
+    let start : tie.Start = search in
+    omega (arith, needs-end _ (start .args .d) (start .pre .0) (start .pre .1) (at-groups .groups .ensures .0) (c .groups-at .ensures), start .pre .0 .bound)
 
 add-e : tie.Need-add-e
-add-e c = omega (arith, needs-end _ (c .before .before .before .args .d) (c .before .before .before .pre .0) (c .before .before .before .pre .1) (c .before .groups .ensures .0) (c .groups-at .ensures), c .before .before .before .pre .0 .bound)
+add-e c =
+    let at-groups : tie.After-groups = search in
+    let start : tie.Start = search in
+    omega (arith, needs-end _ (start .args .d) (start .pre .0) (start .pre .1) (at-groups .groups .ensures .0) (c .groups-at .ensures), start .pre .0 .bound)
 
 mul-result : tie.Need-mul-result
-mul-result c = omega (arith, needs-end _ (c .before .before .before .args .d) (c .before .before .before .pre .0) (c .before .before .before .pre .1) (c .before .groups .ensures .0) (c .groups-at .ensures), c .before .before .before .pre .0 .bound)
+mul-result c =
+    let at-groups : tie.After-groups = search in
+    let start : tie.Start = search in
+    omega (arith, needs-end _ (start .args .d) (start .pre .0) (start .pre .1) (at-groups .groups .ensures .0) (c .groups-at .ensures), start .pre .0 .bound)
 
 sub-result : tie.Need-sub-result
 sub-result c = search needs
@@ -45,11 +60,17 @@ part-result-start : tie.Need-part-result-start
 part-result-start c = search needs
 
 part-result-end : tie.Need-part-result-end
-part-result-end c = omega (arith, needs-end _ (c .before .before .before .args .d) (c .before .before .before .pre .0) (c .before .before .before .pre .1) (c .before .groups .ensures .0) (c .groups-at .ensures))
+part-result-end c =
+    let at-groups : tie.After-groups = search in
+    let start : tie.Start = search in
+    omega (arith, needs-end _ (start .args .d) (start .pre .0) (start .pre .1) (at-groups .groups .ensures .0) (c .groups-at .ensures))
 
 returns : tie.Need-returns
 unfolding needsOf needsAt
-returns c = rw (add-sub-cancel-left, c .before .groups-at .ensures, c .before .before .groups .ensures .0)
+returns c =
+    let at-groups-at : tie.After-groups-at = search in
+    let at-groups : tie.After-groups = search in
+    rw (add-sub-cancel-left, at-groups-at .groups-at .ensures, at-groups .groups .ensures .0)
 
 pub needs-spec : {M : Type 1} → statement M
 needs-spec =

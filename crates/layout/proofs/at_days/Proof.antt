@@ -11,7 +11,9 @@ at-outer-requires : tie.Need-at-outer-requires
 at-outer-requires c κs = search needs
 
 returns : tie.Need-returns
-returns c = days-left _ _ _ (c .at-outer .ensures) (c .before .moved .ensures)
+returns c =
+    let at-moved : tie.After-moved = search in
+    days-left _ _ _ (c .at-outer .ensures) (at-moved .moved .ensures)
 
 pub at-days-spec : {M : Type 1} → statement M
 at-days-spec = tie.close (tie.spec moved-requires at-outer-requires returns)

@@ -11,7 +11,9 @@ at-outer-requires : tie.Need-at-outer-requires
 at-outer-requires c κs = search needs
 
 returns : tie.Need-returns
-returns c = groups-left _ _ _ (c .at-outer .ensures) (c .before .at-days .ensures)
+returns c =
+    let at-at-days : tie.After-at-days = search in
+    groups-left _ _ _ (c .at-outer .ensures) (at-at-days .at-days .ensures)
 
 pub at-groups-spec : {M : Type 1} → statement M
 at-groups-spec = tie.close (tie.spec at-days-requires at-outer-requires returns)

@@ -11,7 +11,9 @@ at-outer-requires : tie.Need-at-outer-requires
 at-outer-requires c κs = search needs
 
 returns : tie.Need-returns
-returns c = nurses-left _ _ _ (c .at-outer .ensures) (c .before .at-groups .ensures)
+returns c =
+    let at-at-groups : tie.After-at-groups = search in
+    nurses-left _ _ _ (c .at-outer .ensures) (at-at-groups .at-groups .ensures)
 
 pub at-nurses-spec : {M : Type 1} → statement M
 at-nurses-spec = tie.close (tie.spec at-groups-requires at-outer-requires returns)

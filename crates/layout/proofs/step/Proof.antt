@@ -180,84 +180,130 @@ enum-told-24 c = search needs
 
 returns : tie.Need-returns
 unfolding tree ward
-returns c = ap tree (c .sized .ensures) ∙ after-at _ _ (c .before .enum-told .given .1)
+returns c =
+    let at-enum-told : tie.After-enum-told = search in
+    ap tree (c .sized .ensures) ∙ after-at _ _ (at-enum-told .enum-told .given .1)
 
 returns-2 : tie.Need-returns-2
 unfolding tree
-returns-2 c = ap tree (c .sized2 .ensures) ∙ after-at _ _ (c .before .enum-told2 .given .1)
+returns-2 c =
+    let at-enum-told2 : tie.After-enum-told2 = search in
+    ap tree (c .sized2 .ensures) ∙ after-at _ _ (at-enum-told2 .enum-told2 .given .1)
 
 returns-3 : tie.Need-returns-3
 unfolding tree
-returns-3 c = ap tree (c .sized3 .ensures) ∙ after-at _ _ (c .before .enum-told3 .given .1)
+returns-3 c =
+    let at-enum-told3 : tie.After-enum-told3 = search in
+    ap tree (c .sized3 .ensures) ∙ after-at _ _ (at-enum-told3 .enum-told3 .given .1)
 
 returns-4 : tie.Need-returns-4
 unfolding tree
-returns-4 c = ap tree (c .moved .ensures) ∙ after-at _ _ (c .before .enum-told4 .given .1)
+returns-4 c =
+    let at-enum-told4 : tie.After-enum-told4 = search in
+    ap tree (c .moved .ensures) ∙ after-at _ _ (at-enum-told4 .enum-told4 .given .1)
 
 returns-5 : tie.Need-returns-5
-returns-5 c = let at-rest = c .before in gaps-left _ _ _ (c .at-inner .ensures) (at-rest .moved2 .ensures) ∙ after-at _ _ (at-rest .before .enum-told5 .given .1)
+returns-5 c =
+    let at-rest : tie.After-moved2 = search in
+    gaps-left _ _ _ (c .at-inner .ensures) (at-rest .moved2 .ensures) ∙ after-at _ _ (at-rest .before .enum-told5 .given .1)
 
 returns-6 : tie.Need-returns-6
-returns-6 c = let at-rest = c .before in gaps-left _ _ _ (c .at-inner2 .ensures) (at-rest .moved3 .ensures) ∙ after-at _ _ (at-rest .before .enum-told6 .given .1)
+returns-6 c =
+    let at-rest : tie.After-moved3 = search in
+    gaps-left _ _ _ (c .at-inner2 .ensures) (at-rest .moved3 .ensures) ∙ after-at _ _ (at-rest .before .enum-told6 .given .1)
 
 returns-7 : tie.Need-returns-7
 unfolding tree
-returns-7 c = ap tree (c .moved4 .ensures) ∙ after-at _ _ (c .before .enum-told7 .given .1)
+returns-7 c =
+    let at-enum-told7 : tie.After-enum-told7 = search in
+    ap tree (c .moved4 .ensures) ∙ after-at _ _ (at-enum-told7 .enum-told7 .given .1)
 
 returns-8 : tie.Need-returns-8
-returns-8 c = let at-rest = c .before in weights-left _ _ _ (c .at-inner3 .ensures) (at-rest .at-nurses .ensures) ∙ after-at _ _ (at-rest .before .enum-told8 .given .1)
+returns-8 c =
+    let at-rest : tie.After-at-nurses = search in
+    weights-left _ _ _ (c .at-inner3 .ensures) (at-rest .at-nurses .ensures) ∙ after-at _ _ (at-rest .before .enum-told8 .given .1)
 
 returns-9 : tie.Need-returns-9
-returns-9 c = let at-rest = c .before in weights-left _ _ _ (c .at-inner4 .ensures) (at-rest .at-nurses2 .ensures) ∙ after-at _ _ (at-rest .before .enum-told9 .given .1)
+returns-9 c =
+    let at-rest : tie.After-at-nurses2 = search in
+    weights-left _ _ _ (c .at-inner4 .ensures) (at-rest .at-nurses2 .ensures) ∙ after-at _ _ (at-rest .before .enum-told9 .given .1)
 
 returns-10 : tie.Need-returns-10
-returns-10 c = let at-rest = c .before in duties-left _ _ _ (c .at-inner5 .ensures) (at-rest .moved5 .ensures) ∙ after-at _ _ (at-rest .before .enum-told10 .given .1)
+returns-10 c =
+    let at-rest : tie.After-moved5 = search in
+    duties-left _ _ _ (c .at-inner5 .ensures) (at-rest .moved5 .ensures) ∙ after-at _ _ (at-rest .before .enum-told10 .given .1)
 
 returns-11 : tie.Need-returns-11
-returns-11 c = let at-rest = c .before in duties-left _ _ _ (c .at-inner6 .ensures) (at-rest .moved6 .ensures) ∙ after-at _ _ (at-rest .before .enum-told11 .given .1)
+returns-11 c =
+    let at-rest : tie.After-moved6 = search in
+    duties-left _ _ _ (c .at-inner6 .ensures) (at-rest .moved6 .ensures) ∙ after-at _ _ (at-rest .before .enum-told11 .given .1)
 
 returns-12 : tie.Need-returns-12
 unfolding tree
-returns-12 c = ap tree (c .moved7 .ensures) ∙ after-at _ _ (c .before .enum-told12 .given .1)
+returns-12 c =
+    let at-enum-told12 : tie.After-enum-told12 = search in
+    ap tree (c .moved7 .ensures) ∙ after-at _ _ (at-enum-told12 .enum-told12 .given .1)
 
 returns-13 : tie.Need-returns-13
 unfolding tree
-returns-13 c = ap tree (c .moved8 .ensures) ∙ after-at _ _ (c .before .enum-told13 .given .1)
+returns-13 c =
+    let at-enum-told13 : tie.After-enum-told13 = search in
+    ap tree (c .moved8 .ensures) ∙ after-at _ _ (at-enum-told13 .enum-told13 .given .1)
 
 returns-14 : tie.Need-returns-14
 unfolding tree
-returns-14 c = ap tree (c .moved9 .ensures) ∙ after-at _ _ (c .before .enum-told14 .given .1)
+returns-14 c =
+    let at-enum-told14 : tie.After-enum-told14 = search in
+    ap tree (c .moved9 .ensures) ∙ after-at _ _ (at-enum-told14 .enum-told14 .given .1)
 
 returns-15 : tie.Need-returns-15
-returns-15 c = let at-rest = c .before in marks-left _ _ _ (c .at-inner7 .ensures) (at-rest .at-nurses3 .ensures) ∙ after-at _ _ (at-rest .before .enum-told15 .given .1)
+returns-15 c =
+    let at-rest : tie.After-at-nurses3 = search in
+    marks-left _ _ _ (c .at-inner7 .ensures) (at-rest .at-nurses3 .ensures) ∙ after-at _ _ (at-rest .before .enum-told15 .given .1)
 
 returns-16 : tie.Need-returns-16
-returns-16 c = let at-rest = c .before in marks-left _ _ _ (c .at-inner8 .ensures) (at-rest .at-nurses4 .ensures) ∙ after-at _ _ (at-rest .before .enum-told16 .given .1)
+returns-16 c =
+    let at-rest : tie.After-at-nurses4 = search in
+    marks-left _ _ _ (c .at-inner8 .ensures) (at-rest .at-nurses4 .ensures) ∙ after-at _ _ (at-rest .before .enum-told16 .given .1)
 
 returns-17 : tie.Need-returns-17
-returns-17 c = c .at-groups .ensures ∙ after-at _ _ (c .before .enum-told17 .given .1)
+returns-17 c =
+    let at-enum-told17 : tie.After-enum-told17 = search in
+    c .at-groups .ensures ∙ after-at _ _ (at-enum-told17 .enum-told17 .given .1)
 
 returns-18 : tie.Need-returns-18
 unfolding tree
-returns-18 c = ap tree (c .moved10 .ensures) ∙ after-at _ _ (c .before .enum-told18 .given .1)
+returns-18 c =
+    let at-enum-told18 : tie.After-enum-told18 = search in
+    ap tree (c .moved10 .ensures) ∙ after-at _ _ (at-enum-told18 .enum-told18 .given .1)
 
 returns-19 : tie.Need-returns-19
-returns-19 c = let at-rest = c .before in bounds-left _ _ _ (c .at-inner9 .ensures) (at-rest .at-days .ensures) ∙ after-at _ _ (at-rest .before .enum-told19 .given .1)
+returns-19 c =
+    let at-rest : tie.After-at-days = search in
+    bounds-left _ _ _ (c .at-inner9 .ensures) (at-rest .at-days .ensures) ∙ after-at _ _ (at-rest .before .enum-told19 .given .1)
 
 returns-20 : tie.Need-returns-20
 unfolding tree
-returns-20 c = ap tree (c .moved11 .ensures) ∙ after-at _ _ (c .before .enum-told20 .given .1)
+returns-20 c =
+    let at-enum-told20 : tie.After-enum-told20 = search in
+    ap tree (c .moved11 .ensures) ∙ after-at _ _ (at-enum-told20 .enum-told20 .given .1)
 
 returns-21 : tie.Need-returns-21
 unfolding tree
-returns-21 c = ap tree (c .moved12 .ensures) ∙ after-at _ _ (c .before .enum-told21 .given .1)
+returns-21 c =
+    let at-enum-told21 : tie.After-enum-told21 = search in
+    ap tree (c .moved12 .ensures) ∙ after-at _ _ (at-enum-told21 .enum-told21 .given .1)
 
 returns-22 : tie.Need-returns-22
 unfolding tree
-returns-22 c = ap tree (c .moved13 .ensures) ∙ after-at _ _ (c .before .enum-told22 .given .1)
+returns-22 c =
+    let at-enum-told22 : tie.After-enum-told22 = search in
+    ap tree (c .moved13 .ensures) ∙ after-at _ _ (at-enum-told22 .enum-told22 .given .1)
 
 returns-23 : tie.Need-returns-23
-returns-23 c = let at-rest = c .before in bounds-left _ _ _ (c .at-inner10 .ensures) (at-rest .at-days2 .ensures) ∙ after-at _ _ (at-rest .before .enum-told23 .given .1)
+returns-23 c =
+    let at-rest : tie.After-at-days2 = search in
+    bounds-left _ _ _ (c .at-inner10 .ensures) (at-rest .at-days2 .ensures) ∙ after-at _ _ (at-rest .before .enum-told23 .given .1)
 
 returns-24 : tie.Need-returns-24
 returns-24 c = ended _ _ (c .enum-told24 .given .1)

@@ -106,7 +106,9 @@ enum-told-17 : tie.Need-enum-told-17
 enum-told-17 c = search needs
 
 all-requires : tie.Need-all-requires
-all-requires c κs = let at-match = c .before in let start = at-match .before in subst⁻¹ SmallField (wanted-at _ (c .enum-told17 .given .1)) (start .pre)
+all-requires c κs =
+    let at-match : tie.At-match-keys17 = search in
+    let start = at-match .before in subst⁻¹ SmallField (wanted-at _ (c .enum-told17 .given .1)) (start .pre)
 
 range-requires-16 : tie.Need-range-requires-16
 range-requires-16 c κs = search needs
@@ -152,73 +154,117 @@ enum-told-24 c = search needs
 
 returns : tie.Need-returns
 unfolding ward
-returns c = c .range .ensures ∙ wanted-at _ (c .before .enum-told .given .1)
+returns c =
+    let at-enum-told : tie.After-enum-told = search in
+    c .range .ensures ∙ wanted-at _ (at-enum-told .enum-told .given .1)
 
 returns-2 : tie.Need-returns-2
-returns-2 c = c .range2 .ensures ∙ wanted-at _ (c .before .enum-told2 .given .1)
+returns-2 c =
+    let at-enum-told2 : tie.After-enum-told2 = search in
+    c .range2 .ensures ∙ wanted-at _ (at-enum-told2 .enum-told2 .given .1)
 
 returns-3 : tie.Need-returns-3
-returns-3 c = c .range3 .ensures ∙ wanted-at _ (c .before .enum-told3 .given .1)
+returns-3 c =
+    let at-enum-told3 : tie.After-enum-told3 = search in
+    c .range3 .ensures ∙ wanted-at _ (at-enum-told3 .enum-told3 .given .1)
 
 returns-4 : tie.Need-returns-4
-returns-4 c = c .range4 .ensures ∙ wanted-at _ (c .before .enum-told4 .given .1)
+returns-4 c =
+    let at-enum-told4 : tie.After-enum-told4 = search in
+    c .range4 .ensures ∙ wanted-at _ (at-enum-told4 .enum-told4 .given .1)
 
 returns-5 : tie.Need-returns-5
-returns-5 c = c .range5 .ensures ∙ wanted-at _ (c .before .enum-told5 .given .1)
+returns-5 c =
+    let at-enum-told5 : tie.After-enum-told5 = search in
+    c .range5 .ensures ∙ wanted-at _ (at-enum-told5 .enum-told5 .given .1)
 
 returns-6 : tie.Need-returns-6
-returns-6 c = c .range6 .ensures ∙ wanted-at _ (c .before .enum-told6 .given .1)
+returns-6 c =
+    let at-enum-told6 : tie.After-enum-told6 = search in
+    c .range6 .ensures ∙ wanted-at _ (at-enum-told6 .enum-told6 .given .1)
 
 returns-7 : tie.Need-returns-7
-returns-7 c = c .range7 .ensures ∙ wanted-at _ (c .before .enum-told7 .given .1)
+returns-7 c =
+    let at-enum-told7 : tie.After-enum-told7 = search in
+    c .range7 .ensures ∙ wanted-at _ (at-enum-told7 .enum-told7 .given .1)
 
 returns-8 : tie.Need-returns-8
-returns-8 c = c .range8 .ensures ∙ wanted-at _ (c .before .enum-told8 .given .1)
+returns-8 c =
+    let at-enum-told8 : tie.After-enum-told8 = search in
+    c .range8 .ensures ∙ wanted-at _ (at-enum-told8 .enum-told8 .given .1)
 
 returns-9 : tie.Need-returns-9
-returns-9 c = c .range9 .ensures ∙ wanted-at _ (c .before .enum-told9 .given .1)
+returns-9 c =
+    let at-enum-told9 : tie.After-enum-told9 = search in
+    c .range9 .ensures ∙ wanted-at _ (at-enum-told9 .enum-told9 .given .1)
 
 returns-10 : tie.Need-returns-10
-returns-10 c = c .range10 .ensures ∙ wanted-at _ (c .before .enum-told10 .given .1)
+returns-10 c =
+    let at-enum-told10 : tie.After-enum-told10 = search in
+    c .range10 .ensures ∙ wanted-at _ (at-enum-told10 .enum-told10 .given .1)
 
 returns-11 : tie.Need-returns-11
 returns-11 c = wanted-at _ (c .enum-told11 .given .1)
 
 returns-12 : tie.Need-returns-12
-returns-12 c = c .range11 .ensures ∙ wanted-at _ (c .before .enum-told12 .given .1)
+returns-12 c =
+    let at-enum-told12 : tie.After-enum-told12 = search in
+    c .range11 .ensures ∙ wanted-at _ (at-enum-told12 .enum-told12 .given .1)
 
 returns-13 : tie.Need-returns-13
-returns-13 c = c .range12 .ensures ∙ wanted-at _ (c .before .enum-told13 .given .1)
+returns-13 c =
+    let at-enum-told13 : tie.After-enum-told13 = search in
+    c .range12 .ensures ∙ wanted-at _ (at-enum-told13 .enum-told13 .given .1)
 
 returns-14 : tie.Need-returns-14
-returns-14 c = c .range13 .ensures ∙ wanted-at _ (c .before .enum-told14 .given .1)
+returns-14 c =
+    let at-enum-told14 : tie.After-enum-told14 = search in
+    c .range13 .ensures ∙ wanted-at _ (at-enum-told14 .enum-told14 .given .1)
 
 returns-15 : tie.Need-returns-15
-returns-15 c = c .range14 .ensures ∙ wanted-at _ (c .before .enum-told15 .given .1)
+returns-15 c =
+    let at-enum-told15 : tie.After-enum-told15 = search in
+    c .range14 .ensures ∙ wanted-at _ (at-enum-told15 .enum-told15 .given .1)
 
 returns-16 : tie.Need-returns-16
-returns-16 c = c .range15 .ensures ∙ wanted-at _ (c .before .enum-told16 .given .1)
+returns-16 c =
+    let at-enum-told16 : tie.After-enum-told16 = search in
+    c .range15 .ensures ∙ wanted-at _ (at-enum-told16 .enum-told16 .given .1)
 
 returns-17 : tie.Need-returns-17
-returns-17 c = let at-all = c .before in c .range16 .ensures ∙ ap (λ (x : ℕ). Next (range 1 x)) (at-all .all .ensures) ∙ wanted-at _ (at-all .before .enum-told17 .given .1)
+returns-17 c =
+    let at-all : tie.After-all = search in
+    c .range16 .ensures ∙ ap (λ (x : ℕ). Next (range 1 x)) (at-all .all .ensures) ∙ wanted-at _ (at-all .before .enum-told17 .given .1)
 
 returns-18 : tie.Need-returns-18
-returns-18 c = c .range17 .ensures ∙ wanted-at _ (c .before .enum-told18 .given .1)
+returns-18 c =
+    let at-enum-told18 : tie.After-enum-told18 = search in
+    c .range17 .ensures ∙ wanted-at _ (at-enum-told18 .enum-told18 .given .1)
 
 returns-19 : tie.Need-returns-19
-returns-19 c = c .range18 .ensures ∙ wanted-at _ (c .before .enum-told19 .given .1)
+returns-19 c =
+    let at-enum-told19 : tie.After-enum-told19 = search in
+    c .range18 .ensures ∙ wanted-at _ (at-enum-told19 .enum-told19 .given .1)
 
 returns-20 : tie.Need-returns-20
-returns-20 c = c .range19 .ensures ∙ wanted-at _ (c .before .enum-told20 .given .1)
+returns-20 c =
+    let at-enum-told20 : tie.After-enum-told20 = search in
+    c .range19 .ensures ∙ wanted-at _ (at-enum-told20 .enum-told20 .given .1)
 
 returns-21 : tie.Need-returns-21
-returns-21 c = c .range20 .ensures ∙ wanted-at _ (c .before .enum-told21 .given .1)
+returns-21 c =
+    let at-enum-told21 : tie.After-enum-told21 = search in
+    c .range20 .ensures ∙ wanted-at _ (at-enum-told21 .enum-told21 .given .1)
 
 returns-22 : tie.Need-returns-22
-returns-22 c = c .range21 .ensures ∙ wanted-at _ (c .before .enum-told22 .given .1)
+returns-22 c =
+    let at-enum-told22 : tie.After-enum-told22 = search in
+    c .range21 .ensures ∙ wanted-at _ (at-enum-told22 .enum-told22 .given .1)
 
 returns-23 : tie.Need-returns-23
-returns-23 c = c .range22 .ensures ∙ wanted-at _ (c .before .enum-told23 .given .1)
+returns-23 c =
+    let at-enum-told23 : tie.After-enum-told23 = search in
+    c .range22 .ensures ∙ wanted-at _ (at-enum-told23 .enum-told23 .given .1)
 
 returns-24 : tie.Need-returns-24
 returns-24 c = wanted-at _ (c .enum-told24 .given .1)

@@ -25,15 +25,6 @@ at-questions c = c .before .before
 abbrev from-clear : tie.After-enum-told → tie.Start
 from-clear c = at-start (at-questions c)
 
-abbrev at-clear : tie.After-fill → tie.After-enum-told
-at-clear c = c .before .before
-
-abbrev at-fill : tie.After-advance-arg → tie.After-fill
-at-fill c = c .before .before .before
-
-abbrev at-advance : tie.After-finished → tie.After-advance
-at-advance c = c .before .before
-
 -- no question refuses
 unrefused : (c : tie.After-enum-told)
     → let s = from-clear c .args in
@@ -56,23 +47,27 @@ enum-told : tie.Need-enum-told
 enum-told c = search needs
 
 fill-requires : tie.Need-fill-requires
-fill-requires c κs = let told = c .before in (from-clear told .pre, passed told .room)
+fill-requires c κs =
+    let told : tie.After-enum-told = search in
+    (from-clear told .pre, passed told .room)
 
 slice-reshare-prefix-advance : tie.Need-slice-reshare-prefix-advance
 slice-reshare-prefix-advance c =
-    let filled = c .before .before in
-    front-fits (commonOf (from-clear (at-clear filled) .args .w .now)) _ (filled .fill .ensures .0) (filled .fill .ensures .1)
+    let filled : tie.After-fill = search in
+    let start : tie.Start = search in
+    front-fits (commonOf (start .args .w .now)) _ (filled .fill .ensures .0) (filled .fill .ensures .1)
 
 slice-aggregate-advance : tie.Need-slice-aggregate-advance
 slice-aggregate-advance c =
-    let filled = at-fill c in
-    sym (length-take-le _ _ (front-fits (commonOf (from-clear (at-clear filled) .args .w .now)) _ (filled .fill .ensures .0) (filled .fill .ensures .1)))
+    let filled : tie.After-fill = search in
+    let start : tie.Start = search in
+    sym (length-take-le _ _ (front-fits (commonOf (start .args .w .now)) _ (filled .fill .ensures .0) (filled .fill .ensures .1)))
 
 advance-requires : tie.Need-advance-requires
 advance-requires c κs =
-    let filled = at-fill c in
-    let told = at-clear filled in
-    let start = from-clear told in
+    let filled : tie.After-fill = search in
+    let told : tie.After-enum-told = search in
+    let start : tie.Start = search in
     let w = start .args .w .now in
     let front = list-front (commonOf w) _ (filled .fill .ensures .1) (filled .fill .ensures .0) in
     let ok = passed told in
@@ -86,9 +81,10 @@ finished-requires c κs = search needs
 
 returns : tie.Need-returns
 returns c =
-    let refusing = c .before .before in
-    let asked = refusing .before .before in
-    let s = at-start asked .args in
+    let refusing : tie.After-n = search in
+    let asked : tie.After-first-no = search in
+    let start : tie.Start = search in
+    let s = start .args in
     told-refused (nightPhase (s .w .now)) (s .rec) (s .k) (commonOf (s .w .now)) (s .buffer .now) _
     (sym (asked .first-no .ensures) ∙ ap refusalIn (refusing .n .given .1)) (c .refuse .ensures)
 
@@ -97,16 +93,18 @@ same-length c = search needs
 
 returns-2 : tie.Need-returns-2
 returns-2 c =
-    let advanced = at-advance c in
-    let filled = at-fill (advanced .before) in
-    let told = at-clear filled in
-    let s = from-clear told .args in
+    let at-no-roster : tie.After-no-roster = search in
+    let advanced : tie.After-advance = search in
+    let filled : tie.After-fill = search in
+    let told : tie.After-enum-told = search in
+    let start : tie.Start = search in
+    let s = start .args in
     let w = s .w .now in
     let x = advanced .advance .result in
     let front = list-front (commonOf w) _ (filled .fill .ensures .1) (filled .fill .ensures .0) in
     told-advanced (nightPhase w) (s .rec) (s .k) (commonOf w) (s .buffer .now) x (unrefused told)
     (advanced .advance .ensures (nightPhase w) (night-seeks w _ front) (passed told .sound))
-    (c .finished .ensures (nightPhase w) (c .before .no-roster .ensures ∙ ap rosterOf (night-letters w x))) (filled .fill .ensures .1)
+    (c .finished .ensures (nightPhase w) (at-no-roster .no-roster .ensures ∙ ap rosterOf (night-letters w x))) (filled .fill .ensures .1)
 
 pub advance-on-spec : {M : Type 1} → statement M
 advance-on-spec =

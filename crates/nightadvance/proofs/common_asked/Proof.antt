@@ -5,9 +5,6 @@ use borrow.Author.Needs.{needs}
 use Rattle.nightadvance.proofs.common_asked.Statement.{statement}
 use Rattle.nightadvance.proofs.common_asked.Tie as tie
 
-abbrev at-start : tie.After-count → tie.Start
-at-start c = c .before .before
-
 add-count : tie.Need-add-count
 add-count c = search needs
 
@@ -19,8 +16,8 @@ unless-requires c κs = search needs
 
 returns : tie.Need-returns
 returns c =
-    let counted = c .before in
-    let start = at-start counted in
+    let counted : tie.After-count = search in
+    let start : tie.Start = search in
     c .unless .ensures ∙ common-asked (start .args .w .now) (start .args .places) (counted .count .ensures)
 
 pub common-asked-spec : {M : Type 1} → statement M

@@ -7,19 +7,6 @@ use borrow.Author.Needs.{needs}
 use Rattle.nightadvance.proofs.first_no.Statement.{statement}
 use Rattle.nightadvance.proofs.first_no.Tie as tie
 
--- the places, each from the next: a question asked, and its yes
-abbrev at-start : tie.After-steps-asked → tie.Start
-at-start c = c .before .before
-
-abbrev at-steps : tie.After-enum-told → tie.After-steps-asked
-at-steps c = c .before .before
-
-abbrev at-common : tie.After-enum-told2 → tie.After-common-asked
-at-common c = c .before .before
-
-abbrev at-lacking : tie.After-enum-told3 → tie.After-nights-lacking
-at-lacking c = c .before .before
-
 steps-asked-requires : tie.Need-steps-asked-requires
 steps-asked-requires c κs = search needs
 
@@ -52,41 +39,51 @@ record-asked-requires c κs = search needs
 
 returns : tie.Need-returns
 returns c =
-    let refusing = c .before in
-    let asked = refusing .before .before in
+    let refusing : tie.After-n = search in
+    let asked : tie.After-steps-asked = search in
+    let start : tie.Start = search in
     first-no _ (asked .steps-asked .ensures) (refusing .n .given .1)
-    ∙ let s = at-start asked .args in in-order (s .w .now) (s .rec) (s .k) (s .places) []
+    ∙ let s = start .args in in-order (s .w .now) (s .rec) (s .k) (s .places) []
 
 returns-2 : tie.Need-returns-2
 returns-2 c =
-    let refusing = c .before in
-    let asked = refusing .before .before in
+    let refusing : tie.After-n2 = search in
+    let asked : tie.After-common-asked = search in
+    let at-enum-told : tie.After-enum-told = search in
+    let at-steps-asked : tie.After-steps-asked = search in
+    let start : tie.Start = search in
     first-no _ (asked .common-asked .ensures) (refusing .n2 .given .1)
-    ∙ first-yes _ (at-steps (asked .before) .steps-asked .ensures) (asked .before .enum-told .given .1)
-    ∙ let s = at-start (at-steps (asked .before)) .args in in-order (s .w .now) (s .rec) (s .k) (s .places) []
+    ∙ first-yes _ (at-steps-asked .steps-asked .ensures) (at-enum-told .enum-told .given .1)
+    ∙ let s = start .args in in-order (s .w .now) (s .rec) (s .k) (s .places) []
 
 returns-3 : tie.Need-returns-3
 returns-3 c =
-    let refusing = c .before in
-    let asked = refusing .before .before in
-    let passed = asked .before in
-    let common = at-common passed in
+    let refusing : tie.After-n3 = search in
+    let asked : tie.After-nights-lacking = search in
+    let passed : tie.After-enum-told2 = search in
+    let common : tie.After-common-asked = search in
+    let at-enum-told : tie.After-enum-told = search in
+    let at-steps-asked : tie.After-steps-asked = search in
+    let start : tie.Start = search in
     first-no _ (asked .nights-lacking .ensures) (refusing .n3 .given .1)
     ∙ first-yes _ (common .common-asked .ensures) (passed .enum-told2 .given .1)
-    ∙ first-yes _ (at-steps (common .before) .steps-asked .ensures) (common .before .enum-told .given .1)
-    ∙ let s = at-start (at-steps (common .before)) .args in in-order (s .w .now) (s .rec) (s .k) (s .places) []
+    ∙ first-yes _ (at-steps-asked .steps-asked .ensures) (at-enum-told .enum-told .given .1)
+    ∙ let s = start .args in in-order (s .w .now) (s .rec) (s .k) (s .places) []
 
 returns-4 : tie.Need-returns-4
 returns-4 c =
-    let passed3 = c .before .before in
-    let lacking = at-lacking passed3 in
-    let passed2 = lacking .before in
-    let common = at-common passed2 in
+    let passed3 : tie.After-enum-told3 = search in
+    let lacking : tie.After-nights-lacking = search in
+    let passed2 : tie.After-enum-told2 = search in
+    let common : tie.After-common-asked = search in
+    let at-enum-told : tie.After-enum-told = search in
+    let at-steps-asked : tie.After-steps-asked = search in
+    let start : tie.Start = search in
     c .record-asked .ensures
     ∙ first-yes _ (lacking .nights-lacking .ensures) (passed3 .enum-told3 .given .1)
     ∙ first-yes _ (common .common-asked .ensures) (passed2 .enum-told2 .given .1)
-    ∙ first-yes _ (at-steps (common .before) .steps-asked .ensures) (common .before .enum-told .given .1)
-    ∙ let s = at-start (at-steps (common .before)) .args in in-order (s .w .now) (s .rec) (s .k) (s .places) _
+    ∙ first-yes _ (at-steps-asked .steps-asked .ensures) (at-enum-told .enum-told .given .1)
+    ∙ let s = start .args in in-order (s .w .now) (s .rec) (s .k) (s .places) _
 
 pub first-no-spec : {M : Type 1} → statement M
 first-no-spec =

@@ -16,7 +16,10 @@ add-result : tie.Need-add-result
 add-result c = search needs
 
 returns-2 : tie.Need-returns-2
-returns-2 c = simp (ne-eqb _ _ (c .before .before .if1 .left), eq-eqb _ _ (c .before .if2 .taken))
+returns-2 c =
+    let at-then2 : tie.Then2 = search in
+    let at-else1 : tie.Else1 = search in
+    simp (ne-eqb _ _ (at-else1 .if1 .left), eq-eqb _ _ (at-then2 .if2 .taken))
 
 gap-after-requires : tie.Need-gap-after-requires
 gap-after-requires c κs = search needs
@@ -25,10 +28,15 @@ add-result-2 : tie.Need-add-result-2
 add-result-2 c = search needs
 
 add-result-3 : tie.Need-add-result-3
-add-result-3 c = omega (arith, c .gap-after .ensures, gap-small (c .before .before .before .args .r) (c .before .before .before .args .run) (c .before .before .before .pre .0))
+add-result-3 c =
+    let start : tie.Start = search in
+    omega (arith, c .gap-after .ensures, gap-small (start .args .r) (start .args .run) (start .pre .0))
 
 returns-3 : tie.Need-returns-3
-returns-3 c = simp (ne-eqb _ _ (c .before .before .if1 .left), ne-eqb _ _ (c .before .if2 .left), c .gap-after .ensures)
+returns-3 c =
+    let at-else2 : tie.Else2 = search in
+    let at-else1 : tie.Else1 = search in
+    simp (ne-eqb _ _ (at-else1 .if1 .left), ne-eqb _ _ (at-else2 .if2 .left), c .gap-after .ensures)
 
 pub is-allowed-spec : {M : Type 1} → statement M
 is-allowed-spec =

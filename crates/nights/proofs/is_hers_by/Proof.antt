@@ -14,23 +14,13 @@ use borrow.Author.Needs.{needs}
 use Rattle.nights.proofs.is_hers_by.Statement.{statement}
 use Rattle.nights.proofs.is_hers_by.Tie as tie
 
--- the places of the function, each from the next
-abbrev at-start : tie.After-bit → tie.Start
-at-start c = c .before .before
-
-abbrev at-bit : tie.After-ones → tie.After-bit
-at-bit c = c .before .before
-
-abbrev at-ones : tie.Else2 → tie.After-ones
-at-ones c = c .before .before
-
 bit-requires : tie.Need-bit-requires
 bit-requires c κs = search needs
 
 returns : tie.Need-returns
 returns c =
-    let bit = c .before in
-    let start = at-start bit in
+    let bit : tie.After-bit = search in
+    let start : tie.Start = search in
     let s = start .args in
     let big : 2 ^ s .n ≤ s .p = omega (arith, bit .bit .ensures) in
     sym (hers-is (s .table .now) (s .r) (s .n) (s .p) (s .b .now) ∙ simp (le-ltb (s .p) (2 ^ s .n) big))
@@ -40,9 +30,9 @@ ones-requires c κs = search needs
 
 returns-2 : tie.Need-returns-2
 returns-2 c =
-    let ones = c .before .before in
-    let bit = at-bit ones in
-    let start = at-start bit in
+    let ones : tie.After-ones = search in
+    let bit : tie.After-bit = search in
+    let start : tie.Start = search in
     let s = start .args in
     let small : s .p < 2 ^ s .n = omega (arith, bit .bit .ensures) in
     let many : s .r .most < length (starts (s .n) (s .p)) = omega (arith, ones .ones .ensures .0 (s .n) small, count-starts (s .n) (s .p), c .if2 .taken) in
@@ -53,11 +43,10 @@ least-nights-requires c κs = search needs
 
 returns-3 : tie.Need-returns-3
 returns-3 c =
-    let least-nights = c .before in
-    let else2 = least-nights .before in
-    let ones = at-ones else2 in
-    let bit = at-bit ones in
-    let start = at-start bit in
+    let least-nights : tie.After-least-nights = search in
+    let ones : tie.After-ones = search in
+    let bit : tie.After-bit = search in
+    let start : tie.Start = search in
     let s = start .args in
     let small : s .p < 2 ^ s .n = omega (arith, bit .bit .ensures) in
     let few : length (starts (s .n) (s .p)) < leastNightsOf (s .b .now) = omega (arith, ones .ones .ensures .0 (s .n) small, count-starts (s .n) (s .p), c .if3 .taken, least-nights .least-nights .ensures) in
@@ -68,13 +57,10 @@ most-nights-requires c κs = search needs
 
 returns-4 : tie.Need-returns-4
 returns-4 c =
-    let most-nights = c .before in
-    let else3 = most-nights .before in
-    let least-nights = else3 .before in
-    let else2 = least-nights .before in
-    let ones = at-ones else2 in
-    let bit = at-bit ones in
-    let start = at-start bit in
+    let most-nights : tie.After-most-nights = search in
+    let ones : tie.After-ones = search in
+    let bit : tie.After-bit = search in
+    let start : tie.Start = search in
     let s = start .args in
     let small : s .p < 2 ^ s .n = omega (arith, bit .bit .ensures) in
     let many : mostNightsOf (s .b .now) < length (starts (s .n) (s .p)) = omega (arith, ones .ones .ensures .0 (s .n) small, count-starts (s .n) (s .p), c .if4 .taken, most-nights .most-nights .ensures) in
@@ -94,19 +80,19 @@ marks-allow-requires c κs = search needs
 
 returns-5 : tie.Need-returns-5
 returns-5 c =
-    let then6 = c .before in
-    let keeps2 = then6 .before in
-    let last-run = keeps2 .before in
-    let then5 = last-run .before in
-    let keeps = then5 .before in
-    let else4 = keeps .before in
-    let most-nights = else4 .before in
-    let else3 = most-nights .before in
-    let least-nights = else3 .before in
-    let else2 = least-nights .before in
-    let ones = at-ones else2 in
-    let bit = at-bit ones in
-    let start = at-start bit in
+    let then6 : tie.Then6 = search in
+    let keeps2 : tie.After-keeps2 = search in
+    let last-run : tie.After-last-run = search in
+    let then5 : tie.Then5 = search in
+    let keeps : tie.After-keeps = search in
+    let else4 : tie.Else4 = search in
+    let most-nights : tie.After-most-nights = search in
+    let else3 : tie.Else3 = search in
+    let least-nights : tie.After-least-nights = search in
+    let else2 : tie.Else2 = search in
+    let ones : tie.After-ones = search in
+    let bit : tie.After-bit = search in
+    let start : tie.Start = search in
     let s = start .args in
     let L = length (starts (s .n) (s .p)) in
     let small : s .p < 2 ^ s .n = omega (arith, bit .bit .ensures) in
@@ -129,33 +115,19 @@ returns-5 c =
 
 returns-6 : tie.Need-returns-6
 returns-6 c =
-    let keeps2 = c .before in
-    let last-run = keeps2 .before in
-    let then5 = last-run .before in
-    let keeps = then5 .before in
-    let else4 = keeps .before in
-    let most-nights = else4 .before in
-    let else3 = most-nights .before in
-    let least-nights = else3 .before in
-    let else2 = least-nights .before in
-    let ones = at-ones else2 in
-    let bit = at-bit ones in
-    let start = at-start bit in
+    let keeps2 : tie.After-keeps2 = search in
+    let last-run : tie.After-last-run = search in
+    let most-nights : tie.After-most-nights = search in
+    let ones : tie.After-ones = search in
+    let start : tie.Start = search in
     let s = start .args in
     let last = sym (keeps2 .keeps2 .ensures ∙ ap₂ (λ (a b : ℕ). follow (s .r) a b (shifted 7 (starts (s .n) (s .p)))) (last-run .last-run .ensures .0 .0) (last-run .last-run .ensures .0 .1)) ∙ c .if6 .left in
     sym (hers-is (s .table .now) (s .r) (s .n) (s .p) (s .b .now) ∙ simp (last, and-false))
 
 returns-7 : tie.Need-returns-7
 returns-7 c =
-    let keeps = c .before in
-    let else4 = keeps .before in
-    let most-nights = else4 .before in
-    let else3 = most-nights .before in
-    let least-nights = else3 .before in
-    let else2 = least-nights .before in
-    let ones = at-ones else2 in
-    let bit = at-bit ones in
-    let start = at-start bit in
+    let keeps : tie.After-keeps = search in
+    let start : tie.Start = search in
     let s = start .args in
     let month = sym (ap (follow (s .r) 0 0) (shifted-zero (starts (s .n) (s .p)))) ∙ sym (keeps .keeps .ensures) ∙ c .if5 .left in
     sym (hers-is (s .table .now) (s .r) (s .n) (s .p) (s .b .now) ∙ simp (month, and-false))

@@ -15,10 +15,6 @@ Inv-loop b prev₀ run₀ day₀ i₀ prev run day i = (i ≤ 7) × (day ≡ i) 
 abbrev μ-loop : tie.MeasureT-loop
 μ-loop b prev₀ run₀ day₀ i₀ prev run day i = 7 - i
 
--- the places of the function, each from the next
-abbrev at-start : tie.At-loop Inv-loop μ-loop → tie.Start Inv-loop μ-loop
-at-start c = c .before .before
-
 loop-holds : tie.Need-loop-holds Inv-loop μ-loop
 loop-holds c = (omega arith, refl, omega arith, omega arith, lately-all _)
 
@@ -39,10 +35,10 @@ loop-less c = search needs
 
 loop-again : tie.Need-loop-again Inv-loop μ-loop
 loop-again c =
-    let duty = c .before in
-    let in-loop = duty .before in
-    let loop = in-loop .before in
-    let start = at-start loop in
+    let duty : tie.After-duty Inv-loop μ-loop = search in
+    let in-loop : tie.In-loop Inv-loop μ-loop = search in
+    let loop : tie.At-loop Inv-loop μ-loop = search in
+    let start : tie.Start Inv-loop μ-loop = search in
     let mine = start .args .b .now in
     let l = loop .loop in
     ⊎-elim
@@ -64,8 +60,8 @@ loop-again c =
 
 returns : tie.Need-returns Inv-loop μ-loop
 returns c =
-    let loop = c .before in
-    let start = at-start loop in
+    let loop : tie.At-loop Inv-loop μ-loop = search in
+    let start : tie.Start Inv-loop μ-loop = search in
     let mine = start .args .b .now in
     let l = loop .loop in
     let e = l .inv .4 ∙ through-done mine (l .prev) (l .run) (l .i) (c .loop-test .left) in

@@ -14,16 +14,12 @@ Inv-loop table b n p days states d₀ d = (d ≤ n) × (marksAllow table b n p �
 abbrev μ-loop : tie.MeasureT-loop
 μ-loop table b n p days states d₀ d = n - d
 
--- the places of the function, each from the next
-abbrev at-start : tie.After-states Inv-loop μ-loop → tie.Start Inv-loop μ-loop
-at-start c = c .before .before
-
 states-requires : tie.Need-states-requires Inv-loop μ-loop
 states-requires c κs = search needs
 
 loop-holds : tie.Need-loop-holds Inv-loop μ-loop
 loop-holds c =
-    let start = at-start c in
+    let start : tie.Start Inv-loop μ-loop = search in
     let s = start .args in
     (omega arith, marks-start (s .table .now) (s .b .now) (s .p) (s .n))
 
@@ -38,10 +34,10 @@ array-read-mark-allows c = search needs
 
 mark-allows-requires : tie.Need-mark-allows-requires Inv-loop μ-loop
 mark-allows-requires c κs =
-    let in-loop = c .before in
-    let loop = in-loop .before in
-    let states = loop .before in
-    let start = at-start states in
+    let in-loop : tie.In-loop Inv-loop μ-loop = search in
+    let loop : tie.At-loop Inv-loop μ-loop = search in
+    let states : tie.After-states Inv-loop μ-loop = search in
+    let start : tie.Start Inv-loop μ-loop = search in
     let s = start .args in
     (c .mark .ensures .1 (s .n) (start .pre .1), states .states .ensures .1 (loop .loop .d) (in-loop .loop-test .taken))
 
@@ -53,12 +49,12 @@ loop-less c = search needs
 
 loop-again : tie.Need-loop-again Inv-loop μ-loop
 loop-again c =
-    let mark-allows = c .before in
-    let mark = mark-allows .before in
-    let in-loop = mark .before in
-    let loop = in-loop .before in
-    let states = loop .before in
-    let start = at-start states in
+    let mark-allows : tie.After-mark-allows Inv-loop μ-loop = search in
+    let mark : tie.After-mark Inv-loop μ-loop = search in
+    let in-loop : tie.In-loop Inv-loop μ-loop = search in
+    let loop : tie.At-loop Inv-loop μ-loop = search in
+    let states : tie.After-states Inv-loop μ-loop = search in
+    let start : tie.Start Inv-loop μ-loop = search in
     let s = start .args in
     let l = loop .loop in
     let in-month = in-loop .loop-test .taken in
@@ -66,12 +62,12 @@ loop-again c =
 
 returns : tie.Need-returns Inv-loop μ-loop
 returns c =
-    let mark-allows = c .before in
-    let mark = mark-allows .before in
-    let in-loop = mark .before in
-    let loop = in-loop .before in
-    let states = loop .before in
-    let start = at-start states in
+    let mark-allows : tie.After-mark-allows Inv-loop μ-loop = search in
+    let mark : tie.After-mark Inv-loop μ-loop = search in
+    let in-loop : tie.In-loop Inv-loop μ-loop = search in
+    let loop : tie.At-loop Inv-loop μ-loop = search in
+    let states : tie.After-states Inv-loop μ-loop = search in
+    let start : tie.Start Inv-loop μ-loop = search in
     let s = start .args in
     let l = loop .loop in
     let in-month = in-loop .loop-test .taken in
@@ -79,9 +75,8 @@ returns c =
 
 returns-2 : tie.Need-returns-2 Inv-loop μ-loop
 returns-2 c =
-    let loop = c .before in
-    let states = loop .before in
-    let start = at-start states in
+    let loop : tie.At-loop Inv-loop μ-loop = search in
+    let start : tie.Start Inv-loop μ-loop = search in
     let s = start .args in
     let l = loop .loop in
     marks-end (s .table .now) (s .b .now) (s .p) (s .n) (l .d) (l .inv .1) (c .loop-test .left)

@@ -13,13 +13,22 @@ enum-told : tie.Need-enum-told
 enum-told c = search needs
 
 array-share-prefix-numbers : tie.Need-array-share-prefix-numbers
-array-share-prefix-numbers c = reading-fits _ _ (c .before .before .before .read .ensures)
+array-share-prefix-numbers c =
+    let at-read : tie.After-read = search in
+    reading-fits _ _ (at-read .read .ensures)
 
 slice-aggregate-show-ward : tie.Need-slice-aggregate-show-ward
-slice-aggregate-show-ward c = sym (length-take-le _ _ (reading-fits _ _ (c .before .before .before .before .read .ensures)))
+slice-aggregate-show-ward c =
+    let at-read : tie.After-read = search in
+    sym (length-take-le _ _ (reading-fits _ _ (at-read .read .ensures)))
 
 show-ward-requires : tie.Need-show-ward-requires
-show-ward-requires c κs = reading-accepted (c .before .before .before .before .before .before .args .file .now) _ (λ i. c .before .before .before .before .before .shared-slice-known .given i .fits) (c .before .before .before .before .read .ensures) (c .before .enum-told .given .1)
+show-ward-requires c κs =
+    let at-enum-told : tie.After-enum-told = search in
+    let at-read : tie.After-read = search in
+    let at-shared-slice-known : tie.After-shared-slice-known = search in
+    let start : tie.Start = search in
+    reading-accepted (start .args .file .now) _ (λ i. at-shared-slice-known .shared-slice-known .given i .fits) (at-read .read .ensures) (at-enum-told .enum-told .given .1)
 
 enum-known-answer : tie.Need-enum-known-answer
 enum-known-answer c = search needs

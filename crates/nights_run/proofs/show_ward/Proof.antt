@@ -7,10 +7,6 @@ use borrow.Author.Needs.{needs}
 use Rattle.nights_run.proofs.show_ward.Statement.{statement}
 use Rattle.nights_run.proofs.show_ward.Tie as tie
 
--- the places of the function, each from the next
-abbrev at-start : tie.After-days → tie.Start
-at-start c = c .before .before .before .before
-
 slice-aggregate-write-all : tie.Need-slice-aggregate-write-all
 slice-aggregate-write-all c = search needs
 
@@ -28,9 +24,9 @@ slice-aggregate-show-list c = search needs
 
 show-list-requires : tie.Need-show-list-requires
 show-list-requires c κs =
-    let rules-of = c .before in
-    let days = rules-of .before in
-    let start = at-start days in
+    let rules-of : tie.After-rules-of = search in
+    let days : tie.After-days = search in
+    let start : tie.Start = search in
     (rules-small (start .args .w .now) _ (start .pre) (rules-of .rules-of .ensures), days .days .ensures .1)
 
 array-share-prefix-buf : tie.Need-array-share-prefix-buf

@@ -12,10 +12,14 @@ shl-result-2 : tie.Need-shl-result-2
 shl-result-2 c = search needs
 
 returns : tie.Need-returns
-returns c = rw (c .if1 .taken) (fun-ext (has-set 64 (c .before .args .column) (c .before .args .i) (c .before .pre)))
+returns c =
+    let start : tie.Start = search in
+    rw (c .if1 .taken) (fun-ext (has-set 64 (start .args .column) (start .args .i) (start .pre)))
 
 returns-2 : tie.Need-returns-2
-returns-2 c = rw (c .if1 .left) (fun-ext (has-clear 64 (c .before .args .column) (c .before .args .i) (c .before .fits .column .fits) (c .before .pre)))
+returns-2 c =
+    let start : tie.Start = search in
+    rw (c .if1 .left) (fun-ext (has-clear 64 (start .args .column) (start .args .i) (start .fits .column .fits) (start .pre)))
 
 pub put-bit-spec : {M : Type 1} → statement M
 put-bit-spec = tie.close (tie.spec shl-result shl-result-2 returns returns-2)

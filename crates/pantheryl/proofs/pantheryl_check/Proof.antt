@@ -12,7 +12,9 @@ check-words-requires : tie.Need-check-words-requires
 check-words-requires c κs = search needs
 
 returns : tie.Need-returns
-returns c = c .check-words .ensures ∙ ap checkWords (c .before .check .ensures)
+returns c =
+    let at-check : tie.After-check = search in
+    c .check-words .ensures ∙ ap checkWords (at-check .check .ensures)
 
 pub pantheryl-check-spec : {M : Type 1} → statement M
 pantheryl-check-spec = tie.close (tie.spec check-requires check-words-requires returns)

@@ -15,7 +15,9 @@ same-length : tie.Need-same-length
 same-length c = search needs
 
 returns : tie.Need-returns
-returns c = (c .count-words .ensures ∙ ap writeWords (c .before .before .before .write .ensures .0), c .before .before .before .write .ensures .1)
+returns c =
+    let at-write : tie.After-write = search in
+    (c .count-words .ensures ∙ ap writeWords (at-write .write .ensures .0), at-write .write .ensures .1)
 
 pub pantheryl-write-spec : {M : Type 1} → statement M
 pantheryl-write-spec = tie.close (tie.spec write-requires count-words-requires same-length returns)

@@ -7,16 +7,6 @@ use borrow.Author.Needs.{needs}
 use Rattle.planner.proofs.check.Statement.{statement}
 use Rattle.planner.proofs.check.Tie as tie
 
--- the places, each from the next
-abbrev at-start : tie.After-read → tie.Start
-at-start c = c .before .before .before
-
-abbrev at-read : tie.After-enum-told → tie.After-read
-at-read c = c .before .before
-
-abbrev at-accepted : tie.After-numbers → tie.After-enum-told
-at-accepted c = c .before
-
 read-requires : tie.Need-read-requires
 read-requires c κs = search needs
 
@@ -27,29 +17,37 @@ enum-told : tie.Need-enum-told
 enum-told c = search needs
 
 array-share-prefix-numbers : tie.Need-array-share-prefix-numbers
-array-share-prefix-numbers c = reading-fits _ _ (at-read (at-accepted c) .read .ensures)
+array-share-prefix-numbers c =
+    let at-read : tie.After-read = search in
+    reading-fits _ _ (at-read .read .ensures)
 
 slice-aggregate-check-letters : tie.Need-slice-aggregate-check-letters
-slice-aggregate-check-letters c = sym (length-take-le _ _ (reading-fits _ _ (at-read (at-accepted (c .before)) .read .ensures)))
+slice-aggregate-check-letters c =
+    let at-read : tie.After-read = search in
+    sym (length-take-le _ _ (reading-fits _ _ (at-read .read .ensures)))
 
 check-letters-requires : tie.Need-check-letters-requires
 check-letters-requires c κs =
-    let told = at-accepted (c .before) in
-    let reading = at-read told in
-    reading-accepted (at-start reading .args .file .now) _ (λ i. reading .before .before .shared-slice-known .given i .fits) (reading .read .ensures) (told .enum-told .given .1)
+    let told : tie.After-enum-told = search in
+    let reading : tie.After-read = search in
+    let at-shared-slice-known : tie.After-shared-slice-known = search in
+    let start : tie.Start = search in
+    reading-accepted (start .args .file .now) _ (λ i. at-shared-slice-known .shared-slice-known .given i .fits) (reading .read .ensures) (told .enum-told .given .1)
 
 returns : tie.Need-returns
 returns c =
-    let refusing = c .before in
-    let reading = refusing .before .before in
-    let s = at-start reading .args in
+    let refusing : tie.After-answer = search in
+    let reading : tie.After-read = search in
+    let start : tie.Start = search in
+    let s = start .args in
     check-refused (s .file .now) (s .roster .now) _ (reading .read .ensures) (refusing .answer .given .1)
 
 returns-2 : tie.Need-returns-2
 returns-2 c =
-    let told = at-accepted (c .before .before) in
-    let reading = at-read told in
-    let s = at-start reading .args in
+    let told : tie.After-enum-told = search in
+    let reading : tie.After-read = search in
+    let start : tie.Start = search in
+    let s = start .args in
     check-says (s .file .now) (s .roster .now) _ (reading .read .ensures) (told .enum-told .given .1) (c .check-letters .ensures)
 
 pub check-spec : {M : Type 1} → statement M

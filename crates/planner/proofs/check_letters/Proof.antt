@@ -7,19 +7,6 @@ use borrow.Author.Needs.{needs}
 use Rattle.planner.proofs.check_letters.Statement.{statement}
 use Rattle.planner.proofs.check_letters.Tie as tie
 
--- the places, each from the next
-abbrev at-found : tie.After-enum-told → tie.After-misplaced-at
-at-found c = c .before .before
-
-abbrev at-days : tie.After-misplaced-at → tie.After-days
-at-days c = c .before
-
-abbrev at-nurses : tie.After-misplaced-at → tie.After-nurses
-at-nurses c = at-days c .before
-
-abbrev from-found : tie.After-misplaced-at → tie.Start
-from-found c = at-nurses c .before .before .before
-
 nurses-requires : tie.Need-nurses-requires
 nurses-requires c κs = search needs
 
@@ -27,7 +14,9 @@ days-requires : tie.Need-days-requires
 days-requires c κs = search needs
 
 mul-misplaced-at : tie.Need-mul-misplaced-at
-mul-misplaced-at c = omega (arith, mul-le-mul (c .before .nurses .ensures .1) (c .days .ensures .1))
+mul-misplaced-at c =
+    let at-nurses : tie.After-nurses = search in
+    omega (arith, mul-le-mul (at-nurses .nurses .ensures .1) (c .days .ensures .1))
 
 misplaced-at-requires : tie.Need-misplaced-at-requires
 misplaced-at-requires c κs = search needs
@@ -40,33 +29,44 @@ enum-told c = search needs
 
 roster-holds-requires : tie.Need-roster-holds-requires
 roster-holds-requires c κs =
-    let found = at-found c in
-    let start = from-found found in
-    (start .pre, letters-long (start .args .w .now) (start .args .roster .now) (found .misplaced-at .result) (at-nurses found .nurses .ensures .0) (at-days found .days .ensures .0) (found .misplaced-at .ensures) (c .enum-told .given .1))
+    let found : tie.After-misplaced-at = search in
+    let at-days : tie.After-days = search in
+    let at-nurses : tie.After-nurses = search in
+    let start : tie.Start = search in
+    (start .pre, letters-long (start .args .w .now) (start .args .roster .now) (found .misplaced-at .result) (at-nurses .nurses .ensures .0) (at-days .days .ensures .0) (found .misplaced-at .ensures) (c .enum-told .given .1))
 
 returns : tie.Need-returns
 returns c =
-    let held = c .before in
-    let told = held .before in
-    let found = at-found told in
-    let s = from-found found .args in
-    letters-said (s .w .now) (s .roster .now) (found .misplaced-at .result) (at-nurses found .nurses .ensures .0) (at-days found .days .ensures .0) (found .misplaced-at .ensures) (told .enum-told .given .1)
+    let held : tie.After-roster-holds = search in
+    let told : tie.After-enum-told = search in
+    let found : tie.After-misplaced-at = search in
+    let at-days : tie.After-days = search in
+    let at-nurses : tie.After-nurses = search in
+    let start : tie.Start = search in
+    let s = start .args in
+    letters-said (s .w .now) (s .roster .now) (found .misplaced-at .result) (at-nurses .nurses .ensures .0) (at-days .days .ensures .0) (found .misplaced-at .ensures) (told .enum-told .given .1)
     (sym (held .roster-holds .ensures) ∙ c .if1 .taken)
 
 returns-2 : tie.Need-returns-2
 returns-2 c =
-    let placed = c .before in
-    let found = placed .before .before in
-    let s = from-found found .args in
-    letters-refused (s .w .now) (s .roster .now) (found .misplaced-at .result) (at-nurses found .nurses .ensures .0) (at-days found .days .ensures .0) (found .misplaced-at .ensures) (placed .place .given .1)
+    let placed : tie.After-place = search in
+    let found : tie.After-misplaced-at = search in
+    let at-days : tie.After-days = search in
+    let at-nurses : tie.After-nurses = search in
+    let start : tie.Start = search in
+    let s = start .args in
+    letters-refused (s .w .now) (s .roster .now) (found .misplaced-at .result) (at-nurses .nurses .ensures .0) (at-days .days .ensures .0) (found .misplaced-at .ensures) (placed .place .given .1)
 
 returns-3 : tie.Need-returns-3
 returns-3 c =
-    let held = c .before in
-    let told = held .before in
-    let found = at-found told in
-    let s = from-found found .args in
-    letters-said (s .w .now) (s .roster .now) (found .misplaced-at .result) (at-nurses found .nurses .ensures .0) (at-days found .days .ensures .0) (found .misplaced-at .ensures) (told .enum-told .given .1)
+    let held : tie.After-roster-holds = search in
+    let told : tie.After-enum-told = search in
+    let found : tie.After-misplaced-at = search in
+    let at-days : tie.After-days = search in
+    let at-nurses : tie.After-nurses = search in
+    let start : tie.Start = search in
+    let s = start .args in
+    letters-said (s .w .now) (s .roster .now) (found .misplaced-at .result) (at-nurses .nurses .ensures .0) (at-days .days .ensures .0) (found .misplaced-at .ensures) (told .enum-told .given .1)
     (sym (held .roster-holds .ensures) ∙ c .if1 .left)
 
 pub check-letters-spec : {M : Type 1} → statement M

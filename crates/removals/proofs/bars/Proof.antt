@@ -4,10 +4,15 @@ use Rattle.removals.proofs.bars.Statement.{statement}
 use Rattle.removals.proofs.bars.Tie as tie
 
 returns : tie.Need-returns
-returns c = rw (eq-eqb _ _ (c .before .before .if1 .taken), c .before .if2 .taken)
+returns c =
+    let at-then2 : tie.Then2 = search in
+    let at-then1 : tie.Then1 = search in
+    rw (eq-eqb _ _ (at-then1 .if1 .taken), at-then2 .if2 .taken)
 
 returns-2 : tie.Need-returns-2
-returns-2 c = rw (eq-eqb _ _ (c .before .if1 .taken), c .if2 .left)
+returns-2 c =
+    let at-then1 : tie.Then1 = search in
+    rw (eq-eqb _ _ (at-then1 .if1 .taken), c .if2 .left)
 
 returns-3 : tie.Need-returns-3
 returns-3 c = rw (ne-eqb _ _ (c .if1 .left))

@@ -5,7 +5,9 @@ use Rattle.removals.proofs.push.Statement.{statement}
 use Rattle.removals.proofs.push.Tie as tie
 
 returns : tie.Need-returns
-returns c = push-none (c .before .args .tl) (c .before .args .steps) (c .before .args .x) (c .before .args .list) (c .if1 .taken)
+returns c =
+    let start : tie.Start = search in
+    push-none (start .args .tl) (start .args .steps) (start .args .x) (start .args .list) (c .if1 .taken)
 
 sub-lesser : tie.Need-sub-lesser
 sub-lesser c = search needs
@@ -17,7 +19,11 @@ put-in-front-requires : tie.Need-put-in-front-requires
 put-in-front-requires c κs = search needs
 
 returns-2 : tie.Need-returns-2
-returns-2 c = push-one (c .before .before .before .args .tl) (c .before .before .before .args .steps) (c .before .before .before .args .x) (c .before .before .before .args .list) (c .before .before .if1 .left) (c .before .lesser .ensures) (c .put-in-front .ensures)
+returns-2 c =
+    let at-lesser : tie.After-lesser = search in
+    let at-else1 : tie.Else1 = search in
+    let start : tie.Start = search in
+    push-one (start .args .tl) (start .args .steps) (start .args .x) (start .args .list) (at-else1 .if1 .left) (at-lesser .lesser .ensures) (c .put-in-front .ensures)
 
 pub push-spec : {M : Type 1} → statement M
 push-spec = tie.close (tie.spec returns sub-lesser lesser-requires put-in-front-requires returns-2)

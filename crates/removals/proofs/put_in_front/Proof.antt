@@ -38,17 +38,21 @@ loop-less : tie.Need-loop-less Inv-loop μ-loop
 loop-less c = search needs
 
 loop-again : tie.Need-loop-again Inv-loop μ-loop
-loop-again c = (
-  search needs,
-  shifted-turn (c .before .before .before .args .list) (c .before .before .before .args .k) (c .before .before .loop .moved) (c .before .before .loop .i) _ (search needs) (search needs) (search needs) (c .before .before .loop .inv .1),
-)
+loop-again c =
+    let loop : tie.At-loop Inv-loop μ-loop = search in
+    let start : tie.Start Inv-loop μ-loop = search in (
+      search needs,
+      shifted-turn (start .args .list) (start .args .k) (loop .loop .moved) (loop .loop .i) _ (search needs) (search needs) (search needs) (loop .loop .inv .1),
+    )
 
 array-set-from-moved-2 : tie.Need-array-set-from-moved-2 Inv-loop μ-loop
 array-set-from-moved-2 c = search needs
 
 returns : tie.Need-returns Inv-loop μ-loop
 returns c =
-    shifted-end (c .before .before .args .list) (c .before .before .args .k) (c .before .loop .moved) (c .before .loop .i) (c .before .before .args .x) (omega arith) (search needs) (c .before .loop .inv .1)
+    let loop : tie.At-loop Inv-loop μ-loop = search in
+    let start : tie.Start Inv-loop μ-loop = search in
+    shifted-end (start .args .list) (start .args .k) (loop .loop .moved) (loop .loop .i) (start .args .x) (omega arith) (search needs) (loop .loop .inv .1)
 
 pub put-in-front-spec : {M : Type 1} → statement M
 put-in-front-spec =

@@ -6,10 +6,6 @@ use borrow.Author.Needs.{needs}
 use Rattle.roster.proofs.days_of.Statement.{statement}
 use Rattle.roster.proofs.days_of.Tie as tie
 
--- the places of the function, each from the next
-abbrev at-read : tie.After-enum-told → tie.After-read
-at-read c = c .before .before
-
 read-requires : tie.Need-read-requires
 read-requires c κs = search needs
 
@@ -18,22 +14,20 @@ enum-told c = search needs
 
 array-share-prefix-numbers : tie.Need-array-share-prefix-numbers
 array-share-prefix-numbers c =
-    let enum-told = c .before in
-    let read = at-read enum-told in
+    let read : tie.After-read = search in
     reading-fits _ _ (read .read .ensures)
 
 slice-aggregate-days : tie.Need-slice-aggregate-days
 slice-aggregate-days c =
-    let enum-told = c .before .before in
-    let read = at-read enum-told in
+    let read : tie.After-read = search in
     sym (length-take-le _ _ (reading-fits _ _ (read .read .ensures)))
 
 days-requires : tie.Need-days-requires
 days-requires c κs =
-    let enum-told = c .before .before in
-    let read = at-read enum-told in
-    let shared-slice-known = read .before in
-    let start = shared-slice-known .before in
+    let enum-told : tie.After-enum-told = search in
+    let read : tie.After-read = search in
+    let shared-slice-known : tie.After-shared-slice-known = search in
+    let start : tie.Start = search in
     reading-accepted (start .args .file .now) _ (λ i. shared-slice-known .shared-slice-known .given i .fits) (read .read .ensures) (enum-told .enum-told .given .1)
 
 enum-told-2 : tie.Need-enum-told-2

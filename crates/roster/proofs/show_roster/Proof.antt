@@ -9,7 +9,9 @@ days-of-requires : tie.Need-days-of-requires
 days-of-requires c κs = search needs
 
 slice-aggregate-show-rows : tie.Need-slice-aggregate-show-rows
-slice-aggregate-show-rows c = sym (length-take-le _ _ (c .before .if1 .taken))
+slice-aggregate-show-rows c =
+    let at-then1 : tie.Then1 = search in
+    sym (length-take-le _ _ (at-then1 .if1 .taken))
 
 show-rows-requires : tie.Need-show-rows-requires
 show-rows-requires c κs = search needs

@@ -21,7 +21,10 @@ returns-3 : tie.Need-returns-3
 returns-3 c = (rw (c .match .keys3), omega arith)
 
 returns-4 : tie.Need-returns-4
-returns-4 c = duty-open (c .before .before .args .mark) _ (c .before .before .args .worked) (c .open-duty .ensures) (c .before .match .rest)
+returns-4 c =
+    let at-match-rest : tie.At-match-rest = search in
+    let start : tie.Start = search in
+    duty-open (start .args .mark) _ (start .args .worked) (c .open-duty .ensures) (at-match-rest .match .rest)
 
 pub duty-of-spec : {M : Type 1} → statement M
 duty-of-spec = tie.close (tie.spec open-duty-requires returns returns-2 returns-3 returns-4)

@@ -6,13 +6,21 @@ use Rattle.rows.proofs.is_available.Reads as reads
 use Rattle.rows.proofs.is_available.Lts as lts
 
 returns : tie.Need-returns
-returns c = simp (eq-eqb _ _ (c .before .if1 .taken), eq-eqb _ _ (c .if2 .taken))
+returns c =
+    let at-then1 : tie.Then1 = search in
+    simp (eq-eqb _ _ (at-then1 .if1 .taken), eq-eqb _ _ (c .if2 .taken))
 
 returns-2 : tie.Need-returns-2
-returns-2 c = simp (eq-eqb _ _ (c .before .before .if1 .taken), ne-eqb _ _ (c .before .if2 .left), eq-eqb _ _ (c .if3 .taken))
+returns-2 c =
+    let at-else2 : tie.Else2 = search in
+    let at-then1 : tie.Then1 = search in
+    simp (eq-eqb _ _ (at-then1 .if1 .taken), ne-eqb _ _ (at-else2 .if2 .left), eq-eqb _ _ (c .if3 .taken))
 
 returns-3 : tie.Need-returns-3
-returns-3 c = simp (eq-eqb _ _ (c .before .before .if1 .taken), ne-eqb _ _ (c .before .if2 .left), ne-eqb _ _ (c .if3 .left))
+returns-3 c =
+    let at-else2 : tie.Else2 = search in
+    let at-then1 : tie.Then1 = search in
+    simp (eq-eqb _ _ (at-then1 .if1 .taken), ne-eqb _ _ (at-else2 .if2 .left), ne-eqb _ _ (c .if3 .left))
 
 returns-4 : tie.Need-returns-4
 returns-4 c = simp (ne-eqb _ _ (c .if1 .left))

@@ -11,10 +11,14 @@ returns : tie.Need-returns
 returns c = search needs
 
 returns-2 : tie.Need-returns-2
-returns-2 c = (simp (c .before .if1 .left, eq-eqb _ _ (c .if2 .taken)), omega arith)
+returns-2 c =
+    let at-else1 : tie.Else1 = search in
+    (simp (at-else1 .if1 .left, eq-eqb _ _ (c .if2 .taken)), omega arith)
 
 returns-3 : tie.Need-returns-3
-returns-3 c = (simp (c .before .if1 .left, ne-eqb _ _ (c .if2 .left)), omega arith)
+returns-3 c =
+    let at-else1 : tie.Else1 = search in
+    (simp (at-else1 .if1 .left, ne-eqb _ _ (c .if2 .left)), omega arith)
 
 pub open-duty-spec : {M : Type 1} → statement M
 open-duty-spec = tie.close (tie.spec returns returns-2 returns-3)

@@ -15,13 +15,6 @@ Inv-loop b n p states₀ state₀ d₀ states state d = StatesAt b p n d state s
 abbrev μ-loop : tie.MeasureT-loop
 μ-loop b n p states₀ state₀ d₀ states state d = n - d
 
--- the places of the function, each from the next
-abbrev at-start : tie.After-last-duty Inv-loop μ-loop → tie.Start Inv-loop μ-loop
-at-start c = c .before .before
-
-abbrev at-last-duty : tie.At-loop Inv-loop μ-loop → tie.After-last-duty Inv-loop μ-loop
-at-last-duty c = c .before .before
-
 last-duty-requires : tie.Need-last-duty-requires Inv-loop μ-loop
 last-duty-requires c κs = search needs
 
@@ -30,8 +23,8 @@ day-zero-requires c κs = search needs
 
 loop-holds : tie.Need-loop-holds Inv-loop μ-loop
 loop-holds c =
-    let last-duty = c .before in
-    let start = at-start last-duty in
+    let last-duty : tie.After-last-duty Inv-loop μ-loop = search in
+    let start : tie.Start Inv-loop μ-loop = search in
     states-start (start .args .b .now) (start .args .p) (start .args .n) (last-duty .last-duty .ensures) (c .day-zero .ensures .0)
 
 has-bit-requires : tie.Need-has-bit-requires Inv-loop μ-loop
@@ -45,9 +38,7 @@ mul-states c = search needs
 
 array-write-states : tie.Need-array-write-states Inv-loop μ-loop
 array-write-states c =
-    let has-bit = c .before in
-    let in-loop = has-bit .before in
-    let loop = in-loop .before in
+    let loop : tie.At-loop Inv-loop μ-loop = search in
     omega (arith, loop .loop .inv .long)
 
 add-d : tie.Need-add-d Inv-loop μ-loop
@@ -58,19 +49,17 @@ loop-less c = search needs
 
 loop-again : tie.Need-loop-again Inv-loop μ-loop
 loop-again c =
-    let has-bit = c .before in
-    let in-loop = has-bit .before in
-    let loop = in-loop .before in
-    let last-duty = at-last-duty loop in
-    let start = at-start last-duty in
+    let has-bit : tie.After-has-bit Inv-loop μ-loop = search in
+    let in-loop : tie.In-loop Inv-loop μ-loop = search in
+    let loop : tie.At-loop Inv-loop μ-loop = search in
+    let start : tie.Start Inv-loop μ-loop = search in
     let s = start .args in
     states-turn (s .b .now) (s .p) (s .n) (loop .loop .d) (loop .loop .inv) (start .pre .0) (in-loop .loop-test .taken) (has-bit .has-bit .ensures) (c .state-after .ensures .0)
 
 returns : tie.Need-returns Inv-loop μ-loop
 returns c =
-    let loop = c .before in
-    let last-duty = at-last-duty loop in
-    let start = at-start last-duty in
+    let loop : tie.At-loop Inv-loop μ-loop = search in
+    let start : tie.Start Inv-loop μ-loop = search in
     let s = start .args in
     let l = loop .loop in
     let are : (d : ℕ) → d < s .n → getD (l .states) d 0 ≡ rowState (s .b .now) (s .p) (suc d) = λ d h. l .inv .are d (omega (arith, c .loop-test .left)) in

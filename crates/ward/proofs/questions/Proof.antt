@@ -35,17 +35,11 @@ abbrev μ-loop : tie.MeasureT-loop
 abbrev at-loop : tie.After-wanted-at Inv-loop μ-loop → tie.At-loop Inv-loop μ-loop
 at-loop c = c .before
 
-abbrev at-nothing : tie.After-enum-told Inv-loop μ-loop → tie.After-wanted-at Inv-loop μ-loop
-at-nothing c = c .before .before
-
 abbrev at-wanted : tie.After-f Inv-loop μ-loop → tie.After-wanted-at Inv-loop μ-loop
 at-wanted c = c .before .before
 
 abbrev in-turn : tie.After-f Inv-loop μ-loop → tie.At-loop Inv-loop μ-loop
 in-turn c = at-loop (at-wanted c)
-
-abbrev at-start : tie.At-loop Inv-loop μ-loop → tie.Start Inv-loop μ-loop
-at-start c = c .before .before
 
 -- a number is wanted, and one more is counted
 abbrev at-field : tie.Else2 Inv-loop μ-loop → tie.After-f Inv-loop μ-loop
@@ -53,12 +47,6 @@ at-field c = c .before .before
 
 abbrev of-number : tie.Else2 Inv-loop μ-loop → tie.At-loop Inv-loop μ-loop
 of-number c = in-turn (at-field c)
-
-abbrev at-number : tie.After-ask Inv-loop μ-loop → tie.Else2 Inv-loop μ-loop
-at-number c = c .before .before
-
-abbrev at-ask : tie.After-size Inv-loop μ-loop → tie.After-ask Inv-loop μ-loop
-at-ask c = c .before .before
 
 wants : (c : tie.After-f Inv-loop μ-loop) → wanted (tree (in-turn c .loop .c)) ≡ Next (c .f .given .0 .0)
 wants c = sym (at-wanted c .wanted-at .ensures) ∙ c .f .given .1
@@ -71,7 +59,8 @@ start-requires c κs = search needs
 
 loop-holds : tie.Need-loop-holds Inv-loop μ-loop
 loop-holds c =
-    let l : length (c .before .args .t1 .numbers) ≡ numberPlaces = search needs in
+    let start : tie.Start Inv-loop μ-loop = search in
+    let l : length (start .args .t1 .numbers) ≡ numberPlaces = search needs in
     subst (Walked _ 0 0) (sym (c .start .ensures)) (begin _ l)
 
 wanted-at-requires : tie.Need-wanted-at-requires Inv-loop μ-loop
@@ -85,16 +74,18 @@ no-requires c κs = search needs
 
 returns : tie.Need-returns Inv-loop μ-loop
 returns c =
-    let at-if = c .before in
-    let told = at-if .before in
-    let wanting = at-nothing told in
-    c .no .ensures ∙ extra _ _ _ _ (at-loop wanting .loop .inv) (sym (wanting .wanted-at .ensures) ∙ told .enum-told .given .1) (at-if .if1 .taken)
+    let at-if : tie.Then1 Inv-loop μ-loop = search in
+    let told : tie.After-enum-told Inv-loop μ-loop = search in
+    let wanting : tie.After-wanted-at Inv-loop μ-loop = search in
+    let loop : tie.At-loop Inv-loop μ-loop = search in
+    c .no .ensures ∙ extra _ _ _ _ (loop .loop .inv) (sym (wanting .wanted-at .ensures) ∙ told .enum-told .given .1) (at-if .if1 .taken)
 
 returns-2 : tie.Need-returns-2 Inv-loop μ-loop
 returns-2 c =
-    let told = c .before in
-    let wanting = at-nothing told in
-    whole _ _ _ _ (at-loop wanting .loop .inv) (sym (wanting .wanted-at .ensures) ∙ told .enum-told .given .1) (c .if1 .left)
+    let told : tie.After-enum-told Inv-loop μ-loop = search in
+    let wanting : tie.After-wanted-at Inv-loop μ-loop = search in
+    let loop : tie.At-loop Inv-loop μ-loop = search in
+    whole _ _ _ _ (loop .loop .inv) (sym (wanting .wanted-at .ensures) ∙ told .enum-told .given .1) (c .if1 .left)
 
 enum-known-f : tie.Need-enum-known-f Inv-loop μ-loop
 enum-known-f c = search needs
@@ -104,9 +95,10 @@ no-requires-2 c κs = search needs
 
 returns-3 : tie.Need-returns-3 Inv-loop μ-loop
 returns-3 c =
-    let at-if = c .before in
-    let field = at-if .before .before in
-    c .no2 .ensures ∙ missing _ _ _ _ (in-turn field .loop .inv) _ (wants field) (at-if .if2 .taken)
+    let at-if : tie.Then2 Inv-loop μ-loop = search in
+    let field : tie.After-f Inv-loop μ-loop = search in
+    let loop : tie.At-loop Inv-loop μ-loop = search in
+    c .no2 .ensures ∙ missing _ _ _ _ (loop .loop .inv) _ (wants field) (at-if .if2 .taken)
 
 mul-v : tie.Need-mul-v Inv-loop μ-loop
 mul-v c = let s = space-at c in omega arith
@@ -122,41 +114,52 @@ no-requires-3 c κs = search needs
 
 returns-4 : tie.Need-returns-4 Inv-loop μ-loop
 returns-4 c =
-    let at-if = c .before in
-    let asking = at-if .before in
-    let number = at-number asking in
-    c .no3 .ensures ∙ ap (λ q. unwritten (numbered q (of-number number .loop .i))) (asking .ask .ensures)
-    ∙ failed _ _ _ _ (of-number number .loop .inv) _ (wants (at-field number)) (number .if2 .left) (λ z. at-if .if3 .taken (asking .ask .ensures ∙ z))
+    let at-if : tie.Then3 Inv-loop μ-loop = search in
+    let asking : tie.After-ask Inv-loop μ-loop = search in
+    let number : tie.Else2 Inv-loop μ-loop = search in
+    let at-f : tie.After-f Inv-loop μ-loop = search in
+    let loop : tie.At-loop Inv-loop μ-loop = search in
+    c .no3 .ensures ∙ ap (λ q. unwritten (numbered q (loop .loop .i))) (asking .ask .ensures)
+    ∙ failed _ _ _ _ (loop .loop .inv) _ (wants at-f) (number .if2 .left) (λ z. at-if .if3 .taken (asking .ask .ensures ∙ z))
 
 size-requires : tie.Need-size-requires Inv-loop μ-loop
 size-requires c κs =
-    let asking = c .before in
-    let number = at-number asking in
-    below _ _ _ _ (of-number number .loop .inv) _ (wants (at-field number)) (number .if2 .left) (sym (asking .ask .ensures) ∙ c .if3 .left)
+    let asking : tie.After-ask Inv-loop μ-loop = search in
+    let number : tie.Else2 Inv-loop μ-loop = search in
+    let at-f : tie.After-f Inv-loop μ-loop = search in
+    let loop : tie.At-loop Inv-loop μ-loop = search in
+    below _ _ _ _ (loop .loop .inv) _ (wants at-f) (number .if2 .left) (sym (asking .ask .ensures) ∙ c .if3 .left)
 
 add-bytes : tie.Need-add-bytes Inv-loop μ-loop
 add-bytes c =
-    let number = at-number (at-ask c) in
-    let turn = of-number number in
+    let number : tie.Else2 Inv-loop μ-loop = search in
+    let turn : tie.At-loop Inv-loop μ-loop = search in
+    let start : tie.Start Inv-loop μ-loop = search in
     let s = space-at number in
-    omega (arith, turn .loop .inv .few, c .size .ensures, encode-most (getD (at-start turn .args .t1 .numbers) (turn .loop .i) 0))
+    omega (arith, turn .loop .inv .few, c .size .ensures, encode-most (getD (start .args .t1 .numbers) (turn .loop .i) 0))
 
 add-i : tie.Need-add-i Inv-loop μ-loop
-add-i c = let s = space-at (at-number (at-ask c)) in omega arith
+add-i c =
+    let at-else2 : tie.Else2 Inv-loop μ-loop = search in
+    let s = space-at at-else2 in omega arith
 
 step-requires : tie.Need-step-requires Inv-loop μ-loop
 step-requires c κs = search needs
 
 loop-less : tie.Need-loop-less Inv-loop μ-loop
-loop-less c = let s = space-at (at-number (at-ask (c .before))) in omega arith
+loop-less c =
+    let at-else2 : tie.Else2 Inv-loop μ-loop = search in
+    let s = space-at at-else2 in omega arith
 
 loop-again : tie.Need-loop-again Inv-loop μ-loop
 loop-again c =
-    let sized = c .before in
-    let at-if = sized .before in
-    let asking = at-ask sized in
-    let number = at-number asking in
-    let t = turn _ _ _ _ (of-number number .loop .inv) _ (wants (at-field number)) (number .if2 .left) (sym (asking .ask .ensures) ∙ at-if .if3 .left) in
+    let sized : tie.After-size Inv-loop μ-loop = search in
+    let at-if : tie.Else3 Inv-loop μ-loop = search in
+    let asking : tie.After-ask Inv-loop μ-loop = search in
+    let number : tie.Else2 Inv-loop μ-loop = search in
+    let at-f : tie.After-f Inv-loop μ-loop = search in
+    let loop : tie.At-loop Inv-loop μ-loop = search in
+    let t = turn _ _ _ _ (loop .loop .inv) _ (wants at-f) (number .if2 .left) (sym (asking .ask .ensures) ∙ at-if .if3 .left) in
     subst (Walked _ _ _) (sym (c .step .ensures)) (rw (sized .size .ensures) t)
 
 pub questions-spec : {M : Type 1} → statement M

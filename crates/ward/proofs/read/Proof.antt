@@ -39,9 +39,6 @@ at-start c = c .before .before .before
 abbrev at-loop : tie.After-wanted-at Inv-loop μ-loop → tie.At-loop Inv-loop μ-loop
 at-loop c = c .before
 
-abbrev at-nothing : tie.After-enum-told Inv-loop μ-loop → tie.After-wanted-at Inv-loop μ-loop
-at-nothing c = c .before .before
-
 abbrev at-wanted : tie.After-f Inv-loop μ-loop → tie.After-wanted-at Inv-loop μ-loop
 at-wanted c = c .before .before
 
@@ -89,22 +86,26 @@ refused-requires c κs = search needs
 
 returns : tie.Need-returns Inv-loop μ-loop
 returns c =
-    let at-if = c .before in
-    let told = at-if .before in
-    let wanting = at-nothing told in
-    c .refused .ensures ∙ extra _ _ _ _ _ (at-loop wanting .loop .inv) (sym (wanting .wanted-at .ensures) ∙ told .enum-told .given .1) (at-if .if1 .taken)
+    let at-if : tie.Then1 Inv-loop μ-loop = search in
+    let told : tie.After-enum-told Inv-loop μ-loop = search in
+    let wanting : tie.After-wanted-at Inv-loop μ-loop = search in
+    let loop : tie.At-loop Inv-loop μ-loop = search in
+    c .refused .ensures ∙ extra _ _ _ _ _ (loop .loop .inv) (sym (wanting .wanted-at .ensures) ∙ told .enum-told .given .1) (at-if .if1 .taken)
 
 returns-2 : tie.Need-returns-2 Inv-loop μ-loop
 returns-2 c =
-    let told = c .before in
-    let wanting = at-nothing told in
-    whole _ _ _ _ _ (at-loop wanting .loop .inv) (sym (wanting .wanted-at .ensures) ∙ told .enum-told .given .1) (c .if1 .left)
+    let told : tie.After-enum-told Inv-loop μ-loop = search in
+    let wanting : tie.After-wanted-at Inv-loop μ-loop = search in
+    let loop : tie.At-loop Inv-loop μ-loop = search in
+    whole _ _ _ _ _ (loop .loop .inv) (sym (wanting .wanted-at .ensures) ∙ told .enum-told .given .1) (c .if1 .left)
 
 enum-known-f : tie.Need-enum-known-f Inv-loop μ-loop
 enum-known-f c = search needs
 
 number-at-requires : tie.Need-number-at-requires Inv-loop μ-loop
-number-at-requires c κs = let field = c .before in in-turn field .loop .inv .inFile
+number-at-requires c κs =
+    let field : tie.After-f Inv-loop μ-loop = search in
+    in-turn field .loop .inv .inFile
 
 enum-told-2 : tie.Need-enum-told-2 Inv-loop μ-loop
 enum-told-2 c = search needs
@@ -114,9 +115,11 @@ refused-requires-2 c κs = search needs
 
 returns-3 : tie.Need-returns-3 Inv-loop μ-loop
 returns-3 c =
-    let told = c .before in
-    let number = told .before .before in
-    c .refused2 .ensures ∙ ended _ _ _ _ _ (in-turn (at-field number) .loop .inv) _ (wants (at-field number)) (sym (number .number-at .ensures .0) ∙ told .enum-told2 .given .1)
+    let told : tie.After-enum-told2 Inv-loop μ-loop = search in
+    let number : tie.After-number-at Inv-loop μ-loop = search in
+    let at-f : tie.After-f Inv-loop μ-loop = search in
+    let loop : tie.At-loop Inv-loop μ-loop = search in
+    c .refused2 .ensures ∙ ended _ _ _ _ _ (loop .loop .inv) _ (wants at-f) (sym (number .number-at .ensures .0) ∙ told .enum-told2 .given .1)
 
 enum-told-3 : tie.Need-enum-told-3 Inv-loop μ-loop
 enum-told-3 c = search needs
@@ -126,9 +129,11 @@ refused-requires-3 c κs = search needs
 
 returns-4 : tie.Need-returns-4 Inv-loop μ-loop
 returns-4 c =
-    let told = c .before in
-    let number = told .before .before in
-    c .refused3 .ensures ∙ long-form _ _ _ _ _ (in-turn (at-field number) .loop .inv) _ (wants (at-field number)) (sym (number .number-at .ensures .0) ∙ told .enum-told3 .given .1)
+    let told : tie.After-enum-told3 Inv-loop μ-loop = search in
+    let number : tie.After-number-at Inv-loop μ-loop = search in
+    let at-f : tie.After-f Inv-loop μ-loop = search in
+    let loop : tie.At-loop Inv-loop μ-loop = search in
+    c .refused3 .ensures ∙ long-form _ _ _ _ _ (loop .loop .inv) _ (wants at-f) (sym (number .number-at .ensures .0) ∙ told .enum-told3 .given .1)
 
 enum-known-value : tie.Need-enum-known-value Inv-loop μ-loop
 enum-known-value c = search needs
@@ -141,11 +146,12 @@ refused-requires-4 c κs = search needs
 
 returns-5 : tie.Need-returns-5 Inv-loop μ-loop
 returns-5 c =
-    let at-if = c .before in
-    let asking = at-if .before in
-    let value = at-value asking in
-    c .refused4 .ensures ∙ ap (λ q. refusedOf (numbered q (of-value value .loop .at))) (asking .ask .ensures)
-    ∙ failed _ _ _ _ _ (of-value value .loop .inv) _ (value-wanted value) _ _ (stands value) (λ z. at-if .if2 .taken (asking .ask .ensures ∙ z))
+    let at-if : tie.Then2 Inv-loop μ-loop = search in
+    let asking : tie.After-ask Inv-loop μ-loop = search in
+    let value : tie.After-value Inv-loop μ-loop = search in
+    let loop : tie.At-loop Inv-loop μ-loop = search in
+    c .refused4 .ensures ∙ ap (λ q. refusedOf (numbered q (loop .loop .at))) (asking .ask .ensures)
+    ∙ failed _ _ _ _ _ (loop .loop .inv) _ (value-wanted value) _ _ (stands value) (λ z. at-if .if2 .taken (asking .ask .ensures ∙ z))
 
 -- the number is stored, and the offset moves past it
 
@@ -155,37 +161,47 @@ space-at c none =
     space _ _ _ _ _ (of-value value .loop .inv) _ (value-wanted value) _ _ (stands value) (sym (c .ask .ensures) ∙ none)
 
 mul-numbers : tie.Need-mul-numbers Inv-loop μ-loop
-mul-numbers c = let s = space-at (c .before) (c .if2 .left) in omega arith
+mul-numbers c =
+    let at-ask : tie.After-ask Inv-loop μ-loop = search in
+    let s = space-at at-ask (c .if2 .left) in omega arith
 
 array-write-numbers : tie.Need-array-write-numbers Inv-loop μ-loop
-array-write-numbers c = space-at (c .before) (c .if2 .left)
+array-write-numbers c =
+    let at-ask : tie.After-ask Inv-loop μ-loop = search in
+    space-at at-ask (c .if2 .left)
 
 add-count : tie.Need-add-count Inv-loop μ-loop
-add-count c = let s = space-at (c .before) (c .if2 .left) in omega arith
+add-count c =
+    let at-ask : tie.After-ask Inv-loop μ-loop = search in
+    let s = space-at at-ask (c .if2 .left) in omega arith
 
 add-at : tie.Need-add-at Inv-loop μ-loop
 add-at c =
-    let value = at-value (c .before) in
-    let s = past-end _ _ _ _ _ (of-value value .loop .inv) _ (value-wanted value) _ _ (stands value) in
-    omega (arith, at-start (of-value value) .good)
+    let value : tie.After-value Inv-loop μ-loop = search in
+    let loop : tie.At-loop Inv-loop μ-loop = search in
+    let start : tie.Start Inv-loop μ-loop = search in
+    let s = past-end _ _ _ _ _ (loop .loop .inv) _ (value-wanted value) _ _ (stands value) in
+    omega (arith, start .good)
 
 step-requires : tie.Need-step-requires Inv-loop μ-loop
 step-requires c κs = search needs
 
 loop-less : tie.Need-loop-less Inv-loop μ-loop
 loop-less c =
-    let value = at-value (c .before .before) in
-    let s = past-end _ _ _ _ _ (of-value value .loop .inv) _ (value-wanted value) _ _ (stands value) in
-    let t = moves _ _ _ _ _ (of-value value .loop .inv) _ (value-wanted value) _ _ (stands value) in
+    let value : tie.After-value Inv-loop μ-loop = search in
+    let loop : tie.At-loop Inv-loop μ-loop = search in
+    let s = past-end _ _ _ _ _ (loop .loop .inv) _ (value-wanted value) _ _ (stands value) in
+    let t = moves _ _ _ _ _ (loop .loop .inv) _ (value-wanted value) _ _ (stands value) in
     omega arith
 
 loop-again : tie.Need-loop-again Inv-loop μ-loop
 loop-again c =
-    let at-if = c .before in
-    let asking = at-if .before in
-    let value = at-value asking in
+    let at-if : tie.Else2 Inv-loop μ-loop = search in
+    let asking : tie.After-ask Inv-loop μ-loop = search in
+    let value : tie.After-value Inv-loop μ-loop = search in
+    let loop : tie.At-loop Inv-loop μ-loop = search in
     subst (So _ _ _ _) (sym (c .step .ensures))
-    (turn _ _ _ _ _ (of-value value .loop .inv) _ (value-wanted value) _ _ (stands value) (sym (asking .ask .ensures) ∙ at-if .if2 .left))
+    (turn _ _ _ _ _ (loop .loop .inv) _ (value-wanted value) _ _ (stands value) (sym (asking .ask .ensures) ∙ at-if .if2 .left))
 
 pub read-spec : {M : Type 1} → statement M
 read-spec =

@@ -19,19 +19,6 @@ Inv-loop buf₀ ward bytes count i₀ at₀ buf i at = Wrote buf₀ ward buf i a
 abbrev μ-loop : tie.MeasureT-loop
 μ-loop buf₀ ward bytes count i₀ at₀ buf i at = count - i
 
--- the places, each from the next
-abbrev at-questions : tie.After-enum-told2 Inv-loop μ-loop → tie.After-questions Inv-loop μ-loop
-at-questions c = c .before .before
-
-abbrev at-start : tie.After-questions Inv-loop μ-loop → tie.Start Inv-loop μ-loop
-at-start c = c .before .before
-
-abbrev at-turn : tie.After-put Inv-loop μ-loop → tie.In-loop Inv-loop μ-loop
-at-turn c = c .before .before .before
-
-abbrev at-put : tie.After-slice-known2 Inv-loop μ-loop → tie.After-put Inv-loop μ-loop
-at-put c = c .before .before
-
 questions-requires : tie.Need-questions-requires Inv-loop μ-loop
 questions-requires c κs = search needs
 
@@ -46,50 +33,66 @@ no-requires c κs = search needs
 
 returns : tie.Need-returns Inv-loop μ-loop
 returns c =
-    let at-if = c .before in
-    let told = at-if .before in
-    let s = short _ _ _ (at-questions told .questions .ensures) (told .enum-told2 .given .1) (at-if .if1 .taken) in
+    let at-if : tie.Then1 Inv-loop μ-loop = search in
+    let told : tie.After-enum-told2 Inv-loop μ-loop = search in
+    let at-questions : tie.After-questions Inv-loop μ-loop = search in
+    let s = short _ _ _ (at-questions .questions .ensures) (told .enum-told2 .given .1) (at-if .if1 .taken) in
     (c .no .ensures ∙ s .0, s .1)
 
 loop-holds : tie.Need-loop-holds Inv-loop μ-loop
 loop-holds c =
-    let told = c .before in
-    let asked = at-questions told in
-    let l : length (at-start asked .args .t1 .numbers) ≡ numberPlaces = search needs in
+    let told : tie.After-enum-told2 Inv-loop μ-loop = search in
+    let asked : tie.After-questions Inv-loop μ-loop = search in
+    let start : tie.Start Inv-loop μ-loop = search in
+    let l : length (start .args .t1 .numbers) ≡ numberPlaces = search needs in
     begin _ _ _ l (asked .questions .ensures) (told .enum-told2 .given .1) (c .if1 .left)
 
 mul-v : tie.Need-mul-v Inv-loop μ-loop
-mul-v c = omega (arith, c .before .loop .inv)
+mul-v c =
+    let loop : tie.At-loop Inv-loop μ-loop = search in
+    omega (arith, loop .loop .inv)
 
 element-copy-out-v : tie.Need-element-copy-out-v Inv-loop μ-loop
-element-copy-out-v c = omega (arith, c .before .loop .inv)
+element-copy-out-v c =
+    let loop : tie.At-loop Inv-loop μ-loop = search in
+    omega (arith, loop .loop .inv)
 
 put-requires : tie.Need-put-requires Inv-loop μ-loop
 put-requires c κs =
-    let turn = c .before .before in
-    (number-small _ _ _ _ _ (turn .before .loop .inv) (turn .loop-test .taken), number-fits _ _ _ _ _ (turn .before .loop .inv) (turn .loop-test .taken))
+    let turn : tie.In-loop Inv-loop μ-loop = search in
+    let loop : tie.At-loop Inv-loop μ-loop = search in
+    (number-small _ _ _ _ _ (loop .loop .inv) (turn .loop-test .taken), number-fits _ _ _ _ _ (loop .loop .inv) (turn .loop-test .taken))
 
 add-i : tie.Need-add-i Inv-loop μ-loop
-add-i c = omega (arith, at-turn (at-put c) .before .loop .inv)
+add-i c =
+    let loop : tie.At-loop Inv-loop μ-loop = search in
+    omega (arith, loop .loop .inv)
 
 loop-less : tie.Need-loop-less Inv-loop μ-loop
 loop-less c = omega arith
 
 loop-again : tie.Need-loop-again Inv-loop μ-loop
 loop-again c =
-    let putting = at-put c in
-    let at-test = at-turn putting in
+    let putting : tie.After-put Inv-loop μ-loop = search in
+    let at-test : tie.In-loop Inv-loop μ-loop = search in
+    let loop : tie.At-loop Inv-loop μ-loop = search in
     rw (putting .put .ensures .0)
-    (turn _ _ _ _ _ (at-test .before .loop .inv) (at-test .loop-test .taken) (putting .put .last .0) (putting .put .kept .0) (putting .put .ensures .1))
+    (turn _ _ _ _ _ (loop .loop .inv) (at-test .loop-test .taken) (putting .put .last .0) (putting .put .kept .0) (putting .put .ensures .1))
 
 returns-2 : tie.Need-returns-2 Inv-loop μ-loop
-returns-2 c = refused _ _ _ (c .before .before .questions .ensures) _ (c .enum-told .given .1)
+returns-2 c =
+    let at-questions : tie.After-questions Inv-loop μ-loop = search in
+    refused _ _ _ (at-questions .questions .ensures) _ (c .enum-told .given .1)
 
 same-length : tie.Need-same-length Inv-loop μ-loop
-same-length c = c .before .loop .inv .size
+same-length c =
+    let loop : tie.At-loop Inv-loop μ-loop = search in
+    loop .loop .inv .size
 
 returns-3 : tie.Need-returns-3 Inv-loop μ-loop
-returns-3 c = whole _ _ _ _ _ (c .before .loop .inv) (c .loop-test .left)
+returns-3 c =
+    let loop : tie.At-loop Inv-loop μ-loop = search in
+    whole _ _ _ _ _ (loop .loop .inv) (c .loop-test .left)
 
 pub write-spec : {M : Type 1} → statement M
 write-spec =

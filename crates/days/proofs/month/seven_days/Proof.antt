@@ -16,10 +16,6 @@ Inv-loop b row₀ t₀ row t = (t ≤ 7) × (length row ≡ rowPlaces) × ((k : 
 abbrev μ-loop : tie.MeasureT-loop
 μ-loop b row₀ t₀ row t = 7 - t
 
--- the places of the function, each from the next
-abbrev at-start : tie.At-loop Inv-loop μ-loop → tie.Start Inv-loop μ-loop
-at-start c = c .before .before
-
 loop-holds : tie.Need-loop-holds Inv-loop μ-loop
 loop-holds c = (omega arith, refl, λ k h. absurd (omega arith))
 
@@ -31,7 +27,7 @@ mul-row c = search needs
 
 array-write-row : tie.Need-array-write-row Inv-loop μ-loop
 array-write-row c =
-    let loop = c .before .before in
+    let loop : tie.At-loop Inv-loop μ-loop = search in
     omega (arith, loop .loop .inv .1)
 
 add-t : tie.Need-add-t Inv-loop μ-loop
@@ -42,13 +38,15 @@ loop-less c = search needs
 
 loop-again : tie.Need-loop-again Inv-loop μ-loop
 loop-again c =
-    let loop = c .before .before in
-    let start = at-start loop in
+    let loop : tie.At-loop Inv-loop μ-loop = search in
+    let start : tie.Start Inv-loop μ-loop = search in
     let l = loop .loop in
     (omega arith, length-set (l .row) (l .t) _ ∙ l .inv .1, place-turn (duty (start .args .b .now)) (l .row) (l .t) _ (omega (arith, l .inv .1)) (l .inv .2) (c .duty .ensures))
 
 returns : tie.Need-returns Inv-loop μ-loop
-returns c = λ k h. c .before .loop .inv .2 k (omega arith)
+returns c =
+    let loop : tie.At-loop Inv-loop μ-loop = search in
+    λ k h. loop .loop .inv .2 k (omega arith)
 
 pub seven-days-spec : {M : Type 1} → statement M
 seven-days-spec = tie.close (tie.spec Inv-loop μ-loop loop-holds duty-requires mul-row array-write-row add-t loop-less loop-again returns)

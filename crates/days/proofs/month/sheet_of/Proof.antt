@@ -18,13 +18,6 @@ Inv-loop b n longest p states row₀ available₀ fixed₀ d₀ row available fi
 abbrev μ-loop : tie.MeasureT-loop
 μ-loop b n longest p states row₀ available₀ fixed₀ d₀ row available fixed d = n - d
 
--- the places of the function, each from the next
-abbrev at-start : tie.After-states Inv-loop μ-loop → tie.Start Inv-loop μ-loop
-at-start c = c .before .before
-
-abbrev at-states : tie.At-loop Inv-loop μ-loop → tie.After-states Inv-loop μ-loop
-at-states c = c .before .before
-
 states-requires : tie.Need-states-requires Inv-loop μ-loop
 states-requires c κs = search needs
 
@@ -33,8 +26,7 @@ seven-days-requires c κs = search needs
 
 loop-holds : tie.Need-loop-holds Inv-loop μ-loop
 loop-holds c =
-    let states = c .before in
-    let start = at-start states in
+    let start : tie.Start Inv-loop μ-loop = search in
     let s = start .args in
     let long : length (c .seven-days .result) ≡ rowPlaces = search needs in
     month-start (s .b .now) (s .p) (s .n) (c .seven-days .result) long (c .seven-days .ensures)
@@ -59,11 +51,9 @@ mul-row c = search needs
 
 array-write-row : tie.Need-array-write-row Inv-loop μ-loop
 array-write-row c =
-    let mark = c .before in
-    let in-loop = mark .before in
-    let loop = in-loop .before in
-    let states = at-states loop in
-    let start = at-start states in
+    let in-loop : tie.In-loop Inv-loop μ-loop = search in
+    let loop : tie.At-loop Inv-loop μ-loop = search in
+    let start : tie.Start Inv-loop μ-loop = search in
     omega (arith, loop .loop .inv .row-long, in-loop .loop-test .taken, start .pre .1)
 
 mul-is-available : tie.Need-mul-is-available Inv-loop μ-loop
@@ -77,24 +67,17 @@ is-available-requires c κs = search needs
 
 with-next-requires : tie.Need-with-next-requires Inv-loop μ-loop
 with-next-requires c κs =
-    let duty-of = c .before in
-    let mark = duty-of .before in
-    let in-loop = mark .before in
-    let loop = in-loop .before in
-    let states = at-states loop in
-    let start = at-start states in
+    let in-loop : tie.In-loop Inv-loop μ-loop = search in
+    let loop : tie.At-loop Inv-loop μ-loop = search in
+    let start : tie.Start Inv-loop μ-loop = search in
     let s = start .args in
     (omega (arith, in-loop .loop-test .taken, start .pre .1), available-fits (s .b .now) (s .p) (s .n) (loop .loop .d) (loop .loop .inv))
 
 with-next-requires-2 : tie.Need-with-next-requires-2 Inv-loop μ-loop
 with-next-requires-2 c κs =
-    let is-available = c .before in
-    let duty-of = is-available .before in
-    let mark = duty-of .before in
-    let in-loop = mark .before in
-    let loop = in-loop .before in
-    let states = at-states loop in
-    let start = at-start states in
+    let in-loop : tie.In-loop Inv-loop μ-loop = search in
+    let loop : tie.At-loop Inv-loop μ-loop = search in
+    let start : tie.Start Inv-loop μ-loop = search in
     let s = start .args in
     (omega (arith, in-loop .loop-test .taken, start .pre .1), fixed-fits (s .b .now) (s .p) (s .n) (loop .loop .d) (loop .loop .inv))
 
@@ -106,14 +89,14 @@ loop-less c = search needs
 
 loop-again : tie.Need-loop-again Inv-loop μ-loop
 loop-again c =
-    let with-next = c .before in
-    let is-available = with-next .before in
-    let duty-of = is-available .before in
-    let mark = duty-of .before in
-    let in-loop = mark .before in
-    let loop = in-loop .before in
-    let states = at-states loop in
-    let start = at-start states in
+    let with-next : tie.After-with-next Inv-loop μ-loop = search in
+    let is-available : tie.After-is-available Inv-loop μ-loop = search in
+    let duty-of : tie.After-duty-of Inv-loop μ-loop = search in
+    let mark : tie.After-mark Inv-loop μ-loop = search in
+    let in-loop : tie.In-loop Inv-loop μ-loop = search in
+    let loop : tie.At-loop Inv-loop μ-loop = search in
+    let states : tie.After-states Inv-loop μ-loop = search in
+    let start : tie.Start Inv-loop μ-loop = search in
     let s = start .args in
     let l = loop .loop in
     let in-month = in-loop .loop-test .taken in
@@ -130,12 +113,11 @@ bounds-requires c κs = search needs
 
 returns : tie.Need-returns Inv-loop μ-loop
 returns c =
-    let most-rests = c .before in
-    let least-rests = most-rests .before in
-    let after-loop = least-rests .before in
-    let loop = after-loop .before in
-    let states = at-states loop in
-    let start = at-start states in
+    let most-rests : tie.After-most-rests Inv-loop μ-loop = search in
+    let least-rests : tie.After-least-rests Inv-loop μ-loop = search in
+    let after-loop : tie.After-loop Inv-loop μ-loop = search in
+    let loop : tie.At-loop Inv-loop μ-loop = search in
+    let start : tie.Start Inv-loop μ-loop = search in
     let s = start .args in
     let l = loop .loop in
     let done : l .d ≡ s .n = omega (arith, l .inv .at-most, after-loop .loop-test .left) in

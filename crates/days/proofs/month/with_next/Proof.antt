@@ -15,7 +15,9 @@ add-result : tie.Need-add-result
 add-result c = search needs
 
 returns : tie.Need-returns
-returns c = rw (c .before .if1 .taken) (omega (arith, c .bit .ensures))
+returns c =
+    let at-then1 : tie.Then1 = search in
+    rw (at-then1 .if1 .taken) (omega (arith, c .bit .ensures))
 
 returns-2 : tie.Need-returns-2
 returns-2 c = rw (c .if1 .left) (omega arith)

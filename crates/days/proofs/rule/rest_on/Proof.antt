@@ -15,10 +15,18 @@ is-rest-requires : tie.Need-is-rest-requires
 is-rest-requires c κs = search needs
 
 returns : tie.Need-returns
-returns c = (rest-is (c .before .before .before .args .row .now) (c .before .before .before .args .q) (c .before .before .before .args .d) (c .before .before .duty-at .ensures) (c .before .is-rest .ensures) (c .if1 .taken), omega arith)
+returns c =
+    let at-is-rest : tie.After-is-rest = search in
+    let at-duty-at : tie.After-duty-at = search in
+    let start : tie.Start = search in
+    (rest-is (start .args .row .now) (start .args .q) (start .args .d) (at-duty-at .duty-at .ensures) (at-is-rest .is-rest .ensures) (c .if1 .taken), omega arith)
 
 returns-2 : tie.Need-returns-2
-returns-2 c = (rest-is-not (c .before .before .before .args .row .now) (c .before .before .before .args .q) (c .before .before .before .args .d) (c .before .before .duty-at .ensures) (c .before .is-rest .ensures) (c .if1 .left), omega arith)
+returns-2 c =
+    let at-is-rest : tie.After-is-rest = search in
+    let at-duty-at : tie.After-duty-at = search in
+    let start : tie.Start = search in
+    (rest-is-not (start .args .row .now) (start .args .q) (start .args .d) (at-duty-at .duty-at .ensures) (at-is-rest .is-rest .ensures) (c .if1 .left), omega arith)
 
 pub rest-on-spec : {M : Type 1} → statement M
 rest-on-spec = tie.close (tie.spec add-duty-at duty-at-requires is-rest-requires returns returns-2)

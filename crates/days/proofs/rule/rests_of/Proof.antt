@@ -31,13 +31,20 @@ loop-less : tie.Need-loop-less Inv-loop μ-loop
 loop-less c = search needs
 
 loop-again : tie.Need-loop-again Inv-loop μ-loop
-loop-again c = let s = c .before .before .before .args in
-    let l = c .before .before .loop in
-    (omega arith, omega (arith, c .rest-on .ensures .1), omega (arith, l .inv .2, c .rest-on .ensures .0, rest-day (s .row .now) (s .q) (s .n) (l .d) (c .before .loop-test .taken)))
+loop-again c =
+    let turn : tie.In-loop Inv-loop μ-loop = search in
+    let loop : tie.At-loop Inv-loop μ-loop = search in
+    let start : tie.Start Inv-loop μ-loop = search in
+    let s = start .args in
+    let l = loop .loop in
+    (omega arith, omega (arith, c .rest-on .ensures .1), omega (arith, l .inv .2, c .rest-on .ensures .0, rest-day (s .row .now) (s .q) (s .n) (l .d) (turn .loop-test .taken)))
 
 returns : tie.Need-returns Inv-loop μ-loop
-returns c = let s = c .before .before .args in
-    omega (arith, c .before .loop .inv .2, rests-done (dutyAt (s .row .now) (s .q)) (s .n) (c .before .loop .d) (c .loop-test .left))
+returns c =
+    let loop : tie.At-loop Inv-loop μ-loop = search in
+    let start : tie.Start Inv-loop μ-loop = search in
+    let s = start .args in
+    omega (arith, loop .loop .inv .2, rests-done (dutyAt (s .row .now) (s .q)) (s .n) (loop .loop .d) (c .loop-test .left))
 
 pub rests-of-spec : {M : Type 1} → statement M
 rests-of-spec =

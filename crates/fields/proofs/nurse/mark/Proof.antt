@@ -15,7 +15,8 @@ shared-slice-read-result : tie.Need-shared-slice-read-result
 shared-slice-read-result c = search needs
 
 returns : tie.Need-returns
-returns c = let start = c .before in
+returns c =
+    let start : tie.Start = search in
     (refl, λ n ok. mark-small (start .args .b .now) n (start .args .d) ok (start .pre))
 
 pub mark-spec : {M : Type 1} → statement M

@@ -7,10 +7,14 @@ returns : tie.Need-returns
 returns c = simp (le-leb _ _ (c .if1 .taken))
 
 returns-2 : tie.Need-returns-2
-returns-2 c = simp (lt-leb _ _ (c .before .if1 .left), eq-eqb _ _ (c .if2 .taken))
+returns-2 c =
+    let at-else1 : tie.Else1 = search in
+    simp (lt-leb _ _ (at-else1 .if1 .left), eq-eqb _ _ (c .if2 .taken))
 
 returns-3 : tie.Need-returns-3
-returns-3 c = simp (lt-leb _ _ (c .before .if1 .left), ne-eqb _ _ (c .if2 .left))
+returns-3 c =
+    let at-else1 : tie.Else1 = search in
+    simp (lt-leb _ _ (at-else1 .if1 .left), ne-eqb _ _ (c .if2 .left))
 
 pub gap-after-spec : {M : Type 1} → statement M
 gap-after-spec = tie.close (tie.spec returns returns-2 returns-3)

@@ -18,10 +18,6 @@ Inv-loop b n p q states row₀ d₀ row d = (d ≤ n) × (length row ≡ dayPlac
 abbrev μ-loop : tie.MeasureT-loop
 μ-loop b n p q states row₀ d₀ row d = n - d
 
--- the places of the function, each from the next
-abbrev at-start : tie.After-states Inv-loop μ-loop → tie.Start Inv-loop μ-loop
-at-start c = c .before .before
-
 states-requires : tie.Need-states-requires Inv-loop μ-loop
 states-requires c κs = search needs
 
@@ -48,11 +44,7 @@ letter-of-requires c κs = search needs
 
 array-write-row : tie.Need-array-write-row Inv-loop μ-loop
 array-write-row c =
-    let duty-of = c .before in
-    let mark = duty-of .before in
-    let has-bit = mark .before in
-    let in-loop = has-bit .before in
-    let loop = in-loop .before in
+    let loop : tie.At-loop Inv-loop μ-loop = search in
     omega (arith, loop .loop .inv .1)
 
 add-d : tie.Need-add-d Inv-loop μ-loop
@@ -63,13 +55,13 @@ loop-less c = search needs
 
 loop-again : tie.Need-loop-again Inv-loop μ-loop
 loop-again c =
-    let duty-of = c .before in
-    let mark = duty-of .before in
-    let has-bit = mark .before in
-    let in-loop = has-bit .before in
-    let loop = in-loop .before in
-    let states = loop .before in
-    let start = at-start states in
+    let duty-of : tie.After-duty-of Inv-loop μ-loop = search in
+    let mark : tie.After-mark Inv-loop μ-loop = search in
+    let has-bit : tie.After-has-bit Inv-loop μ-loop = search in
+    let in-loop : tie.In-loop Inv-loop μ-loop = search in
+    let loop : tie.At-loop Inv-loop μ-loop = search in
+    let states : tie.After-states Inv-loop μ-loop = search in
+    let start : tie.Start Inv-loop μ-loop = search in
     let s = start .args in
     let l = loop .loop in
     let duty = duty-is (s .b .now) (s .p) (s .q) (l .d) (mark .mark .ensures .0) (states .states .ensures .0 (l .d) (in-loop .loop-test .taken)) (has-bit .has-bit .ensures) (duty-of .duty-of .ensures .0) in
@@ -77,7 +69,7 @@ loop-again c =
 
 returns : tie.Need-returns Inv-loop μ-loop
 returns c =
-    let loop = c .before in
+    let loop : tie.At-loop Inv-loop μ-loop = search in
     λ d h. loop .loop .inv .2 d (omega (arith, c .loop-test .left))
 
 pub row-letters-spec : {M : Type 1} → statement M

@@ -15,12 +15,10 @@ Inv-loop table b n state set₀ day₀ set day = (day ≤ n) × (set ≡ numberO
 abbrev μ-loop : tie.MeasureT-loop
 μ-loop table b n state set₀ day₀ set day = n - day
 
--- the places of the function, each from the next
-abbrev at-start : tie.At-loop Inv-loop μ-loop → tie.Start Inv-loop μ-loop
-at-start c = c .before .before
-
 loop-holds : tie.Need-loop-holds Inv-loop μ-loop
-loop-holds c = (omega arith, set-start (barred (c .before .args .table .now) (c .before .args .b .now) (c .before .args .state)) refl)
+loop-holds c =
+    let start : tie.Start Inv-loop μ-loop = search in
+    (omega arith, set-start (barred (start .args .table .now) (start .args .b .now) (start .args .state)) refl)
 
 mark-requires : tie.Need-mark-requires Inv-loop μ-loop
 mark-requires c κs = search needs
@@ -30,9 +28,7 @@ add-day c = search needs
 
 mark-allows-requires : tie.Need-mark-allows-requires Inv-loop μ-loop
 mark-allows-requires c κs =
-    let in-loop = c .before in
-    let loop = in-loop .before in
-    let start = at-start loop in
+    let start : tie.Start Inv-loop μ-loop = search in
     (c .mark .ensures .1 (start .args .n) (start .pre .1 .0), start .pre .1 .1)
 
 day-if-requires : tie.Need-day-if-requires Inv-loop μ-loop
@@ -40,11 +36,11 @@ day-if-requires c κs = search needs
 
 add-set : tie.Need-add-set Inv-loop μ-loop
 add-set c =
-    let mark-allows = c .before in
-    let mark = mark-allows .before in
-    let in-loop = mark .before in
-    let loop = in-loop .before in
-    let start = at-start loop in
+    let mark-allows : tie.After-mark-allows Inv-loop μ-loop = search in
+    let mark : tie.After-mark Inv-loop μ-loop = search in
+    let in-loop : tie.In-loop Inv-loop μ-loop = search in
+    let loop : tie.At-loop Inv-loop μ-loop = search in
+    let start : tie.Start Inv-loop μ-loop = search in
     let l = loop .loop in
     let s = start .args in
     let t = barred (s .table .now) (s .b .now) (s .state) in
@@ -56,11 +52,10 @@ loop-less c = search needs
 
 loop-again : tie.Need-loop-again Inv-loop μ-loop
 loop-again c =
-    let mark-allows = c .before in
-    let mark = mark-allows .before in
-    let in-loop = mark .before in
-    let loop = in-loop .before in
-    let start = at-start loop in
+    let mark-allows : tie.After-mark-allows Inv-loop μ-loop = search in
+    let mark : tie.After-mark Inv-loop μ-loop = search in
+    let loop : tie.At-loop Inv-loop μ-loop = search in
+    let start : tie.Start Inv-loop μ-loop = search in
     let l = loop .loop in
     let s = start .args in
     let t = barred (s .table .now) (s .b .now) (s .state) in
@@ -68,8 +63,8 @@ loop-again c =
 
 returns : tie.Need-returns Inv-loop μ-loop
 returns c =
-    let loop = c .before in
-    let start = at-start loop in
+    let loop : tie.At-loop Inv-loop μ-loop = search in
+    let start : tie.Start Inv-loop μ-loop = search in
     let l = loop .loop in
     let s = start .args in
     set-done (barred (s .table .now) (s .b .now) (s .state)) (s .n) (l .day) (l .set) (l .inv .1) (l .inv .0) (c .loop-test .left)

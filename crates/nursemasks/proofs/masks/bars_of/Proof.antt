@@ -16,9 +16,13 @@ barred-days-requires-4 : tie.Need-barred-days-requires-4
 barred-days-requires-4 c κs = search needs
 
 returns : tie.Need-returns
-returns c = let e1 = c .before .before .before .barred-days .ensures in
-    let e2 = c .before .before .barred-days2 .ensures in
-    let e3 = c .before .barred-days3 .ensures in
+returns c =
+    let at-barred-days3 : tie.After-barred-days3 = search in
+    let at-barred-days2 : tie.After-barred-days2 = search in
+    let at-barred-days : tie.After-barred-days = search in
+    let e1 = at-barred-days .barred-days .ensures in
+    let e2 = at-barred-days2 .barred-days2 .ensures in
+    let e3 = at-barred-days3 .barred-days3 .ensures in
     let e4 = c .barred-days4 .ensures in
     rw (e1, e2, e3, e4)
 

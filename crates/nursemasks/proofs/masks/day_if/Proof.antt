@@ -11,7 +11,10 @@ wide-requires : tie.Need-wide-requires
 wide-requires c κs = search needs
 
 returns : tie.Need-returns
-returns c = rw (c .before .before .if1 .taken) (c .wide .ensures ∙ c .before .bit .ensures)
+returns c =
+    let at-bit : tie.After-bit = search in
+    let at-then1 : tie.Then1 = search in
+    rw (at-then1 .if1 .taken) (c .wide .ensures ∙ at-bit .bit .ensures)
 
 returns-2 : tie.Need-returns-2
 returns-2 c = search needs

@@ -10,13 +10,6 @@ use borrow.Author.Needs.{needs}
 use Rattle.nursemasks.proofs.masks.masks_by.Statement.{statement}
 use Rattle.nursemasks.proofs.masks.masks_by.Tie as tie
 
--- the places of the function, each from the next
-abbrev at-start : tie.After-bars-of → tie.Start
-at-start c = c .before .before
-
-abbrev at-bit : tie.After-workable-days → tie.After-bit
-at-bit c = c .before .before .before
-
 bars-of-requires : tie.Need-bars-of-requires
 bars-of-requires c κs = search needs
 
@@ -31,16 +24,13 @@ bit-requires c κs = search needs
 
 sub-near : tie.Need-sub-near
 sub-near c =
-    let near-days = c .before in
+    let near-days : tie.After-near-days = search in
     omega (arith, c .bit .ensures, pow-pos (near-days .near-days .result))
 
 cast-never : tie.Need-cast-never
 cast-never c =
-    let bit = c .before .before in
-    let near-days = bit .before in
-    let last-run = near-days .before in
-    let bars-of = last-run .before in
-    let start = at-start bars-of in
+    let bars-of : tie.After-bars-of = search in
+    let start : tie.Start = search in
     omega (arith, never-fits (start .args .table .now) (start .args .n) (start .args .b .now) (bars-of .bars-of .ensures) (start .pre .1 .0))
 
 workable-days-requires : tie.Need-workable-days-requires
@@ -66,17 +56,17 @@ most-nights-requires c κs = search needs
 
 returns : tie.Need-returns
 returns c =
-    let least-nights = c .before in
-    let one-if2 = least-nights .before in
-    let last-duty2 = one-if2 .before in
-    let one-if = last-duty2 .before in
-    let last-duty = one-if .before in
-    let workable-days = last-duty .before in
-    let bit = at-bit workable-days in
-    let near-days = bit .before in
-    let last-run = near-days .before in
-    let bars-of = last-run .before in
-    let start = at-start bars-of in
+    let least-nights : tie.After-least-nights = search in
+    let one-if2 : tie.After-one-if2 = search in
+    let last-duty2 : tie.After-last-duty2 = search in
+    let one-if : tie.After-one-if = search in
+    let last-duty : tie.After-last-duty = search in
+    let workable-days : tie.After-workable-days = search in
+    let bit : tie.After-bit = search in
+    let near-days : tie.After-near-days = search in
+    let last-run : tie.After-last-run = search in
+    let bars-of : tie.After-bars-of = search in
+    let start : tie.Start = search in
     let s = start .args in
     let last = last-run .last-run in
     let near = ap (λ (x : ℕ). x - 1) (bit .bit .ensures ∙ ap (λ (k : ℕ). 2 ^ k) (near-days .near-days .ensures .0)) in

@@ -6,13 +6,6 @@ use borrow.Author.Needs.{needs}
 use Rattle.nursemasks.proofs.masks.masks_of.Statement.{statement}
 use Rattle.nursemasks.proofs.masks.masks_of.Tie as tie
 
--- the places of the function, each from the next
-abbrev at-start : tie.After-allow-table → tie.Start
-at-start c = c .before .before
-
-abbrev at-rules-of : tie.After-days → tie.After-rules-of
-at-rules-of c = c .before .before
-
 allow-table-requires : tie.Need-allow-table-requires
 allow-table-requires c κs = search needs
 
@@ -27,10 +20,9 @@ block-requires c κs = search needs
 
 masks-by-requires : tie.Need-masks-by-requires
 masks-by-requires c κs =
-    let days = c .before in
-    let rules-of = at-rules-of days in
-    let allow-table = rules-of .before in
-    let start = at-start allow-table in
+    let days : tie.After-days = search in
+    let rules-of : tie.After-rules-of = search in
+    let start : tie.Start = search in
     let s = start .args in
     let ok = start .pre .0 in
     let n = days .days .ensures in
@@ -38,11 +30,11 @@ masks-by-requires c κs =
 
 returns : tie.Need-returns
 returns c =
-    let block = c .before in
-    let days = block .before in
-    let rules-of = at-rules-of days in
-    let allow-table = rules-of .before in
-    let start = at-start allow-table in
+    let block : tie.After-block = search in
+    let days : tie.After-days = search in
+    let rules-of : tie.After-rules-of = search in
+    let allow-table : tie.After-allow-table = search in
+    let start : tie.Start = search in
     let s = start .args in
     (c .masks-by .ensures .0 ∙ masks-as (s .w .now) (s .i) (allow-table .allow-table .ensures) (rules-of .rules-of .ensures) (days .days .ensures .0) (block .block .ensures), c .masks-by .ensures .1)
 

@@ -23,14 +23,20 @@ add-second : tie.Need-add-second
 add-second c = search needs
 
 mul-rest : tie.Need-mul-rest
-mul-rest c = let s = c .before .before .before .args in
-    let night = c .before .before .wide .result * 2 + s .m .night in
-    let small : night * 2 + s .m .second < 2 ^ 60 = omega (arith, c .before .before .wide .ensures, c .before .before .before .fits .p .fits, c .before .before .before .pre .night, c .before .before .before .pre .second) in
+mul-rest c =
+    let at-wide : tie.After-wide = search in
+    let start : tie.Start = search in
+    let s = start .args in
+    let night = at-wide .wide .result * 2 + s .m .night in
+    let small : night * 2 + s .m .second < 2 ^ 60 = omega (arith, at-wide .wide .ensures, start .fits .p .fits, start .pre .night, start .pre .second) in
     omega (arith, masked-twice (night * 2 + s .m .second) ((2 ^ 64 - 1) - night) small)
 
 returns : tie.Need-returns
-returns c = let s = c .before .before .before .args in
-    λ b en es. row-made b (s .p) (s .m .night) (s .m .second) (c .before .before .before .fits .p .fits) en es _ (ap (λ (v : ℕ). v * 2 + s .m .night) (c .before .before .wide .ensures)) refl refl
+returns c =
+    let at-wide : tie.After-wide = search in
+    let start : tie.Start = search in
+    let s = start .args in
+    λ b en es. row-made b (s .p) (s .m .night) (s .m .second) (start .fits .p .fits) en es _ (ap (λ (v : ℕ). v * 2 + s .m .night) (at-wide .wide .ensures)) refl refl
 
 pub row-of-spec : {M : Type 1} → statement M
 row-of-spec =

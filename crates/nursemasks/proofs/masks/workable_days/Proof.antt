@@ -15,13 +15,9 @@ Inv-loop b n set₀ day₀ set day = (day ≤ n) × (set ≡ numberOf (workable 
 abbrev μ-loop : tie.MeasureT-loop
 μ-loop b n set₀ day₀ set day = n - day
 
--- the places of the function, each from the next
-abbrev at-start : tie.At-loop Inv-loop μ-loop → tie.Start Inv-loop μ-loop
-at-start c = c .before .before
-
 loop-holds : tie.Need-loop-holds Inv-loop μ-loop
 loop-holds c =
-    let start = c .before in
+    let start : tie.Start Inv-loop μ-loop = search in
     (omega arith, set-start (workable (start .args .b .now)) refl)
 
 mark-requires : tie.Need-mark-requires Inv-loop μ-loop
@@ -38,11 +34,11 @@ day-if-requires c κs = search needs
 
 add-set : tie.Need-add-set Inv-loop μ-loop
 add-set c =
-    let is-available = c .before in
-    let mark = is-available .before in
-    let in-loop = mark .before in
-    let loop = in-loop .before in
-    let start = at-start loop in
+    let is-available : tie.After-is-available Inv-loop μ-loop = search in
+    let mark : tie.After-mark Inv-loop μ-loop = search in
+    let in-loop : tie.In-loop Inv-loop μ-loop = search in
+    let loop : tie.At-loop Inv-loop μ-loop = search in
+    let start : tie.Start Inv-loop μ-loop = search in
     let l = loop .loop in
     let s = start .args in
     let t = workable (s .b .now) in
@@ -54,11 +50,10 @@ loop-less c = search needs
 
 loop-again : tie.Need-loop-again Inv-loop μ-loop
 loop-again c =
-    let is-available = c .before in
-    let mark = is-available .before in
-    let in-loop = mark .before in
-    let loop = in-loop .before in
-    let start = at-start loop in
+    let is-available : tie.After-is-available Inv-loop μ-loop = search in
+    let mark : tie.After-mark Inv-loop μ-loop = search in
+    let loop : tie.At-loop Inv-loop μ-loop = search in
+    let start : tie.Start Inv-loop μ-loop = search in
     let l = loop .loop in
     let s = start .args in
     let t = workable (s .b .now) in
@@ -66,8 +61,8 @@ loop-again c =
 
 returns : tie.Need-returns Inv-loop μ-loop
 returns c =
-    let loop = c .before in
-    let start = at-start loop in
+    let loop : tie.At-loop Inv-loop μ-loop = search in
+    let start : tie.Start Inv-loop μ-loop = search in
     let l = loop .loop in
     let s = start .args in
     set-done (workable (s .b .now)) (s .n) (l .day) (l .set) (l .inv .1) (l .inv .0) (c .loop-test .left)

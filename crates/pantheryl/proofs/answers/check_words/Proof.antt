@@ -17,7 +17,7 @@ enum-told-2 c = search needs
 
 returns : tie.Need-returns
 returns c =
-    let refused = c .before .before in
+    let refused : tie.After-checked = search in
     rw (refused .checked .given .1) (c .refusal-words .ensures)
 
 returns-2 : tie.Need-returns-2

@@ -14,7 +14,7 @@ enum-told c = search needs
 
 returns : tie.Need-returns
 returns c =
-    let refused = c .before .before in
+    let refused : tie.After-said = search in
     rw (refused .said .given .1) (c .refusal-words .ensures)
 
 returns-2 : tie.Need-returns-2

@@ -20,7 +20,7 @@ enum-told-3 c = search needs
 
 returns : tie.Need-returns
 returns c =
-    let refused = c .before .before in
+    let refused : tie.After-outcome = search in
     rw (refused .outcome .given .1) (c .refusal-words .ensures)
 
 returns-2 : tie.Need-returns-2

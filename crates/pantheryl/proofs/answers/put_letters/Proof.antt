@@ -12,7 +12,9 @@ returns : tie.Need-returns
 returns c = search needs
 
 returns-2 : tie.Need-returns-2
-returns-2 c = let none : c .before .args .count ≡ 0 = omega arith in rw none
+returns-2 c =
+    let start : tie.Start = search in
+    let none : start .args .count ≡ 0 = omega arith in rw none
 
 pub put-letters-spec : {M : Type 1} → statement M
 put-letters-spec = tie.close (tie.spec with-letters-requires returns returns-2)

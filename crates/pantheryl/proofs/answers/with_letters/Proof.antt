@@ -28,10 +28,14 @@ loop-less : tie.Need-loop-less Inv-loop μ-loop
 loop-less c = search needs
 
 loop-again : tie.Need-loop-again Inv-loop μ-loop
-loop-again c = copied-turn 0 (c .before .loop .inv) (c .loop-test .taken) refl
+loop-again c =
+    let loop : tie.At-loop Inv-loop μ-loop = search in
+    copied-turn 0 (loop .loop .inv) (c .loop-test .taken) refl
 
 returns : tie.Need-returns Inv-loop μ-loop
-returns c = copied-front (c .before .loop .inv) (search needs)
+returns c =
+    let loop : tie.At-loop Inv-loop μ-loop = search in
+    copied-front (loop .loop .inv) (search needs)
 
 pub with-letters-spec : {M : Type 1} → statement M
 with-letters-spec =

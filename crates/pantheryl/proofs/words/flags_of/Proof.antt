@@ -43,10 +43,17 @@ loop-less : tie.Need-loop-less Inv-loop μ-loop
 loop-less c = search needs
 
 loop-again : tie.Need-loop-again Inv-loop μ-loop
-loop-again c = copied-turn false (c .before .before .loop .inv) (c .before .loop-test .taken) (flag-read (c .before .before .before .args .t1) (search needs) (c .before .before .loop .i) (c .before .loop-test .taken) (c .flag-of .ensures))
+loop-again c =
+    let turn : tie.In-loop Inv-loop μ-loop = search in
+    let loop : tie.At-loop Inv-loop μ-loop = search in
+    let start : tie.Start Inv-loop μ-loop = search in
+    copied-turn false (loop .loop .inv) (turn .loop-test .taken) (flag-read (start .args .t1) (search needs) (loop .loop .i) (turn .loop-test .taken) (c .flag-of .ensures))
 
 returns : tie.Need-returns Inv-loop μ-loop
-returns c = copied-end (c .before .loop .inv) (search needs) (search needs) (flags-long (c .before .before .args .t1) (search needs))
+returns c =
+    let loop : tie.At-loop Inv-loop μ-loop = search in
+    let start : tie.Start Inv-loop μ-loop = search in
+    copied-end (loop .loop .inv) (search needs) (search needs) (flags-long (start .args .t1) (search needs))
 
 pub flags-of-spec : {M : Type 1} → statement M
 flags-of-spec =

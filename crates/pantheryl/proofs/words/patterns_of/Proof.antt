@@ -37,10 +37,16 @@ loop-less : tie.Need-loop-less Inv-loop μ-loop
 loop-less c = search needs
 
 loop-again : tie.Need-loop-again Inv-loop μ-loop
-loop-again c = copied-turn 0 (c .before .loop .inv) (c .loop-test .taken) (pattern-read (c .before .before .args .t1) (search needs) (c .before .loop .i) (c .loop-test .taken))
+loop-again c =
+    let loop : tie.At-loop Inv-loop μ-loop = search in
+    let start : tie.Start Inv-loop μ-loop = search in
+    copied-turn 0 (loop .loop .inv) (c .loop-test .taken) (pattern-read (start .args .t1) (search needs) (loop .loop .i) (c .loop-test .taken))
 
 returns : tie.Need-returns Inv-loop μ-loop
-returns c = copied-end (c .before .loop .inv) (search needs) (search needs) (patterns-long (c .before .before .args .t1) (search needs))
+returns c =
+    let loop : tie.At-loop Inv-loop μ-loop = search in
+    let start : tie.Start Inv-loop μ-loop = search in
+    copied-end (loop .loop .inv) (search needs) (search needs) (patterns-long (start .args .t1) (search needs))
 
 pub patterns-of-spec : {M : Type 1} → statement M
 patterns-of-spec =

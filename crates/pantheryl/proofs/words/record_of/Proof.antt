@@ -18,7 +18,10 @@ array-read-steps c = search needs
 
 returns : tie.Need-returns
 unfolding recordOfWords
-returns c = rw (c .before .before .patterns-of .ensures, c .before .flags-of .ensures, c .removals-of .ensures)
+returns c =
+    let at-flags-of : tie.After-flags-of = search in
+    let at-patterns-of : tie.After-patterns-of = search in
+    rw (at-patterns-of .patterns-of .ensures, at-flags-of .flags-of .ensures, c .removals-of .ensures)
 
 pub record-of-spec : {M : Type 1} → statement M
 record-of-spec =

@@ -11,10 +11,15 @@ flag-word-requires : tie.Need-flag-word-requires
 flag-word-requires c κs = search needs
 
 returns-2 : tie.Need-returns-2
-returns-2 c = rw (ne-eqb _ _ (c .before .before .if1 .left), eq-eqb _ _ (c .before .if2 .taken)) (c .flag-word .ensures)
+returns-2 c =
+    let at-then2 : tie.Then2 = search in
+    let at-else1 : tie.Else1 = search in
+    rw (ne-eqb _ _ (at-else1 .if1 .left), eq-eqb _ _ (at-then2 .if2 .taken)) (c .flag-word .ensures)
 
 returns-3 : tie.Need-returns-3
-returns-3 c = rw (ne-eqb _ _ (c .before .if1 .left), ne-eqb _ _ (c .if2 .left))
+returns-3 c =
+    let at-else1 : tie.Else1 = search in
+    rw (ne-eqb _ _ (at-else1 .if1 .left), ne-eqb _ _ (c .if2 .left))
 
 pub removal-word-spec : {M : Type 1} → statement M
 removal-word-spec = tie.close (tie.spec returns flag-word-requires returns-2 returns-3)

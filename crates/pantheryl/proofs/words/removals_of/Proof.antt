@@ -36,10 +36,17 @@ loop-less : tie.Need-loop-less Inv-loop μ-loop
 loop-less c = search needs
 
 loop-again : tie.Need-loop-again Inv-loop μ-loop
-loop-again c = copied-turn _ (c .before .before .loop .inv) (c .before .loop-test .taken) (removal-read (c .before .before .before .args .words) (search needs) (c .before .before .loop .j) (c .before .loop-test .taken) (c .removal-at .ensures))
+loop-again c =
+    let turn : tie.In-loop Inv-loop μ-loop = search in
+    let loop : tie.At-loop Inv-loop μ-loop = search in
+    let start : tie.Start Inv-loop μ-loop = search in
+    copied-turn _ (loop .loop .inv) (turn .loop-test .taken) (removal-read (start .args .words) (search needs) (loop .loop .j) (turn .loop-test .taken) (c .removal-at .ensures))
 
 returns : tie.Need-returns Inv-loop μ-loop
-returns c = copied-end (c .before .loop .inv) (search needs) (search needs) (removals-long (c .before .before .args .words) (search needs))
+returns c =
+    let loop : tie.At-loop Inv-loop μ-loop = search in
+    let start : tie.Start Inv-loop μ-loop = search in
+    copied-end (loop .loop .inv) (search needs) (search needs) (removals-long (start .args .words) (search needs))
 
 pub removals-of-spec : {M : Type 1} → statement M
 removals-of-spec =

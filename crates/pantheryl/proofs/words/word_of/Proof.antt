@@ -19,7 +19,7 @@ returns : tie.Need-returns
 returns c =
     let at-if1 : tie.Then1 = search in
     let start : tie.Start = search in
-    word-pattern (start .args .t1) (sized (c .before .before)) (start .args .i) (at-if1 .if1 .taken)
+    word-pattern (start .args .t1) (sized start) (start .args .i) (at-if1 .if1 .taken)
 
 element-copy-out-flag-word : tie.Need-element-copy-out-flag-word
 element-copy-out-flag-word c = search needs
@@ -32,7 +32,7 @@ returns-2 c =
     let at-if2 : tie.Then2 = search in
     let at-if1 : tie.Else1 = search in
     let start : tie.Start = search in
-    word-flag (start .args .t1) (sized (c .before .before .before .before)) (start .args .i) (at-if1 .if1 .left) (at-if2 .if2 .taken) (c .flag-word .ensures)
+    word-flag (start .args .t1) (sized start) (start .args .i) (at-if1 .if1 .left) (at-if2 .if2 .taken) (c .flag-word .ensures)
 
 mul-x : tie.Need-mul-x
 mul-x c = search needs
@@ -48,12 +48,12 @@ returns-3 c =
     let at-if3 : tie.Then3 = search in
     let at-if2 : tie.Else2 = search in
     let start : tie.Start = search in
-    word-removal (start .args .t1) (sized (c .before .before .before .before .before)) (start .args .i) (at-if2 .if2 .left) (at-if3 .if3 .taken) (c .removal-word .ensures)
+    word-removal (start .args .t1) (sized start) (start .args .i) (at-if2 .if2 .left) (at-if3 .if3 .taken) (c .removal-word .ensures)
 
 returns-4 : tie.Need-returns-4
 returns-4 c =
     let start : tie.Start = search in
-    word-steps (start .args .t1) (sized (c .before .before .before)) (start .args .i) (c .if3 .left) (search needs)
+    word-steps (start .args .t1) (sized start) (start .args .i) (c .if3 .left) (search needs)
 
 pub word-of-spec : {M : Type 1} → statement M
 word-of-spec =

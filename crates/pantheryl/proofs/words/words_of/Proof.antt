@@ -39,10 +39,16 @@ loop-less : tie.Need-loop-less Inv-loop μ-loop
 loop-less c = search needs
 
 loop-again : tie.Need-loop-again Inv-loop μ-loop
-loop-again c = copied-turn 0 (c .before .before .loop .inv) (c .before .loop-test .taken) (c .word-of .ensures)
+loop-again c =
+    let turn : tie.In-loop Inv-loop μ-loop = search in
+    let loop : tie.At-loop Inv-loop μ-loop = search in
+    copied-turn 0 (loop .loop .inv) (turn .loop-test .taken) (c .word-of .ensures)
 
 returns : tie.Need-returns Inv-loop μ-loop
-returns c = copied-end (c .before .loop .inv) (search needs) (search needs) (words-long (c .before .before .args .rec) (sized (c .before .before)))
+returns c =
+    let loop : tie.At-loop Inv-loop μ-loop = search in
+    let start : tie.Start Inv-loop μ-loop = search in
+    copied-end (loop .loop .inv) (search needs) (search needs) (words-long (start .args .rec) (sized start))
 
 pub words-of-spec : {M : Type 1} → statement M
 words-of-spec =

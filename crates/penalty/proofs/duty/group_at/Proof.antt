@@ -6,13 +6,6 @@ use borrow.Author.Needs.{needs}
 use Rattle.penalty.proofs.duty.group_at.Statement.{statement}
 use Rattle.penalty.proofs.duty.group_at.Tie as tie
 
--- the places of the function, each from the next
-abbrev at-start : tie.After-bounds-of → tie.Start
-at-start c = c .before .before .before
-
-abbrev at-bounds-of : tie.After-members → tie.After-bounds-of
-at-bounds-of c = c .before .before
-
 bounds-of-requires : tie.Need-bounds-of-requires
 bounds-of-requires c κs = search needs
 
@@ -27,14 +20,14 @@ members-requires c κs = search needs
 
 group-term-requires : tie.Need-group-term-requires
 group-term-requires c κs =
-    let bounds-of = at-bounds-of c in
-    let start = at-start bounds-of in
+    let bounds-of : tie.After-bounds-of = search in
+    let start : tie.Start = search in
     (start .pre .0, omega (arith, bounds-of .bounds-of .ensures .0, start .pre .1 .small (4 * start .args .g + 2 * start .args .k + 2)), omega (arith, c .members .ensures .most))
 
 returns : tie.Need-returns
 returns c =
-    let members = c .before in
-    let bounds-of = at-bounds-of members in
+    let members : tie.After-members = search in
+    let bounds-of : tie.After-bounds-of = search in
     group-is _ _ _ _ _ _ (bounds-of .bounds-of .ensures .0) (bounds-of .bounds-of .ensures .1) (members .members .ensures .is) (c .group-term .ensures)
 
 pub group-at-spec : {M : Type 1} → statement M

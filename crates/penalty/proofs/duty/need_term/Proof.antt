@@ -10,12 +10,18 @@ less-requires : tie.Need-less-requires
 less-requires c κs = search needs
 
 mul-result : tie.Need-mul-result
-mul-result c = let h : c .before .less .result ≤ 48 = omega arith in
-    omega (arith, w-le (c .before .before .pre .0) h)
+mul-result c =
+    let at-less : tie.After-less = search in
+    let start : tie.Start = search in
+    let h : at-less .less .result ≤ 48 = omega arith in
+    omega (arith, w-le (start .pre .0) h)
 
 returns : tie.Need-returns
-returns c = let h : c .before .less .result ≤ 48 = omega arith in
-    record { is = rw (c .before .less .ensures); most = w-le (c .before .before .pre .0) h }
+returns c =
+    let at-less : tie.After-less = search in
+    let start : tie.Start = search in
+    let h : at-less .less .result ≤ 48 = omega arith in
+    record { is = rw (at-less .less .ensures); most = w-le (start .pre .0) h }
 
 pub need-term-spec : {M : Type 1} → statement M
 need-term-spec = tie.close (tie.spec less-requires mul-result returns)

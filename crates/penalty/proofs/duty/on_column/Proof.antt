@@ -15,13 +15,6 @@ Inv-loop wt sets needs k column short₀ over₀ g₀ g-end short over g = Sums 
 abbrev μ-loop : tie.MeasureT-loop
 μ-loop wt sets needs k column short₀ over₀ g₀ g-end short over g = length sets - g
 
--- the places of the function, each from the next
-abbrev at-start : tie.After-need Inv-loop μ-loop → tie.Start Inv-loop μ-loop
-at-start c = c .before .before .before
-
-abbrev at-on-duty : tie.At-loop Inv-loop μ-loop → tie.After-on-duty Inv-loop μ-loop
-at-on-duty c = c .before .before
-
 need-requires : tie.Need-need-requires Inv-loop μ-loop
 need-requires c κs = search needs
 
@@ -30,14 +23,14 @@ on-duty-requires c κs = search needs
 
 need-term-requires : tie.Need-need-term-requires Inv-loop μ-loop
 need-term-requires c κs =
-    let need = c .before in
-    let start = at-start need in
+    let need : tie.After-need Inv-loop μ-loop = search in
+    let start : tie.Start Inv-loop μ-loop = search in
     (start .pre .0, omega (arith, need .need .ensures, start .pre .1 .small (start .args .k)))
 
 loop-holds : tie.Need-loop-holds Inv-loop μ-loop
 loop-holds c =
-    let on-duty = c .before in
-    let need = on-duty .before in
+    let on-duty : tie.After-on-duty Inv-loop μ-loop = search in
+    let need : tie.After-need Inv-loop μ-loop = search in
     sums-start _ _ _ _ _ (need-is _ _ _ _ (need .need .ensures) (on-duty .on-duty .ensures .is) (c .need-term .ensures))
 
 group-at-requires : tie.Need-group-at-requires Inv-loop μ-loop
@@ -57,17 +50,15 @@ loop-less c = search needs
 
 loop-again : tie.Need-loop-again Inv-loop μ-loop
 loop-again c =
-    let group-at = c .before .before in
-    let in-loop = group-at .before in
-    let loop = in-loop .before in
+    let group-at : tie.After-group-at Inv-loop μ-loop = search in
+    let in-loop : tie.In-loop Inv-loop μ-loop = search in
+    let loop : tie.At-loop Inv-loop μ-loop = search in
     sums-turn _ _ _ _ _ (loop .loop .inv) (in-loop .loop-test .taken) (group-at .group-at .ensures)
 
 returns : tie.Need-returns Inv-loop μ-loop
 returns c =
-    let loop = c .before in
-    let on-duty = at-on-duty loop in
-    let need = on-duty .before in
-    let start = at-start need in
+    let loop : tie.At-loop Inv-loop μ-loop = search in
+    let start : tie.Start Inv-loop μ-loop = search in
     sums-end _ _ _ _ _ (loop .loop .inv) (c .loop-test .left) (start .pre .1 .groups) refl refl
 
 pub on-column-spec : {M : Type 1} → statement M

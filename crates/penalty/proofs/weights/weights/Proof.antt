@@ -31,8 +31,8 @@ weight-requires-3 c κs = search needs
 returns : tie.Need-returns
 unfolding weightsOf
 returns c =
-    let weight2 = c .before in
-    let weight = weight2 .before in
+    let weight2 : tie.After-weight2 = search in
+    let weight : tie.After-weight = search in
     λ j. record { w = weight .weight .ensures j; u = weight2 .weight2 .ensures j; v = c .weight3 .ensures j }
 
 pub weights-spec : {M : Type 1} → statement M

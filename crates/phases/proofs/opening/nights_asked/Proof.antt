@@ -14,7 +14,9 @@ unless-requires : tie.Need-unless-requires
 unless-requires c κs = search needs
 
 returns : tie.Need-returns
-returns c = c .unless .ensures ∙ ap (λ (b : Bool). unless b question.nights 0) (c .before .nights-open .ensures)
+returns c =
+    let at-nights-open : tie.After-nights-open = search in
+    c .unless .ensures ∙ ap (λ (b : Bool). unless b question.nights 0) (at-nights-open .nights-open .ensures)
 
 pub nights-asked-spec : {M : Type 1} → statement M
 nights-asked-spec = tie.close (tie.spec nights-open-requires unless-requires returns)

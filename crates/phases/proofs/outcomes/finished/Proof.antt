@@ -9,7 +9,7 @@ outcome-by-requires c κs = search needs
 
 returns : tie.Need-returns
 returns c =
-    let start = c .before .before in
+    let start : tie.Start = search in
     λ P given. finished-as P (start .args .x) (c .outcome-by .ensures) given
 
 pub finished-spec : {M : Type 1} → statement M

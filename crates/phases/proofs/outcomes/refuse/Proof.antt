@@ -13,7 +13,7 @@ no-roster-requires c κs = search needs
 returns : tie.Need-returns
 unfolding advanceOf
 returns c =
-    let start = c .before in
+    let start : tie.Start = search in
     ap (λ (y : Roster). record { after = start .args .rec; penalty = 0; steps = 0; outcome = Refused (start .args .refusal); roster = y }) (c .no-roster .ensures)
 
 pub refuse-spec : {M : Type 1} → statement M

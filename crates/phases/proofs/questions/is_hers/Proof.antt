@@ -23,10 +23,14 @@ is-day-pattern-requires : tie.Need-is-day-pattern-requires
 is-day-pattern-requires c κs = search needs
 
 returns : tie.Need-returns
-returns c = own-night _ _ _ _ (c .before .enum-told .given .1) (c .is-hers .ensures)
+returns c =
+    let at-enum-told : tie.After-enum-told = search in
+    own-night _ _ _ _ (at-enum-told .enum-told .given .1) (c .is-hers .ensures)
 
 returns-2 : tie.Need-returns-2
-returns-2 c = own-day _ _ _ _ (c .before .before .enum-told2 .given .1) (c .is-day-pattern .ensures)
+returns-2 c =
+    let at-enum-told2 : tie.After-enum-told2 = search in
+    own-day _ _ _ _ (at-enum-told2 .enum-told2 .given .1) (c .is-day-pattern .ensures)
 
 pub is-hers-spec : {M : Type 1} → statement M
 is-hers-spec =

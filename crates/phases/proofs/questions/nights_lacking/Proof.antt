@@ -34,14 +34,12 @@ loop-less : tie.Need-loop-less Inv-loop μ-loop
 loop-less c = search needs
 
 -- the nurse of the turn, as the loop finds her
-abbrev at-test : tie.After-has-pattern Inv-loop μ-loop → tie.In-loop Inv-loop μ-loop
-at-test c = c .before
-
 loop-again : tie.Need-loop-again Inv-loop μ-loop
 loop-again c =
-    let asked = c .before in
-    let turn = at-test asked in
-    (omega arith, lacking-more _ _ (turn .before .loop .inv .1) (turn .loop-test .taken) (sym (asked .has-pattern .ensures) ∙ c .if1 .taken))
+    let asked : tie.After-has-pattern Inv-loop μ-loop = search in
+    let turn : tie.In-loop Inv-loop μ-loop = search in
+    let loop : tie.At-loop Inv-loop μ-loop = search in
+    (omega arith, lacking-more _ _ (loop .loop .inv .1) (turn .loop-test .taken) (sym (asked .has-pattern .ensures) ∙ c .if1 .taken))
 
 add-no : tie.Need-add-no Inv-loop μ-loop
 add-no c = search needs
@@ -51,14 +49,17 @@ no-requires c κs = search needs
 
 returns : tie.Need-returns Inv-loop μ-loop
 returns c =
-    let at-if = c .before in
-    let asked = at-if .before in
-    let turn = at-test asked in
+    let at-if : tie.Else1 Inv-loop μ-loop = search in
+    let asked : tie.After-has-pattern Inv-loop μ-loop = search in
+    let turn : tie.In-loop Inv-loop μ-loop = search in
+    let loop : tie.At-loop Inv-loop μ-loop = search in
     ap refusalIn (c .no .ensures)
-    ∙ lacking-stop _ _ (turn .before .loop .inv .1) (turn .loop-test .taken) (sym (asked .has-pattern .ensures) ∙ at-if .if1 .left)
+    ∙ lacking-stop _ _ (loop .loop .inv .1) (turn .loop-test .taken) (sym (asked .has-pattern .ensures) ∙ at-if .if1 .left)
 
 returns-2 : tie.Need-returns-2 Inv-loop μ-loop
-returns-2 c = lacking-end _ _ (c .before .loop .inv .1) (c .loop-test .left)
+returns-2 c =
+    let loop : tie.At-loop Inv-loop μ-loop = search in
+    lacking-end _ _ (loop .loop .inv .1) (c .loop-test .left)
 
 pub nights-lacking-spec : {M : Type 1} → statement M
 nights-lacking-spec =

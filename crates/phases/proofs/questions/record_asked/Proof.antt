@@ -14,7 +14,9 @@ unless-requires : tie.Need-unless-requires
 unless-requires c κs = search needs
 
 returns : tie.Need-returns
-returns c = c .unless .ensures ∙ ap (λ (b : Bool). unless b question.record-sound 0) (c .before .record-sound .ensures)
+returns c =
+    let at-record-sound : tie.After-record-sound = search in
+    c .unless .ensures ∙ ap (λ (b : Bool). unless b question.record-sound 0) (at-record-sound .record-sound .ensures)
 
 pub record-asked-spec : {M : Type 1} → statement M
 record-asked-spec = tie.close (tie.spec record-sound-requires unless-requires returns)

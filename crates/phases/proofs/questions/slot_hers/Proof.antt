@@ -8,7 +8,9 @@ is-hers-requires : tie.Need-is-hers-requires
 is-hers-requires c κs = search needs
 
 returns : tie.Need-returns
-returns c = slot-placed _ _ _ (c .before .if1 .taken) (c .is-hers .ensures)
+returns c =
+    let at-then1 : tie.Then1 = search in
+    slot-placed _ _ _ (at-then1 .if1 .taken) (c .is-hers .ensures)
 
 returns-2 : tie.Need-returns-2
 returns-2 c = search needs

@@ -14,7 +14,9 @@ unless-requires : tie.Need-unless-requires
 unless-requires c κs = search needs
 
 returns : tie.Need-returns
-returns c = c .unless .ensures ∙ ap (λ (b : Bool). unless b question.steps 0) (c .before .steps-allowed .ensures)
+returns c =
+    let at-steps-allowed : tie.After-steps-allowed = search in
+    c .unless .ensures ∙ ap (λ (b : Bool). unless b question.steps 0) (at-steps-allowed .steps-allowed .ensures)
 
 pub steps-asked-spec : {M : Type 1} → statement M
 steps-asked-spec = tie.close (tie.spec steps-allowed-requires unless-requires returns)

@@ -5,13 +5,6 @@ use borrow.Author.Needs.{needs}
 use Rattle.rostercheck.proofs.needs.bounds_hold.Statement.{statement}
 use Rattle.rostercheck.proofs.needs.bounds_hold.Tie as tie
 
--- the places of the function, each from the next
-abbrev at-bounds-of : tie.After-members → tie.After-bounds-of
-at-bounds-of c = c .before .before
-
-abbrev at-members : tie.Then1 → tie.After-members
-at-members c = c .before .before
-
 bounds-of-requires : tie.Need-bounds-of-requires
 bounds-of-requires c κs = search needs
 
@@ -26,15 +19,15 @@ members-requires c κs = search needs
 
 returns : tie.Need-returns
 returns c =
-    let then1 = c .before in
-    let members = at-members then1 in
-    let bounds-of = at-bounds-of members in
+    let then1 : tie.Then1 = search in
+    let members : tie.After-members = search in
+    let bounds-of : tie.After-bounds-of = search in
     low-met _ _ _ _ _ (bounds-of .bounds-of .ensures .0) (bounds-of .bounds-of .ensures .1) (members .members .ensures .is) (then1 .if1 .taken)
 
 returns-2 : tie.Need-returns-2
 returns-2 c =
-    let members = c .before .before in
-    let bounds-of = at-bounds-of members in
+    let members : tie.After-members = search in
+    let bounds-of : tie.After-bounds-of = search in
     low-missed _ _ _ _ _ (bounds-of .bounds-of .ensures .0) (bounds-of .bounds-of .ensures .1) (members .members .ensures .is) (omega (arith, c .if1 .left))
 
 pub bounds-hold-spec : {M : Type 1} → statement M

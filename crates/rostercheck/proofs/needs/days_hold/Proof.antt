@@ -32,13 +32,23 @@ loop-less : tie.Need-loop-less Inv-loop μ-loop
 loop-less c = search needs
 
 loop-again : tie.Need-loop-again Inv-loop μ-loop
-loop-again c = (omega arith, all-more _ _ _ (c .before .before .before .loop .inv .1) (c .before .before .loop-test .taken) (sym (c .before .day-holds .ensures) ∙ c .if1 .taken))
+loop-again c =
+    let at-day-holds : tie.After-day-holds Inv-loop μ-loop = search in
+    let turn : tie.In-loop Inv-loop μ-loop = search in
+    let loop : tie.At-loop Inv-loop μ-loop = search in
+    (omega arith, all-more _ _ _ (loop .loop .inv .1) (turn .loop-test .taken) (sym (at-day-holds .day-holds .ensures) ∙ c .if1 .taken))
 
 returns : tie.Need-returns Inv-loop μ-loop
-returns c = all-stop _ _ _ (c .before .before .before .loop .inv .1) (c .before .before .loop-test .taken) (sym (c .before .day-holds .ensures) ∙ c .if1 .left)
+returns c =
+    let at-day-holds : tie.After-day-holds Inv-loop μ-loop = search in
+    let turn : tie.In-loop Inv-loop μ-loop = search in
+    let loop : tie.At-loop Inv-loop μ-loop = search in
+    all-stop _ _ _ (loop .loop .inv .1) (turn .loop-test .taken) (sym (at-day-holds .day-holds .ensures) ∙ c .if1 .left)
 
 returns-2 : tie.Need-returns-2 Inv-loop μ-loop
-returns-2 c = all-end _ _ _ (c .before .loop .inv .1) (c .loop-test .left)
+returns-2 c =
+    let loop : tie.At-loop Inv-loop μ-loop = search in
+    all-end _ _ _ (loop .loop .inv .1) (c .loop-test .left)
 
 pub days-hold-spec : {M : Type 1} → statement M
 days-hold-spec =

@@ -8,10 +8,6 @@ use borrow.Author.Needs.{needs}
 use Rattle.rostercheck.proofs.needs.duty_holds.Statement.{statement}
 use Rattle.rostercheck.proofs.needs.duty_holds.Tie as tie
 
--- the places of the function, each from the next
-abbrev at-start : tie.After-nurses → tie.Start
-at-start c = c .before .before .before
-
 nurses-requires : tie.Need-nurses-requires
 nurses-requires c κs = search needs
 
@@ -23,9 +19,9 @@ duty-letter-requires c κs = search needs
 
 column-requires : tie.Need-column-requires
 column-requires c κs =
-    let days = c .before in
-    let nurses = days .before in
-    let start = at-start nurses in
+    let days : tie.After-days = search in
+    let nurses : tie.After-nurses = search in
+    let start : tie.Start = search in
     (nurses .nurses .ensures .1, days .days .ensures .1, search needs, start .pre .1 ∙ sym (ap₂ (λ (x y : ℕ). x * y) (nurses .nurses .ensures .0) (days .days .ensures .0)))
 
 needs-requires : tie.Need-needs-requires
@@ -36,26 +32,22 @@ on-duty-requires c κs = search needs
 
 need-requires : tie.Need-need-requires
 need-requires c κs =
-    let needs = c .before in
-    let column = needs .before in
-    let duty-letter = column .before in
-    let days = duty-letter .before in
-    let nurses = days .before in
-    let start = at-start nurses in
+    let needs : tie.After-needs = search in
+    let start : tie.Start = search in
     let a = start .args in
     let fit = needs-of (a .w .now) (a .d) (start .pre .0) (start .pre .3) refl (needs .needs .ensures) in
     (start .pre .2, omega (arith, fit .size))
 
 returns : tie.Need-returns
 returns c =
-    let need = c .before in
-    let on-duty = need .before in
-    let needs = on-duty .before in
-    let column = needs .before in
-    let duty-letter = column .before in
-    let days = duty-letter .before in
-    let nurses = days .before in
-    let start = at-start nurses in
+    let need : tie.After-need = search in
+    let on-duty : tie.After-on-duty = search in
+    let needs : tie.After-needs = search in
+    let column : tie.After-column = search in
+    let duty-letter : tie.After-duty-letter = search in
+    let days : tie.After-days = search in
+    let nurses : tie.After-nurses = search in
+    let start : tie.Start = search in
     let a = start .args in
     need-short (a .w .now) (a .roster .now) (a .k) (a .d) _ (start .pre .0) (column-as (a .w .now) (a .roster .now) (a .k) (a .d) _ (column .column .ensures) (nurses .nurses .ensures .0) (days .days .ensures .0) (duty-letter .duty-letter .ensures))
     (needs .needs .ensures) (on-duty .on-duty .ensures) (need .need .ensures) (c .if1 .taken)
@@ -65,31 +57,24 @@ member-sets-requires c κs = search needs
 
 all-bounds-hold-requires : tie.Need-all-bounds-hold-requires
 all-bounds-hold-requires c κs =
-    let else1 = c .before in
-    let need = else1 .before in
-    let on-duty = need .before in
-    let needs = on-duty .before in
-    let column = needs .before in
-    let duty-letter = column .before in
-    let days = duty-letter .before in
-    let nurses = days .before in
-    let start = at-start nurses in
+    let needs : tie.After-needs = search in
+    let start : tie.Start = search in
     let a = start .args in
     let fit = needs-of (a .w .now) (a .d) (start .pre .0) (start .pre .3) (c .member-sets .ensures) (needs .needs .ensures) in
     (start .pre .2, fit .size, fit .groups)
 
 returns-2 : tie.Need-returns-2
 returns-2 c =
-    let member-sets = c .before in
-    let else1 = member-sets .before in
-    let need = else1 .before in
-    let on-duty = need .before in
-    let needs = on-duty .before in
-    let column = needs .before in
-    let duty-letter = column .before in
-    let days = duty-letter .before in
-    let nurses = days .before in
-    let start = at-start nurses in
+    let member-sets : tie.After-member-sets = search in
+    let else1 : tie.Else1 = search in
+    let need : tie.After-need = search in
+    let on-duty : tie.After-on-duty = search in
+    let needs : tie.After-needs = search in
+    let column : tie.After-column = search in
+    let duty-letter : tie.After-duty-letter = search in
+    let days : tie.After-days = search in
+    let nurses : tie.After-nurses = search in
+    let start : tie.Start = search in
     let a = start .args in
     need-enough (a .w .now) (a .roster .now) (a .k) (a .d) _ (start .pre .0) (column-as (a .w .now) (a .roster .now) (a .k) (a .d) _ (column .column .ensures) (nurses .nurses .ensures .0) (days .days .ensures .0) (duty-letter .duty-letter .ensures))
     (needs .needs .ensures) (member-sets .member-sets .ensures) (on-duty .on-duty .ensures) (need .need .ensures) (else1 .if1 .left) (c .all-bounds-hold .ensures)

@@ -12,7 +12,9 @@ returns c = ap dutyLetter (sym (c .if1 .taken))
 
 returns-2 : tie.Need-returns-2
 unfolding letter
-returns-2 c = let e : c .before .args .k ≡ 1 = omega arith in ap dutyLetter (sym e)
+returns-2 c =
+    let start : tie.Start = search in
+    let e : start .args .k ≡ 1 = omega arith in ap dutyLetter (sym e)
 
 pub duty-letter-spec : {M : Type 1} → statement M
 duty-letter-spec = tie.close (tie.spec returns returns-2)

@@ -10,7 +10,10 @@ bit-requires : tie.Need-bit-requires
 bit-requires c κs = search needs
 
 returns : tie.Need-returns
-returns c = c .bit .ensures ∙ ap (λ (x : Bool). cond x (2 ^ c .before .before .args .d) 0) (sym (c .before .if1 .taken))
+returns c =
+    let at-then1 : tie.Then1 = search in
+    let start : tie.Start = search in
+    c .bit .ensures ∙ ap (λ (x : Bool). cond x (2 ^ start .args .d) 0) (sym (at-then1 .if1 .taken))
 
 returns-2 : tie.Need-returns-2
 returns-2 c = search needs

@@ -28,7 +28,9 @@ day-if-requires : tie.Need-day-if-requires Inv-loop μ-loop
 day-if-requires c κs = search needs
 
 add-set : tie.Need-add-set Inv-loop μ-loop
-add-set c = let l : c .before .before .before .loop .d < dayPlaces = omega arith in omega (arith, read-fits _ _ _ _ (c .before .before .before .loop .inv .1) l (c .day-if .ensures))
+add-set c =
+    let loop : tie.At-loop Inv-loop μ-loop = search in
+    let l : loop .loop .d < dayPlaces = omega arith in omega (arith, read-fits _ _ _ _ (loop .loop .inv .1) l (c .day-if .ensures))
 
 add-d : tie.Need-add-d Inv-loop μ-loop
 add-d c = search needs
@@ -37,10 +39,14 @@ loop-less : tie.Need-loop-less Inv-loop μ-loop
 loop-less c = search needs
 
 loop-again : tie.Need-loop-again Inv-loop μ-loop
-loop-again c = (omega arith, read-more _ _ _ _ (c .before .before .before .loop .inv .1) (c .day-if .ensures))
+loop-again c =
+    let loop : tie.At-loop Inv-loop μ-loop = search in
+    (omega arith, read-more _ _ _ _ (loop .loop .inv .1) (c .day-if .ensures))
 
 returns : tie.Need-returns Inv-loop μ-loop
-returns c = read-end _ _ _ _ (c .before .loop .inv .1) (c .before .loop .inv .0) (c .loop-test .left)
+returns c =
+    let loop : tie.At-loop Inv-loop μ-loop = search in
+    read-end _ _ _ _ (loop .loop .inv .1) (loop .loop .inv .0) (c .loop-test .left)
 
 pub days-with-spec : {M : Type 1} → statement M
 days-with-spec =

@@ -14,10 +14,6 @@ Inv-loop b n roster at p q row d₀ d = (d ≤ n) × (sameRow b n roster at p q 
 abbrev μ-loop : tie.MeasureT-loop
 μ-loop b n roster at p q row d₀ d = n - d
 
--- the places of the function, each from the next
-abbrev at-start : tie.After-row-letters Inv-loop μ-loop → tie.Start Inv-loop μ-loop
-at-start c = c .before .before .before
-
 row-letters-requires : tie.Need-row-letters-requires Inv-loop μ-loop
 row-letters-requires c κs = search needs
 
@@ -41,10 +37,10 @@ loop-less c = search needs
 
 loop-again : tie.Need-loop-again Inv-loop μ-loop
 loop-again c =
-    let in-loop = c .before .before in
-    let loop = in-loop .before in
-    let row-letters = loop .before in
-    let start = at-start row-letters in
+    let in-loop : tie.In-loop Inv-loop μ-loop = search in
+    let loop : tie.At-loop Inv-loop μ-loop = search in
+    let row-letters : tie.After-row-letters Inv-loop μ-loop = search in
+    let start : tie.Start Inv-loop μ-loop = search in
     let s = start .args in
     let l = loop .loop in
     let in-month = in-loop .loop-test .taken in
@@ -52,10 +48,10 @@ loop-again c =
 
 returns : tie.Need-returns Inv-loop μ-loop
 returns c =
-    let in-loop = c .before .before in
-    let loop = in-loop .before in
-    let row-letters = loop .before in
-    let start = at-start row-letters in
+    let in-loop : tie.In-loop Inv-loop μ-loop = search in
+    let loop : tie.At-loop Inv-loop μ-loop = search in
+    let row-letters : tie.After-row-letters Inv-loop μ-loop = search in
+    let start : tie.Start Inv-loop μ-loop = search in
     let s = start .args in
     let l = loop .loop in
     let in-month = in-loop .loop-test .taken in
@@ -63,9 +59,8 @@ returns c =
 
 returns-2 : tie.Need-returns-2 Inv-loop μ-loop
 returns-2 c =
-    let loop = c .before in
-    let row-letters = loop .before in
-    let start = at-start row-letters in
+    let loop : tie.At-loop Inv-loop μ-loop = search in
+    let start : tie.Start Inv-loop μ-loop = search in
     let s = start .args in
     let l = loop .loop in
     row-end (s .b .now) (s .n) (s .roster .now) (s .at) (s .p) (s .q) (l .d) (l .inv .1) (c .loop-test .left)

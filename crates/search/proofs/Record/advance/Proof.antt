@@ -31,23 +31,8 @@ at-start c = c .before .before .before
 abbrev at-loop : tie.After-penalty-of Inv-loop μ-loop → tie.At-loop Inv-loop μ-loop
 at-loop c = c .before
 
-abbrev at-if1 : tie.Else2 Inv-loop μ-loop → tie.Else1 Inv-loop μ-loop
-at-if1 c = c .before
-
 abbrev at-penalty : tie.Else1 Inv-loop μ-loop → tie.After-penalty-of Inv-loop μ-loop
 at-penalty c = c .before
-
-abbrev at-if2 : tie.After-step Inv-loop μ-loop → tie.Else2 Inv-loop μ-loop
-at-if2 c = c .before
-
-abbrev step-stays : tie.Then3 Inv-loop μ-loop → tie.After-step Inv-loop μ-loop
-step-stays c = c .before .before
-
-abbrev step-moves : tie.Else3 Inv-loop μ-loop → tie.After-step Inv-loop μ-loop
-step-moves c = c .before .before
-
-abbrev moved : tie.After-after Inv-loop μ-loop → tie.Else3 Inv-loop μ-loop
-moved c = c .before
 
 -- the turn, in any phase that is served
 turn-at : (c : tie.After-penalty-of Inv-loop μ-loop) (P : Phase) → let loop = at-loop c in let a = (at-start loop) .args in
@@ -60,46 +45,64 @@ turn-at c P s e = let loop = at-loop c in
 running-at : (c : tie.At-loop Inv-loop μ-loop) → let a = (at-start c) .args in Running ((at-start c) .pre .1 .0) (a .k) (a .self) (c .loop .after) (c .loop .made)
 running-at c = let served = (at-start c) .pre .1 in c .loop .inv (served .0) (served .1) (served .2)
 
+sized : (c : tie.Start Inv-loop μ-loop) → Sized (c .args .self)
+sized c = record { patterns-long = search needs; placed-long = search needs; removals-long = simp length-map at (c .good .0 .1 .1 .1 .1 .0 .1 .0 .1) }
+
 loop-holds : tie.Need-loop-holds Inv-loop μ-loop
-loop-holds c = λ P s e.
-    let start = c .before .before in
-    let z : Sized (start .args .self) = record { patterns-long = search needs; placed-long = search needs; removals-long = simp length-map at (start .good .0 .1 .1 .1 .1 .0 .1 .0 .1) } in
-    running-start P (start .args .k) (start .args .self) z e
+loop-holds c =
+    let start : tie.Start Inv-loop μ-loop = search in
+    λ P s e. running-start P (start .args .k) (start .args .self) (sized start) e
 
 penalty-of-requires : tie.Need-penalty-of-requires Inv-loop μ-loop
-penalty-of-requires c κs = (at-start c) .pre .0 .0
+penalty-of-requires c κs =
+    let start : tie.Start Inv-loop μ-loop = search in
+    start .pre .0 .0
 
 returns : tie.Need-returns Inv-loop μ-loop
-returns c = λ P s e. ends-zero (turn-at (c .before) P s e) (c .if1 .taken)
+returns c =
+    let at-penalty-of : tie.After-penalty-of Inv-loop μ-loop = search in
+    λ P s e. ends-zero (turn-at at-penalty-of P s e) (c .if1 .taken)
 
 returns-2 : tie.Need-returns-2 Inv-loop μ-loop
-returns-2 c = let if1 = c .before in λ P s e. ends-asked (turn-at (at-penalty if1) P s e) (if1 .if1 .left) (c .if2 .taken)
+returns-2 c =
+    let if1 : tie.Else1 Inv-loop μ-loop = search in
+    λ P s e. ends-asked (turn-at (at-penalty if1) P s e) (if1 .if1 .left) (c .if2 .taken)
 
 step-requires : tie.Need-step-requires Inv-loop μ-loop
-step-requires c κs = let loop = at-loop (at-penalty (at-if1 c)) in
-    let start = at-start loop in
+step-requires c κs =
+    let loop : tie.At-loop Inv-loop μ-loop = search in
+    let start : tie.Start Inv-loop μ-loop = search in
     let run = running-at loop in
     ((start .pre .0 .0, start .pre .0 .1, omega (arith, run .counted, run .at-most, c .if2 .left, start .pre .0 .2)), (start .pre .1 .0, start .pre .1 .1))
 
 returns-3 : tie.Need-returns-3 Inv-loop μ-loop
-returns-3 c = let step = step-stays c in
-    let if2 = at-if2 step in
-    let if1 = at-if1 if2 in
-    λ P s e. stays-none (turn-at (at-penalty if1) P s e) (if1 .if1 .left) (if2 .if2 .left) (step .step .ensures P s) (not-true _ (c .if3 .taken))
+returns-3 c =
+    let step : tie.After-step Inv-loop μ-loop = search in
+    let if2 : tie.Else2 Inv-loop μ-loop = search in
+    let if1 : tie.Else1 Inv-loop μ-loop = search in
+    let at-penalty-of : tie.After-penalty-of Inv-loop μ-loop = search in
+    λ P s e. stays-none (turn-at at-penalty-of P s e) (if1 .if1 .left) (if2 .if2 .left) (step .step .ensures P s) (not-true _ (c .if3 .taken))
 
 add-made : tie.Need-add-made Inv-loop μ-loop
-add-made c = let loop = at-loop (at-penalty (at-if1 (at-if2 (step-moves (moved c))))) in
-    omega (arith, running-at loop .at-most, (at-start loop) .pre .0 .2)
+add-made c =
+    let loop : tie.At-loop Inv-loop μ-loop = search in
+    let start : tie.Start Inv-loop μ-loop = search in
+    omega (arith, running-at loop .at-most, start .pre .0 .2)
 
 loop-less : tie.Need-loop-less Inv-loop μ-loop
-loop-less c = let if2 = at-if2 (step-moves (moved c)) in
-    omega (arith, running-at (at-loop (at-penalty (at-if1 if2))) .at-most, if2 .if2 .left)
+loop-less c =
+    let if2 : tie.Else2 Inv-loop μ-loop = search in
+    let loop : tie.At-loop Inv-loop μ-loop = search in
+    omega (arith, running-at loop .at-most, if2 .if2 .left)
 
 loop-again : tie.Need-loop-again Inv-loop μ-loop
-loop-again c = let step = step-moves (moved c) in
-    let if2 = at-if2 step in
-    let if1 = at-if1 if2 in
-    λ P s e. moves-on (turn-at (at-penalty if1) P s e) (if1 .if1 .left) (if2 .if2 .left) (step .step .ensures P s) (not-false _ ((moved c) .if3 .left))
+loop-again c =
+    let at-else3 : tie.Else3 Inv-loop μ-loop = search in
+    let step : tie.After-step Inv-loop μ-loop = search in
+    let if2 : tie.Else2 Inv-loop μ-loop = search in
+    let if1 : tie.Else1 Inv-loop μ-loop = search in
+    let at-penalty-of : tie.After-penalty-of Inv-loop μ-loop = search in
+    λ P s e. moves-on (turn-at at-penalty-of P s e) (if1 .if1 .left) (if2 .if2 .left) (step .step .ensures P s) (not-false _ (at-else3 .if3 .left))
 
 pub advance-spec : {M : Type 1} → statement M
 advance-spec =

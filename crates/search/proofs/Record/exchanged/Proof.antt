@@ -26,8 +26,10 @@ add-after : tie.Need-add-after
 add-after c = search needs
 
 returns : tie.Need-returns
-returns c = let removal = c .before .before .before in
-    let a = removal .before .args in
+returns c =
+    let removal : tie.After-removal-by = search in
+    let start : tie.Start = search in
+    let a = start .args in
     exchanged-is (a .tl) (a .self) (a .nurse) (a .pattern) (removal .removal-by .ensures) (c .push .ensures)
 
 pub exchanged-spec : {M : Type 1} → statement M

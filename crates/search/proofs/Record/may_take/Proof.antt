@@ -20,8 +20,10 @@ element-copy-out-if2 : tie.Need-element-copy-out-if2
 element-copy-out-if2 c = search needs
 
 returns : tie.Need-returns
-returns c = let if1 = c .before .before in
-    let a = if1 .before .before .args in
+returns c =
+    let if1 : tie.Then1 = search in
+    let start : tie.Start = search in
+    let a = start .args in
     λ m l. may-not m (a .tl) (a .t1) (a .nurse) (a .pattern) l (rw (if1 .if1 .taken) (eq-eqb _ _ (c .if2 .taken)))
 
 cast-lesser : tie.Need-cast-lesser
@@ -41,9 +43,10 @@ barred-requires c κs = search needs
 
 returns-2 : tie.Need-returns-2
 returns-2 c =
-    let lesser = c .before .before in
-    let if1 = lesser .before in
-    let a = if1 .before .before .args in
+    let lesser : tie.After-lesser = search in
+    let if1 : tie.Joined1 = search in
+    let start : tie.Start = search in
+    let a = start .args in
     let u : holds (slotAt (a .t1) (a .nurse)) (a .pattern) ≡ false = ⊎-elim (λ t. rw (t .0 .taken, ne-eqb _ _ (t .2 .left))) (λ t. rw (t .left)) (if1 .if1 .came) in
     λ m l. may-else m (a .tl) (a .t1) (a .nurse) (a .pattern) l u (lesser .lesser .ensures) (c .barred .ensures)
 

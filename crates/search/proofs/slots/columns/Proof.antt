@@ -20,16 +20,6 @@ Inv-loop w rec which m cols₀ i₀ cols i = (i ≤ m) × ((slots : ℕ → Slot
 abbrev μ-loop : tie.MeasureT-loop
 μ-loop w rec which m cols₀ i₀ cols i = m - i
 
--- the places, each from the next
-abbrev at-start : tie.After-nurses Inv-loop μ-loop → tie.Start Inv-loop μ-loop
-at-start c = c .before .before
-
-abbrev at-nurses : tie.After-empty Inv-loop μ-loop → tie.After-nurses Inv-loop μ-loop
-at-nurses c = c .before
-
-abbrev at-empty : tie.At-loop Inv-loop μ-loop → tie.After-empty Inv-loop μ-loop
-at-empty c = c .before
-
 nurses-requires : tie.Need-nurses-requires Inv-loop μ-loop
 nurses-requires c κs = search needs
 
@@ -37,7 +27,9 @@ empty-requires : tie.Need-empty-requires Inv-loop μ-loop
 empty-requires c κs = search needs
 
 loop-holds : tie.Need-loop-holds Inv-loop μ-loop
-loop-holds c = let args = (at-start (at-nurses c)) .args in (omega arith, λ slots a. columns-start (args .search) (args .w .now) slots _ (c .empty .ensures))
+loop-holds c =
+    let start : tie.Start Inv-loop μ-loop = search in
+    let args = start .args in (omega arith, λ slots a. columns-start (args .search) (args .w .now) slots _ (c .empty .ensures))
 
 with-row-requires : tie.Need-with-row-requires Inv-loop μ-loop
 with-row-requires c κs = search needs
@@ -49,15 +41,19 @@ loop-less : tie.Need-loop-less Inv-loop μ-loop
 loop-less c = search needs
 
 loop-again : tie.Need-loop-again Inv-loop μ-loop
-loop-again c = let loop = c .before .before in
-    let nurses = at-nurses (at-empty loop) in
-    let args = (at-start nurses) .args in
+loop-again c =
+    let loop : tie.At-loop Inv-loop μ-loop = search in
+    let nurses : tie.After-nurses Inv-loop μ-loop = search in
+    let start : tie.Start Inv-loop μ-loop = search in
+    let args = start .args in
     (search needs, λ slots a. c .with-row .ensures slots (agree-at (args .w .now) (args .rec) slots (loop .loop .i) a (omega (arith, nurses .nurses .ensures .0))) (loop .loop .inv .1 slots a))
 
 returns : tie.Need-returns Inv-loop μ-loop
-returns c = let loop = c .before in
-    let nurses = at-nurses (at-empty loop) in
-    let args = (at-start nurses) .args in
+returns c =
+    let loop : tie.At-loop Inv-loop μ-loop = search in
+    let nurses : tie.After-nurses Inv-loop μ-loop = search in
+    let start : tie.Start Inv-loop μ-loop = search in
+    let args = start .args in
     λ slots a. columns-end (args .search) (args .w .now) slots _ (loop .loop .inv .1 slots a) (loop .loop .inv .0) (c .loop-test .left) (nurses .nurses .ensures .0)
 
 pub columns-spec : {M : Type 1} → statement M

@@ -25,13 +25,6 @@ Inv-loop b n mark set₀ d₀ set d = (d ≤ n) × (set ≡ numberOf (marked b m
 abbrev μ-loop : tie.MeasureT-loop
 μ-loop b n mark set₀ d₀ set d = n - d
 
--- the places of the function, each from the next
-abbrev at-start : tie.At-loop Inv-loop μ-loop → tie.Start Inv-loop μ-loop
-at-start c = c .before .before
-
-abbrev at-loop : tie.After-mark Inv-loop μ-loop → tie.At-loop Inv-loop μ-loop
-at-loop c = c .before .before
-
 loop-holds : tie.Need-loop-holds Inv-loop μ-loop
 loop-holds c = (search needs, sym (number-zero _))
 
@@ -43,9 +36,9 @@ bit-requires c κs = search needs
 
 add-set : tie.Need-add-set Inv-loop μ-loop
 add-set c =
-    let mark = c .before .before in
-    let loop = at-loop mark in
-    let start = at-start loop in
+    let mark : tie.After-mark Inv-loop μ-loop = search in
+    let loop : tie.At-loop Inv-loop μ-loop = search in
+    let start : tie.Start Inv-loop μ-loop = search in
     omega (arith, set-fits (marked (start .args .b .now) (start .args .mark)) (loop .loop .d) (loop .loop .inv .1) (c .bit .ensures) (omega arith))
 
 add-d : tie.Need-add-d Inv-loop μ-loop
@@ -56,9 +49,9 @@ loop-less c = search needs
 
 loop-again : tie.Need-loop-again Inv-loop μ-loop
 loop-again c =
-    let mark = c .before in
-    let loop = at-loop mark in
-    let start = at-start loop in
+    let mark : tie.After-mark Inv-loop μ-loop = search in
+    let loop : tie.At-loop Inv-loop μ-loop = search in
+    let start : tie.Start Inv-loop μ-loop = search in
     let l = loop .loop in
     let here = marked (start .args .b .now) (start .args .mark) in
     let mark-is = mark .mark .ensures .0 in (
@@ -71,8 +64,8 @@ loop-again c =
 
 returns : tie.Need-returns Inv-loop μ-loop
 returns c =
-    let loop = c .before in
-    let start = at-start loop in
+    let loop : tie.At-loop Inv-loop μ-loop = search in
+    let start : tie.Start Inv-loop μ-loop = search in
     let l = loop .loop in
     let done : l .d ≡ start .args .n = omega arith in
     l .inv .1 ∙ ap (numberOf (marked (start .args .b .now) (start .args .mark))) done

@@ -13,9 +13,6 @@ use Rattle.fields.proofs.block.Reads as block-reads
 use Rattle.fields.proofs.days.Reads as days-reads
 
 -- the places, each from the next
-abbrev start-placed : tie.Then1 → tie.Start
-start-placed c = c .before .before .before
-
 abbrev start-unplaced : tie.Else1 → tie.Start
 start-unplaced c = c .before .before .before
 
@@ -24,12 +21,6 @@ is-unplaced c = c .before
 
 abbrev at-days : tie.After-block → tie.After-days
 at-days c = c .before
-
-abbrev block-night : tie.After-enum-told → tie.After-block
-block-night c = c .before .before
-
-abbrev block-day : tie.After-enum-told2 → tie.After-block
-block-day c = c .before .before
 
 abbrev start-of : tie.After-block → tie.Start
 start-of c = start-unplaced (is-unplaced (at-days c))
@@ -48,7 +39,10 @@ element-copy-out-result : tie.Need-element-copy-out-result
 element-copy-out-result c = search needs
 
 returns : tie.Need-returns
-returns c = let a = (start-placed (c .before)) .args in pattern-placed (a .w .now) (a .t2) (a .i) (a .search) (c .before .if1 .taken)
+returns c =
+    let at-then1 : tie.Then1 = search in
+    let start : tie.Start = search in
+    let a = start .args in pattern-placed (a .w .now) (a .t2) (a .i) (a .search) (at-then1 .if1 .taken)
 
 days-requires : tie.Need-days-requires
 days-requires c κs = search needs
@@ -63,24 +57,34 @@ enum-told-2 : tie.Need-enum-told-2
 enum-told-2 c = search needs
 
 marked-days-requires : tie.Need-marked-days-requires
-marked-days-requires c κs = block-at (block-night c)
+marked-days-requires c κs =
+    let at-block : tie.After-block = search in
+    block-at at-block
 
 returns-2 : tie.Need-returns-2
-returns-2 c = let told = c .before in
-    let block = block-night told in
-    let days = at-days block in
-    let a = (start-of block) .args in
-    pattern-nights (a .w .now) (a .t2) (a .i) (a .search) ((is-unplaced days) .if1 .left) (told .enum-told .given .1) (days .days .ensures .0) (block .block .ensures) (c .marked-days .ensures)
+returns-2 c =
+    let told : tie.After-enum-told = search in
+    let block : tie.After-block = search in
+    let days : tie.After-days = search in
+    let at-else1 : tie.Else1 = search in
+    let start : tie.Start = search in
+    let a = start .args in
+    pattern-nights (a .w .now) (a .t2) (a .i) (a .search) (at-else1 .if1 .left) (told .enum-told .given .1) (days .days .ensures .0) (block .block .ensures) (c .marked-days .ensures)
 
 marked-days-requires-2 : tie.Need-marked-days-requires-2
-marked-days-requires-2 c κs = block-at (block-day c)
+marked-days-requires-2 c κs =
+    let at-block : tie.After-block = search in
+    block-at at-block
 
 returns-3 : tie.Need-returns-3
-returns-3 c = let told = c .before in
-    let block = block-day told in
-    let days = at-days block in
-    let a = (start-of block) .args in
-    pattern-days (a .w .now) (a .t2) (a .i) (a .search) ((is-unplaced days) .if1 .left) (told .enum-told2 .given .1) (days .days .ensures .0) (block .block .ensures) (c .marked-days2 .ensures)
+returns-3 c =
+    let told : tie.After-enum-told2 = search in
+    let block : tie.After-block = search in
+    let days : tie.After-days = search in
+    let at-else1 : tie.Else1 = search in
+    let start : tie.Start = search in
+    let a = start .args in
+    pattern-days (a .w .now) (a .t2) (a .i) (a .search) (at-else1 .if1 .left) (told .enum-told2 .given .1) (days .days .ensures .0) (block .block .ensures) (c .marked-days2 .ensures)
 
 pub pattern-in-spec : {M : Type 1} → statement M
 pattern-in-spec =

@@ -20,11 +20,12 @@ total-requires : tie.Need-total-requires
 total-requires c κs = search needs
 
 returns : tie.Need-returns
-returns c = let parts = c .before in
-    let unplaced = parts .before in
-    let columns = unplaced .before in
-    let nurses = columns .before in
-    let start = nurses .before .before in
+returns c =
+    let parts : tie.After-parts = search in
+    let unplaced : tie.After-unplaced = search in
+    let columns : tie.After-columns = search in
+    let nurses : tie.After-nurses = search in
+    let start : tie.Start = search in
     λ slots a. penalty-is (start .args .search) (start .args .w .now) (start .args .rec) slots _ (nurses .nurses .ensures .0) (unplaced .unplaced .ensures) a (columns .columns .ensures) (c .total .ensures) (parts .parts .ensures .1)
 
 pub penalty-of-spec : {M : Type 1} → statement M

@@ -39,13 +39,17 @@ loop-less : tie.Need-loop-less Inv-loop μ-loop
 loop-less c = search needs
 
 loop-again : tie.Need-loop-again Inv-loop μ-loop
-loop-again c = let loop = c .before .before .before in
-    let a = loop .before .args in
+loop-again c =
+    let loop : tie.At-loop Inv-loop μ-loop = search in
+    let start : tie.Start Inv-loop μ-loop = search in
+    let a = start .args in
     (omega arith, loop-turn 0 0 1 (λ j. oneIf (not (getD (a .t1 .placed) j false))) (loop .loop .i) (loop .loop .inv .1) (record { is = c .one-if .ensures .0; most = c .one-if .ensures .1 }))
 
 returns : tie.Need-returns Inv-loop μ-loop
-returns c = let loop = c .before in
-    let a = loop .before .args in
+returns c =
+    let loop : tie.At-loop Inv-loop μ-loop = search in
+    let start : tie.Start Inv-loop μ-loop = search in
+    let a = start .args in
     loop-end0 1 (λ j. oneIf (not (getD (a .t1 .placed) j false))) (a .m) nursePlaces (loop .loop .inv .1) (omega arith) (omega arith)
 
 pub unplaced-spec : {M : Type 1} → statement M

@@ -12,22 +12,6 @@ use Rattle.penalty.proofs.columns.Columns.with_nurse.Reads as with-nurse-reads
 use Rattle.search.proofs.slots.pattern_in.Reads as pattern-in-reads
 use Rattle.fields.proofs.days.Reads as days-reads
 
--- the places, each from the next
-abbrev at-start : tie.After-days → tie.Start
-at-start c = c .before .before
-
-abbrev at-days : tie.After-pattern-in → tie.After-days
-at-days c = c .before
-
-abbrev pattern-night : tie.After-enum-told → tie.After-pattern-in
-pattern-night c = c .before .before
-
-abbrev pattern-day : tie.After-enum-told2 → tie.After-pattern-in
-pattern-day c = c .before .before
-
-abbrev at-masks : tie.After-available-days → tie.After-masks-of
-at-masks c = c .before
-
 days-requires : tie.Need-days-requires
 days-requires c κs = search needs
 
@@ -53,19 +37,23 @@ with-nurse-requires-2 : tie.Need-with-nurse-requires-2
 with-nurse-requires-2 c κs = search needs
 
 returns : tie.Need-returns
-returns c = let masks = at-masks (c .before) in
-    let told = masks .before in
-    let pattern = pattern-night told in
-    let days = at-days pattern in
-    let start = at-start days in
+returns c =
+    let at-available-days : tie.After-available-days = search in
+    let masks : tie.After-masks-of = search in
+    let told : tie.After-enum-told = search in
+    let pattern : tie.After-pattern-in = search in
+    let days : tie.After-days = search in
+    let start : tie.Start = search in
     let a = start .args in
-    λ slots same s. row-night (a .w .now) (a .rec) (a .i) (a .cols) slots (a .search) (told .enum-told .given .1) (days .days .ensures .0) (start .pre .0 .days-most) (pattern .pattern-in .ensures) (masks .masks-of .ensures .0) (c .before .available-days .ensures (rulesOf (a .w .now))) (c .with-nurse .ensures) same s
+    λ slots same s. row-night (a .w .now) (a .rec) (a .i) (a .cols) slots (a .search) (told .enum-told .given .1) (days .days .ensures .0) (start .pre .0 .days-most) (pattern .pattern-in .ensures) (masks .masks-of .ensures .0) (at-available-days .available-days .ensures (rulesOf (a .w .now))) (c .with-nurse .ensures) same s
 
 returns-2 : tie.Need-returns-2
-returns-2 c = let told = c .before in
-    let pattern = pattern-day told in
-    let days = at-days pattern in
-    let a = (at-start days) .args in
+returns-2 c =
+    let told : tie.After-enum-told2 = search in
+    let pattern : tie.After-pattern-in = search in
+    let days : tie.After-days = search in
+    let start : tie.Start = search in
+    let a = start .args in
     λ slots same s. row-day (a .w .now) (a .rec) (a .i) (a .cols) slots (a .search) (told .enum-told2 .given .1) (days .days .ensures .0) (pattern .pattern-in .ensures) (c .with-nurse2 .ensures) same s
 
 pub with-row-spec : {M : Type 1} → statement M

@@ -23,22 +23,6 @@ Inv-loop w lists stretches rec m cols unplaced best₀ i₀ best i = (i ≤ m) �
 abbrev μ-loop : tie.MeasureT-loop
 μ-loop w lists stretches rec m cols unplaced best₀ i₀ best i = m - i
 
--- the places, each from the next
-abbrev at-start : tie.After-nurses Inv-loop μ-loop → tie.Start Inv-loop μ-loop
-at-start c = c .before .before .before
-
-abbrev at-nurses : tie.After-columns Inv-loop μ-loop → tie.After-nurses Inv-loop μ-loop
-at-nurses c = c .before
-
-abbrev at-columns : tie.After-unplaced Inv-loop μ-loop → tie.After-columns Inv-loop μ-loop
-at-columns c = c .before
-
-abbrev at-unplaced : tie.At-loop Inv-loop μ-loop → tie.After-unplaced Inv-loop μ-loop
-at-unplaced c = c .before
-
-abbrev start-of : tie.After-unplaced Inv-loop μ-loop → tie.Start Inv-loop μ-loop
-start-of c = at-start (at-nurses (at-columns c))
-
 nurses-requires : tie.Need-nurses-requires Inv-loop μ-loop
 nurses-requires c κs = search needs
 
@@ -49,13 +33,17 @@ unplaced-requires : tie.Need-unplaced-requires Inv-loop μ-loop
 unplaced-requires c κs = search needs
 
 loop-holds : tie.Need-loop-holds Inv-loop μ-loop
-loop-holds c = (omega arith, λ P s. best-start s ((start-of c) .args .rec))
+loop-holds c =
+    let start : tie.Start Inv-loop μ-loop = search in
+    (omega arith, λ P s. best-start s (start .args .rec))
 
 over-nurse-requires : tie.Need-over-nurse-requires Inv-loop μ-loop
-over-nurse-requires c κs = let unplaced = at-unplaced (c .before) in
-    let columns = at-columns unplaced in
-    let start = start-of unplaced in
-    nurse-needs (start .pre .0) (start .pre .1) ((at-nurses columns) .nurses .ensures .0) (unplaced .unplaced .ensures) (columns .columns .ensures) (c .loop-test .taken)
+over-nurse-requires c κs =
+    let unplaced : tie.After-unplaced Inv-loop μ-loop = search in
+    let columns : tie.After-columns Inv-loop μ-loop = search in
+    let at-nurses : tie.After-nurses Inv-loop μ-loop = search in
+    let start : tie.Start Inv-loop μ-loop = search in
+    nurse-needs (start .pre .0) (start .pre .1) (at-nurses .nurses .ensures .0) (unplaced .unplaced .ensures) (columns .columns .ensures) (c .loop-test .taken)
 
 add-i : tie.Need-add-i Inv-loop μ-loop
 add-i c = search needs
@@ -64,14 +52,18 @@ loop-less : tie.Need-loop-less Inv-loop μ-loop
 loop-less c = search needs
 
 loop-again : tie.Need-loop-again Inv-loop μ-loop
-loop-again c = let loop = c .before .before in
-    let start = start-of (at-unplaced loop) in
+loop-again c =
+    let loop : tie.At-loop Inv-loop μ-loop = search in
+    let start : tie.Start Inv-loop μ-loop = search in
     (search needs, λ P s. best-turn s (start .args .rec) (loop .loop .i) (loop .loop .inv .1 P s) (c .over-nurse .ensures P s))
 
 returns : tie.Need-returns Inv-loop μ-loop
-returns c = let unplaced = at-unplaced (c .before) in
-    let inv = c .before .loop .inv in
-    λ P s. best-end s ((start-of unplaced) .args .rec) (inv .1 P s) (inv .0) (c .loop-test .left) ((at-nurses (at-columns unplaced)) .nurses .ensures .0)
+returns c =
+    let loop : tie.At-loop Inv-loop μ-loop = search in
+    let at-nurses : tie.After-nurses Inv-loop μ-loop = search in
+    let start : tie.Start Inv-loop μ-loop = search in
+    let inv = loop .loop .inv in
+    λ P s. best-end s (start .args .rec) (inv .1 P s) (inv .0) (c .loop-test .left) (at-nurses .nurses .ensures .0)
 
 pub best-of-spec : {M : Type 1} → statement M
 best-of-spec =

@@ -12,8 +12,9 @@ may-take-requires c κs = search needs
 
 returns : tie.Need-returns
 returns c =
-    let take = c .before in
-    let a = take .before .args in
+    let take : tie.After-may-take = search in
+    let start : tie.Start = search in
+    let a = start .args in
     λ m l.
     considered-barred (mayTake (view m (a .tl) (a .rec)) (a .nurse)) (a .cost) (a .nurse) (a .best) (a .pattern) (take .may-take .ensures m l) (not-true _ (c .if1 .taken))
 
@@ -22,19 +23,23 @@ improves-requires c κs = search needs
 
 returns-2 : tie.Need-returns-2
 returns-2 c =
-    let if1 = c .before .before in
-    let take = if1 .before in
-    let a = take .before .args in
+    let at-improves : tie.After-improves = search in
+    let if1 : tie.Else1 = search in
+    let take : tie.After-may-take = search in
+    let start : tie.Start = search in
+    let a = start .args in
     λ m l.
-    considered-worse (mayTake (view m (a .tl) (a .rec)) (a .nurse)) (a .cost) (a .nurse) (a .best) (a .pattern) (take .may-take .ensures m l) (not-false _ (if1 .if1 .left)) (c .before .improves .ensures) (not-true _ (c .if2 .taken))
+    considered-worse (mayTake (view m (a .tl) (a .rec)) (a .nurse)) (a .cost) (a .nurse) (a .best) (a .pattern) (take .may-take .ensures m l) (not-false _ (if1 .if1 .left)) (at-improves .improves .ensures) (not-true _ (c .if2 .taken))
 
 returns-3 : tie.Need-returns-3
 returns-3 c =
-    let if1 = c .before .before in
-    let take = if1 .before in
-    let a = take .before .args in
+    let at-improves : tie.After-improves = search in
+    let if1 : tie.Else1 = search in
+    let take : tie.After-may-take = search in
+    let start : tie.Start = search in
+    let a = start .args in
     λ m l.
-    considered-better (mayTake (view m (a .tl) (a .rec)) (a .nurse)) (a .cost) (a .nurse) (a .best) (a .pattern) (take .may-take .ensures m l) (not-false _ (if1 .if1 .left)) (c .before .improves .ensures) (not-false _ (c .if2 .left))
+    considered-better (mayTake (view m (a .tl) (a .rec)) (a .nurse)) (a .cost) (a .nurse) (a .best) (a .pattern) (take .may-take .ensures m l) (not-false _ (if1 .if1 .left)) (at-improves .improves .ensures) (not-false _ (c .if2 .left))
 
 pub consider-spec : {M : Type 1} → statement M
 consider-spec =

@@ -17,10 +17,14 @@ sub-result : tie.Need-sub-result
 sub-result c = search needs
 
 returns-2 : tie.Need-returns-2
-returns-2 c = ((λ a q. omega (arith, others-unplaced _ a (c .before .if1 .left) q)), omega arith)
+returns-2 c =
+    let at-else1 : tie.Else1 = search in
+    ((λ a q. omega (arith, others-unplaced _ a (at-else1 .if1 .left) q)), omega arith)
 
 returns-3 : tie.Need-returns-3
-returns-3 c = ((λ a q. omega (arith, others-unplaced _ a (c .before .if1 .left) q)), omega arith)
+returns-3 c =
+    let at-else1 : tie.Else1 = search in
+    ((λ a q. omega (arith, others-unplaced _ a (at-else1 .if1 .left) q)), omega arith)
 
 pub others-than-spec : {M : Type 1} → statement M
 others-than-spec = tie.close (tie.spec element-copy-out-if1 returns sub-result returns-2 returns-3)

@@ -25,13 +25,6 @@ Inv-loop part t others rec tl i best₀ k₀ k-end best k = (k ≤ length part) 
 abbrev μ-loop : tie.MeasureT-loop
 μ-loop part t others rec tl i best₀ k₀ k-end best k = length part - k
 
--- the places, each from the next
-abbrev at-start : tie.At-loop Inv-loop μ-loop → tie.Start Inv-loop μ-loop
-at-start c = c .before .before
-
-abbrev in-loop : tie.After-chunk-trial Inv-loop μ-loop → tie.In-loop Inv-loop μ-loop
-in-loop c = c .before .before
-
 loop-holds : tie.Need-loop-holds Inv-loop μ-loop
 loop-holds c = (search needs, λ m cost l t. sym (over-nil _ _ _ _))
 
@@ -63,11 +56,13 @@ loop-less : tie.Need-loop-less Inv-loop μ-loop
 loop-less c = search needs
 
 loop-again : tie.Need-loop-again Inv-loop μ-loop
-loop-again c = let improves = c .before in
-    let trial = improves .before in
-    let inside = in-loop trial in
-    let loop = inside .before in
-    let a = (at-start loop) .args in
+loop-again c =
+    let improves : tie.After-improves Inv-loop μ-loop = search in
+    let trial : tie.After-chunk-trial Inv-loop μ-loop = search in
+    let inside : tie.In-loop Inv-loop μ-loop = search in
+    let loop : tie.At-loop Inv-loop μ-loop = search in
+    let start : tie.Start Inv-loop μ-loop = search in
+    let a = start .args in
     let taken = inside .loop-test .taken in (
       omega arith,
       λ m cost l t.
@@ -81,7 +76,9 @@ loop-again c = let improves = c .before in
     )
 
 returns : tie.Need-returns Inv-loop μ-loop
-returns c = λ m cost l t. c .before .loop .inv .1 m cost l t ∙ over-done _ _ _ _ _ _ (c .loop-test .left)
+returns c =
+    let loop : tie.At-loop Inv-loop μ-loop = search in
+    λ m cost l t. loop .loop .inv .1 m cost l t ∙ over-done _ _ _ _ _ _ (c .loop-test .left)
 
 pub over-days-spec : {M : Type 1} → statement M
 over-days-spec =

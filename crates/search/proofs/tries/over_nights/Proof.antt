@@ -82,12 +82,14 @@ loop-less : tie.Need-loop-less Inv-loop μ-loop
 loop-less c = search needs
 
 loop-again : tie.Need-loop-again Inv-loop μ-loop
-loop-again c = let inside = in-loop (c .before) in
-    let loop = inside .before in
-    let start = at-start loop in
+loop-again c =
+    let at-passes : tie.After-passes Inv-loop μ-loop = search in
+    let inside : tie.In-loop Inv-loop μ-loop = search in
+    let loop : tie.At-loop Inv-loop μ-loop = search in
+    let start : tie.Start Inv-loop μ-loop = search in
     let a = start .args in
     let taken = inside .loop-test .taken in
-    let hers-is = passes-at (c .before) in (
+    let hers-is = passes-at at-passes in (
       omega arith,
       λ m cost l t.
           let may = mayTake (view m (a .tl) (a .rec)) (a .i) in
@@ -107,7 +109,9 @@ loop-again c = let inside = in-loop (c .before) in
     )
 
 returns : tie.Need-returns Inv-loop μ-loop
-returns c = λ m cost l t. c .before .loop .inv .1 m cost l t ∙ over-done _ _ _ _ _ _ (c .loop-test .left)
+returns c =
+    let loop : tie.At-loop Inv-loop μ-loop = search in
+    λ m cost l t. loop .loop .inv .1 m cost l t ∙ over-done _ _ _ _ _ _ (c .loop-test .left)
 
 pub over-nights-spec : {M : Type 1} → statement M
 over-nights-spec =

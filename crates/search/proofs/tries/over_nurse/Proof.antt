@@ -25,23 +25,8 @@ at-tabu c = c .before
 abbrev at-table : tie.After-others-than → tie.After-table
 at-table c = c .before
 
-abbrev others-night : tie.After-enum-told → tie.After-others-than
-others-night c = c .before .before
-
 abbrev others-day : tie.After-enum-told2 → tie.After-others-than
 others-day c = c .before .before
-
-abbrev by-day : tie.After-e → tie.After-enum-told2
-by-day c = c .before .before
-
-abbrev at-e : tie.After-over-days → tie.After-e
-at-e c = c .before .before .before
-
-abbrev at-masks : tie.After-t → tie.After-masks-of
-at-masks c = c .before
-
-abbrev by-night : tie.After-masks-of → tie.After-enum-told
-by-night c = c .before
 
 abbrev start-of : tie.After-others-than → tie.Start
 start-of c = at-start (at-tabu (at-table c))
@@ -94,39 +79,52 @@ element-copy-out-e : tie.Need-element-copy-out-e
 element-copy-out-e c = search needs
 
 mul-over-days : tie.Need-mul-over-days
-mul-over-days c = omega (arith, stretch-at (by-day c), (start-of (others-day (by-day c))) .good)
+mul-over-days c =
+    let at-enum-told2 : tie.After-enum-told2 = search in
+    let start : tie.Start = search in
+    omega (arith, stretch-at at-enum-told2, start .good)
 
 sub-over-days : tie.Need-sub-over-days
-sub-over-days c = stretch-at (by-day c) .0
+sub-over-days c =
+    let at-enum-told2 : tie.After-enum-told2 = search in
+    stretch-at at-enum-told2 .0
 
 part-over-days-start : tie.Need-part-over-days-start
-part-over-days-start c = stretch-at (by-day c) .0
+part-over-days-start c =
+    let at-enum-told2 : tie.After-enum-told2 = search in
+    stretch-at at-enum-told2 .0
 
 part-over-days-end : tie.Need-part-over-days-end
-part-over-days-end c = stretch-at (by-day c) .1
+part-over-days-end c =
+    let at-enum-told2 : tie.After-enum-told2 = search in
+    stretch-at at-enum-told2 .1
 
 over-days-requires : tie.Need-over-days-requires
 over-days-requires c κs = search needs
 
 returns-2 : tie.Need-returns-2
-returns-2 c = let day = by-day (at-e c) in
-    let others = others-day day in
-    let start = start-of others in
+returns-2 c =
+    let day : tie.After-enum-told2 = search in
+    let others : tie.After-others-than = search in
+    let start : tie.Start = search in
     λ P s. nurse-days (start .pre) (table-at others) P s (start .args .held) (day .enum-told2 .given .1) (c .over-days .ensures)
 
 masks-of-requires : tie.Need-masks-of-requires
 masks-of-requires c κs = search needs
 
 over-nights-requires : tie.Need-over-nights-requires
-over-nights-requires c κs = let masks = at-masks c in
-    let night = by-night masks in
-    let others = others-night night in
-    nights-need ((start-of others) .pre) (table-at others) (night .enum-told .given .1) (masks .masks-of .ensures .1) (masks .masks-of .ensures .0)
+over-nights-requires c κs =
+    let masks : tie.After-masks-of = search in
+    let night : tie.After-enum-told = search in
+    let others : tie.After-others-than = search in
+    let start : tie.Start = search in
+    nights-need (start .pre) (table-at others) (night .enum-told .given .1) (masks .masks-of .ensures .1) (masks .masks-of .ensures .0)
 
 returns : tie.Need-returns
-returns c = let night = by-night (at-masks (c .before)) in
-    let others = others-night night in
-    let start = start-of others in
+returns c =
+    let night : tie.After-enum-told = search in
+    let others : tie.After-others-than = search in
+    let start : tie.Start = search in
     λ P s. nurse-nights (start .pre) (table-at others) P s (start .args .held) (night .enum-told .given .1) (c .over-nights .ensures)
 
 pub over-nurse-spec : {M : Type 1} → statement M

@@ -8,16 +8,26 @@ has-bit-requires : tie.Need-has-bit-requires
 has-bit-requires c κs = search needs
 
 returns : tie.Need-returns
-returns c = rw (sym (c .before .has-bit .ensures) ∙ c .if1 .taken)
+returns c =
+    let at-has-bit : tie.After-has-bit = search in
+    rw (sym (at-has-bit .has-bit .ensures) ∙ c .if1 .taken)
 
 has-bit-requires-2 : tie.Need-has-bit-requires-2
 has-bit-requires-2 c κs = search needs
 
 returns-2 : tie.Need-returns-2
-returns-2 c = rw (sym (c .before .before .before .has-bit .ensures) ∙ c .before .before .if1 .left, sym (c .before .has-bit2 .ensures) ∙ c .if2 .taken)
+returns-2 c =
+    let at-has-bit2 : tie.After-has-bit2 = search in
+    let at-else1 : tie.Else1 = search in
+    let at-has-bit : tie.After-has-bit = search in
+    rw (sym (at-has-bit .has-bit .ensures) ∙ at-else1 .if1 .left, sym (at-has-bit2 .has-bit2 .ensures) ∙ c .if2 .taken)
 
 returns-3 : tie.Need-returns-3
-returns-3 c = rw (sym (c .before .before .before .has-bit .ensures) ∙ c .before .before .if1 .left, sym (c .before .has-bit2 .ensures) ∙ c .if2 .left)
+returns-3 c =
+    let at-has-bit2 : tie.After-has-bit2 = search in
+    let at-else1 : tie.Else1 = search in
+    let at-has-bit : tie.After-has-bit = search in
+    rw (sym (at-has-bit .has-bit .ensures) ∙ at-else1 .if1 .left, sym (at-has-bit2 .has-bit2 .ensures) ∙ c .if2 .left)
 
 pub by-bit-spec : {M : Type 1} → statement M
 by-bit-spec = tie.close (tie.spec has-bit-requires returns has-bit-requires-2 returns-2 returns-3)

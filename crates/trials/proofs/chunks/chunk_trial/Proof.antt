@@ -60,7 +60,11 @@ element-copy-out-total : tie.Need-element-copy-out-total Inv-loop μ-loop
 element-copy-out-total c = search needs
 
 add-total-3 : tie.Need-add-total-3 Inv-loop μ-loop
-add-total-3 c = omega (arith, read-is (c .before .before .before .args .t .now) (c .before .before .before .args .nights) (c .before .before .before .args .available) (c .before .before .loop .b) (c .before .before .before .pre) (c .before .loop-test .taken) .most, c .before .before .loop .inv .1 .most)
+add-total-3 c =
+    let turn : tie.In-loop Inv-loop μ-loop = search in
+    let loop : tie.At-loop Inv-loop μ-loop = search in
+    let start : tie.Start Inv-loop μ-loop = search in
+    omega (arith, read-is (start .args .t .now) (start .args .nights) (start .args .available) (loop .loop .b) (start .pre) (turn .loop-test .taken) .most, loop .loop .inv .1 .most)
 
 add-b : tie.Need-add-b Inv-loop μ-loop
 add-b c = search needs
@@ -69,11 +73,17 @@ loop-less : tie.Need-loop-less Inv-loop μ-loop
 loop-less c = search needs
 
 loop-again : tie.Need-loop-again Inv-loop μ-loop
-loop-again c = (omega arith, read-turn _ _ _ _ (c .before .before .loop .inv .1) (read-is _ _ _ _ (c .before .before .before .pre) (c .before .loop-test .taken)))
+loop-again c =
+    let turn : tie.In-loop Inv-loop μ-loop = search in
+    let loop : tie.At-loop Inv-loop μ-loop = search in
+    let start : tie.Start Inv-loop μ-loop = search in
+    (omega arith, read-turn _ _ _ _ (loop .loop .inv .1) (read-is _ _ _ _ (start .pre) (turn .loop-test .taken)))
 
 returns : tie.Need-returns Inv-loop μ-loop
-returns c = let e : c .before .loop .b ≡ 11 = omega arith in
-    (chunk-end _ _ _ (c .before .loop .inv .1) e, omega (arith, c .before .loop .inv .1 .most))
+returns c =
+    let loop : tie.At-loop Inv-loop μ-loop = search in
+    let e : loop .loop .b ≡ 11 = omega arith in
+    (chunk-end _ _ _ (loop .loop .inv .1) e, omega (arith, loop .loop .inv .1 .most))
 
 pub chunk-trial-spec : {M : Type 1} → statement M
 chunk-trial-spec =

@@ -5,13 +5,6 @@ use borrow.Author.Needs.{needs}
 use Rattle.trials.proofs.costs.on_day.Statement.{statement}
 use Rattle.trials.proofs.costs.on_day.Tie as tie
 
--- the places, each from the next
-abbrev start-night : tie.After-enum-told → tie.Start
-start-night c = c .before .before .before
-
-abbrev start-day : tie.After-enum-told2 → tie.Start
-start-day c = c .before .before .before
-
 enum-told : tie.Need-enum-told
 enum-told c = search needs
 
@@ -25,13 +18,17 @@ day-day-requires : tie.Need-day-day-requires
 day-day-requires c κs = search needs
 
 returns : tie.Need-returns
-returns c = let night = c .before in
-    let a = (start-night night) .args in
+returns c =
+    let night : tie.After-enum-told = search in
+    let start : tie.Start = search in
+    let a = start .args in
     entries-as (a .search) Nights (a .w .now) (a .d) (a .i) (a .night) (a .day) (night .enum-told .given .1) (c .night-day .ensures)
 
 returns-2 : tie.Need-returns-2
-returns-2 c = let day = c .before in
-    let a = (start-day day) .args in
+returns-2 c =
+    let day : tie.After-enum-told2 = search in
+    let start : tie.Start = search in
+    let a = start .args in
     entries-as (a .search) Days (a .w .now) (a .d) (a .i) (a .night) (a .day) (day .enum-told2 .given .1) (c .day-day .ensures (a .night))
 
 pub on-day-spec : {M : Type 1} → statement M

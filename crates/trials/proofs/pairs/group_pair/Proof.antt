@@ -7,13 +7,6 @@ use borrow.Author.Needs.{needs}
 use Rattle.trials.proofs.pairs.group_pair.Statement.{statement}
 use Rattle.trials.proofs.pairs.group_pair.Tie as tie
 
--- the places of the function, each from the next
-abbrev at-start : tie.After-bounds-of → tie.Start
-at-start c = c .before .before .before
-
-abbrev at-bounds-of : tie.After-members → tie.After-bounds-of
-at-bounds-of c = c .before .before
-
 bounds-of-requires : tie.Need-bounds-of-requires
 bounds-of-requires c κs = search needs
 
@@ -28,8 +21,8 @@ members-requires c κs = search needs
 
 group-term-requires : tie.Need-group-term-requires
 group-term-requires c κs =
-    let bounds-of = at-bounds-of c in
-    let start = at-start bounds-of in
+    let bounds-of : tie.After-bounds-of = search in
+    let start : tie.Start = search in
     (start .pre .0, omega (arith, bounds-of .bounds-of .ensures .0, start .pre .1 .small (4 * start .args .g + 2 * start .args .k + 2)), omega (arith, c .members .ensures .most))
 
 bit-of-requires : tie.Need-bit-of-requires
@@ -40,10 +33,9 @@ add-group-term c = search needs
 
 group-term-requires-2 : tie.Need-group-term-requires-2
 group-term-requires-2 c κs =
-    let group-term = c .before in
-    let members = group-term .before in
-    let bounds-of = at-bounds-of members in
-    let start = at-start bounds-of in
+    let members : tie.After-members = search in
+    let bounds-of : tie.After-bounds-of = search in
+    let start : tie.Start = search in
     (start .pre .0, omega (arith, bounds-of .bounds-of .ensures .0, start .pre .1 .small (4 * start .args .g + 2 * start .args .k + 2)), omega (arith, members .members .ensures .most, c .bit-of .ensures .most))
 
 add-t15 : tie.Need-add-t15
@@ -54,12 +46,12 @@ add-t16 c = search needs
 
 returns : tie.Need-returns
 returns c =
-    let group-term2 = c .before .before in
-    let bit-of = group-term2 .before in
-    let group-term = bit-of .before in
-    let members = group-term .before in
-    let bounds-of = at-bounds-of members in
-    let start = at-start bounds-of in
+    let group-term2 : tie.After-group-term2 = search in
+    let bit-of : tie.After-bit-of = search in
+    let group-term : tie.After-group-term = search in
+    let members : tie.After-members = search in
+    let bounds-of : tie.After-bounds-of = search in
+    let start : tie.Start = search in
     λ f e. group-tells _ _ _ _ _ _ _ f (start .pre .4) e (bounds-of .bounds-of .ensures .0) (bounds-of .bounds-of .ensures .1) (members .members .ensures .is) (bit-of .bit-of .ensures .is) (group-term .group-term .ensures) (group-term2 .group-term2 .ensures) refl refl
 
 pub group-pair-spec : {M : Type 1} → statement M

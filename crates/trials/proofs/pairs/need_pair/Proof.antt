@@ -17,7 +17,10 @@ need-term-requires-2 : tie.Need-need-term-requires-2
 need-term-requires-2 c κs = search needs
 
 returns : tie.Need-returns
-returns c = λ needs k i f l n e. need-tells _ needs k i _ f l n e (c .before .before .on-duty .ensures .is) (c .before .need-term .ensures) (c .need-term2 .ensures)
+returns c =
+    let at-need-term : tie.After-need-term = search in
+    let at-on-duty : tie.After-on-duty = search in
+    λ needs k i f l n e. need-tells _ needs k i _ f l n e (at-on-duty .on-duty .ensures .is) (at-need-term .need-term .ensures) (c .need-term2 .ensures)
 
 pub need-pair-spec : {M : Type 1} → statement M
 need-pair-spec =

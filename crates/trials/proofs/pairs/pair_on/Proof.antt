@@ -15,13 +15,6 @@ Inv-loop wt sets needs k column i others off₀ on₀ g₀ g-end off on g = Pair
 abbrev μ-loop : tie.MeasureT-loop
 μ-loop wt sets needs k column i others off₀ on₀ g₀ g-end off on g = length sets - g
 
--- the places of the function, each from the next
-abbrev at-start : tie.After-put-bit Inv-loop μ-loop → tie.Start Inv-loop μ-loop
-at-start c = c .before .before .before
-
-abbrev at-need : tie.At-loop Inv-loop μ-loop → tie.After-need Inv-loop μ-loop
-at-need c = c .before .before
-
 put-bit-requires : tie.Need-put-bit-requires Inv-loop μ-loop
 put-bit-requires c κs = search needs
 
@@ -30,15 +23,14 @@ need-requires c κs = search needs
 
 need-pair-requires : tie.Need-need-pair-requires Inv-loop μ-loop
 need-pair-requires c κs =
-    let put-bit = c .before in
-    let start = at-start put-bit in
+    let start : tie.Start Inv-loop μ-loop = search in
     (start .pre .0, omega (arith, c .need .ensures, start .pre .1 .small (start .args .k)))
 
 loop-holds : tie.Need-loop-holds Inv-loop μ-loop
 loop-holds c =
-    let need = c .before in
-    let put-bit = need .before in
-    let start = at-start put-bit in
+    let need : tie.After-need Inv-loop μ-loop = search in
+    let put-bit : tie.After-put-bit Inv-loop μ-loop = search in
+    let start : tie.Start Inv-loop μ-loop = search in
     pairs-start _ _ _ _ _ _ (c .need-pair .ensures _ _ _ _ (start .pre .3) (need .need .ensures) (put-bit .put-bit .ensures))
 
 group-pair-requires : tie.Need-group-pair-requires Inv-loop μ-loop
@@ -46,22 +38,18 @@ group-pair-requires c κs = search needs
 
 add-off : tie.Need-add-off Inv-loop μ-loop
 add-off c =
-    let group-pair = c .before in
-    let in-loop = group-pair .before in
-    let loop = in-loop .before in
-    let need = at-need loop in
-    let put-bit = need .before in
-    let start = at-start put-bit in
+    let group-pair : tie.After-group-pair Inv-loop μ-loop = search in
+    let loop : tie.At-loop Inv-loop μ-loop = search in
+    let put-bit : tie.After-put-bit Inv-loop μ-loop = search in
+    let start : tie.Start Inv-loop μ-loop = search in
     omega (arith, group-pair .group-pair .ensures _ (put-bit .put-bit .ensures) .off-is .most, pairs-small _ _ _ _ _ _ (loop .loop .inv) (start .pre .1 .groups) .0)
 
 add-on : tie.Need-add-on Inv-loop μ-loop
 add-on c =
-    let group-pair = c .before .before in
-    let in-loop = group-pair .before in
-    let loop = in-loop .before in
-    let need = at-need loop in
-    let put-bit = need .before in
-    let start = at-start put-bit in
+    let group-pair : tie.After-group-pair Inv-loop μ-loop = search in
+    let loop : tie.At-loop Inv-loop μ-loop = search in
+    let put-bit : tie.After-put-bit Inv-loop μ-loop = search in
+    let start : tie.Start Inv-loop μ-loop = search in
     omega (arith, group-pair .group-pair .ensures _ (put-bit .put-bit .ensures) .on-is .most, pairs-small _ _ _ _ _ _ (loop .loop .inv) (start .pre .1 .groups) .1)
 
 add-g : tie.Need-add-g Inv-loop μ-loop
@@ -72,19 +60,16 @@ loop-less c = search needs
 
 loop-again : tie.Need-loop-again Inv-loop μ-loop
 loop-again c =
-    let group-pair = c .before .before in
-    let in-loop = group-pair .before in
-    let loop = in-loop .before in
-    let need = at-need loop in
-    let put-bit = need .before in
+    let group-pair : tie.After-group-pair Inv-loop μ-loop = search in
+    let in-loop : tie.In-loop Inv-loop μ-loop = search in
+    let loop : tie.At-loop Inv-loop μ-loop = search in
+    let put-bit : tie.After-put-bit Inv-loop μ-loop = search in
     pairs-turn _ _ _ _ _ _ (loop .loop .inv) (in-loop .loop-test .taken) (group-pair .group-pair .ensures _ (put-bit .put-bit .ensures))
 
 returns : tie.Need-returns Inv-loop μ-loop
 returns c =
-    let loop = c .before in
-    let need = at-need loop in
-    let put-bit = need .before in
-    let start = at-start put-bit in
+    let loop : tie.At-loop Inv-loop μ-loop = search in
+    let start : tie.Start Inv-loop μ-loop = search in
     pairs-end _ _ _ _ _ _ (loop .loop .inv) (c .loop-test .left) (start .pre .1 .groups) refl refl
 
 pub pair-on-spec : {M : Type 1} → statement M

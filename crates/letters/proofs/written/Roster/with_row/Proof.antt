@@ -18,9 +18,6 @@ abbrev μ-loop : tie.MeasureT-loop
 μ-loop b n p q row next₀ at d₀ next d = n - d
 
 -- the places of the function, each from the next
-abbrev at-start : tie.After-row-letters Inv-loop μ-loop → tie.Start Inv-loop μ-loop
-at-start c = c .before .before
-
 long : (c : tie.Start Inv-loop μ-loop) → length (c .args .self .letters) ≡ letterPlaces
 long c = search needs
 
@@ -29,7 +26,7 @@ row-letters-requires c κs = search needs
 
 loop-holds : tie.Need-loop-holds Inv-loop μ-loop
 loop-holds c =
-    let start = at-start c in
+    let start : tie.Start Inv-loop μ-loop = search in
     let s = start .args in
     (omega arith, paste-zero (s .self .letters) (s .self .count) (rowLettersOf (s .b .now) (s .n) (s .p) (s .q)))
 
@@ -50,9 +47,9 @@ loop-less c = search needs
 
 loop-again : tie.Need-loop-again Inv-loop μ-loop
 loop-again c =
-    let loop = c .before in
-    let row-letters = loop .before in
-    let start = at-start row-letters in
+    let loop : tie.At-loop Inv-loop μ-loop = search in
+    let row-letters : tie.After-row-letters Inv-loop μ-loop = search in
+    let start : tie.Start Inv-loop μ-loop = search in
     let s = start .args in
     let l = loop .loop in
     (omega arith, letter-put (s .self .letters) (s .self .count) (s .b .now) (s .n) (s .p) (s .q) (l .d) (l .inv .1) (long start) (start .pre .2) (c .loop-test .taken) (row-letters .row-letters .ensures (l .d) (c .loop-test .taken)))
@@ -62,9 +59,8 @@ add-next-2 c = search needs
 
 returns : tie.Need-returns Inv-loop μ-loop
 returns c =
-    let loop = c .before in
-    let row-letters = loop .before in
-    let start = at-start row-letters in
+    let loop : tie.At-loop Inv-loop μ-loop = search in
+    let start : tie.Start Inv-loop μ-loop = search in
     let s = start .args in
     let l = loop .loop in
     (row-put (s .self .letters) (s .self .count) (s .b .now) (s .n) (s .p) (s .q) (l .d) (l .inv .1) (l .inv .0) (c .loop-test .left), refl)
