@@ -72,7 +72,7 @@ module _ (w : List ℕ) (slots : ℕ → Slot) where
       record {
         nights = λ d l. short-zero w 0 d (atNight w slots d) a (omega arith) (omega (arith, sum-none-at (days w) _ s d l));
         highs = λ d l. over-zero w 0 d (atNight w slots d) a (omega arith) (sum-none-at (days w) _ o d l);
-        frees = λ d l. short-zero w 1 d (availableIn w slots d) a (omega arith) (omega (arith, sum-none-at (days w) _ s d l));
+        available = λ d l. short-zero w 1 d (availableIn w slots d) a (omega arith) (omega (arith, sum-none-at (days w) _ s d l));
         placed = placed-zero u;
       }
 
@@ -80,7 +80,7 @@ module _ (w : List ℕ) (slots : ℕ → Slot) where
   unfolding nightPenalty nightParts
   night-held h =
       let s = sum-none (days w) (λ d. shortOn w 0 (atNight w slots d) d + shortOn w 1 (availableIn w slots d) d)
-      (λ d l. omega (arith, short-held w 0 d (atNight w slots d) (h .nights d l), short-held w 1 d (availableIn w slots d) (h .frees d l))) in
+      (λ d l. omega (arith, short-held w 0 d (atNight w slots d) (h .nights d l), short-held w 1 d (availableIn w slots d) (h .available d l))) in
       let o = sum-none (days w) (λ d. overOn w 0 (atNight w slots d) d) (λ d l. over-held w 0 d (atNight w slots d) (h .highs d l)) in
       omega (arith, s, o, placed-held (h .placed))
 

@@ -21,7 +21,7 @@ AllPlaced w slots = (i : ℕ) → i < nurses w → isNone (slots i) ≡ false
 pub record NightHeld (w : List ℕ) (slots : ℕ → Slot) : Type 0 where
   pub nights : (d : ℕ) → d < days w → LowsHeld w 0 (atNight w slots d) d
   pub highs : (d : ℕ) → d < days w → HighsHeld w 0 (atNight w slots d) d
-  pub frees : (d : ℕ) → d < days w → LowsHeld w 1 (availableIn w slots d) d
+  pub available : (d : ℕ) → d < days w → LowsHeld w 1 (availableIn w slots d) d
   pub placed : AllPlaced w slots
 
 pub record DayHeld (w : List ℕ) (slots : ℕ → Slot) : Type 0 where

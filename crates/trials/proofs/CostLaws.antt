@@ -104,12 +104,12 @@ entryAt which w c i a b d = dayWith which w d i a b (getD (c .night) d 0) (getD 
 pub record Table (which : Search) (w : List ℕ) (c : Columns) (i n d : ℕ) (t : Costs) : Type 0 where
   pub inside : d ≤ n
   pub nights : Filled (t .night) (entryAt which w c i true false) 371200 d
-  pub frees : Filled (t .available) (entryAt which w c i false true) 371200 d
+  pub availables : Filled (t .available) (entryAt which w c i false true) 371200 d
   pub nones : Filled (t .none) (entryAt which w c i false false) 371200 d
 
 module _ (which : Search) (w : List ℕ) (c : Columns) (i n : ℕ) where
   pub table-start : Table which w c i n 0 (record { night = replicate 33 0; available = replicate 33 0; none = replicate 33 0 })
-  table-start = record { inside = omega arith; nights = fill-start _ _; frees = fill-start _ _; nones = fill-start _ _ }
+  table-start = record { inside = omega arith; nights = fill-start _ _; availables = fill-start _ _; nones = fill-start _ _ }
 
   pub table-turn : (d : ℕ) (t : Costs) {r : Three} → Table which w c i n d t → d < n → n ≤ dayPlaces → Entries which w d i (getD (c .night) d 0) (getD (c .day) d 0) r
       → Table which w c i n (d + 1) (record { night = set (t .night) d (r .night); available = set (t .available) d (r .available); none = set (t .none) d (r .none) })
@@ -119,7 +119,7 @@ module _ (which : Search) (w : List ℕ) (c : Columns) (i n : ℕ) where
       record {
         inside = omega arith;
         nights = fill-turn _ _ _ _ (k .nights) low (r .at-night);
-        frees = fill-turn _ _ _ _ (k .frees) low (r .at-available);
+        availables = fill-turn _ _ _ _ (k .availables) low (r .at-available);
         nones = fill-turn _ _ _ _ (k .nones) low (r .at-none);
       }
 
@@ -133,11 +133,11 @@ unfolding trialAt
 table-small which w c i t {n} {d} {m} k l e q = record {
   at-most = q;
   night-small = fill-small _ _ _ _ (k .nights);
-  available-small = fill-small _ _ _ _ (k .frees);
+  available-small = fill-small _ _ _ _ (k .availables);
   none-small = fill-small _ _ _ _ (k .nones);
   past = λ p s x r.
       let z : d ≤ x = omega (arith, k .inside) in
-      all-zero (has p x) (has s x) (k .nights .left x z) (k .frees .left x z) (k .nones .left x z);
+      all-zero (has p x) (has s x) (k .nights .left x z) (k .availables .left x z) (k .nones .left x z);
 }
 
 -- ---- a trial
@@ -176,7 +176,7 @@ module _ (w : List ℕ) (c : Columns) (i : ℕ) (slots : ℕ → Slot) (a : Acce
         let b : d < e = omega arith in
         ap (λ (x : Bool). cond (has p d) (getD (t .night) d 0) (cond x (getD (t .available) d 0) (getD (t .none) d 0))) (g d h)
         ∙ state-is (λ x y. entryAt Nights w c i x y d) (has p d) (availableOn (block w i) p (suc d)) (started-busy (block w i) p d)
-        (k .nights .done d b .is) (k .frees .done d b .is) (k .nones .done d b .is)
+        (k .nights .done d b .is) (k .availables .done d b .is) (k .nones .done d b .is)
         ∙ night-cost s p d h)
         ∙ sum-add (days w) _ _;
   }
@@ -203,7 +203,7 @@ module _ (w : List ℕ) (c : Columns) (i : ℕ) (slots : ℕ → Slot) (a : Acce
     afresh = λ q.
         sum-ext (days w) _ _ (λ d h.
         let b : d < e = omega arith in
-        worked-is (λ x. entryAt Days w c i false x d) (has 0 d) (has q d) (getD (t .night) d 0) (nothing d) (k .frees .done d b .is) (k .nones .done d b .is)
+        worked-is (λ x. entryAt Days w c i false x d) (has 0 d) (has q d) (getD (t .night) d 0) (nothing d) (k .availables .done d b .is) (k .nones .done d b .is)
         ∙ day-cost s q d h)
         ∙ sum-add (days w) _ _;
   }
