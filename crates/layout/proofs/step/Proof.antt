@@ -205,12 +205,14 @@ returns-4 c =
 returns-5 : tie.Need-returns-5
 returns-5 c =
     let at-rest : tie.After-moved2 = search in
-    gaps-left _ _ _ (c .at-inner .ensures) (at-rest .moved2 .ensures) ∙ after-at _ _ (at-rest .before .enum-told5 .given .1)
+    let at-enum-told5 : tie.After-enum-told5 = search in
+    gaps-left _ _ _ (c .at-inner .ensures) (at-rest .moved2 .ensures) ∙ after-at _ _ (at-enum-told5 .enum-told5 .given .1)
 
 returns-6 : tie.Need-returns-6
 returns-6 c =
     let at-rest : tie.After-moved3 = search in
-    gaps-left _ _ _ (c .at-inner2 .ensures) (at-rest .moved3 .ensures) ∙ after-at _ _ (at-rest .before .enum-told6 .given .1)
+    let at-enum-told6 : tie.After-enum-told6 = search in
+    gaps-left _ _ _ (c .at-inner2 .ensures) (at-rest .moved3 .ensures) ∙ after-at _ _ (at-enum-told6 .enum-told6 .given .1)
 
 returns-7 : tie.Need-returns-7
 unfolding tree
@@ -221,22 +223,26 @@ returns-7 c =
 returns-8 : tie.Need-returns-8
 returns-8 c =
     let at-rest : tie.After-at-nurses = search in
-    weights-left _ _ _ (c .at-inner3 .ensures) (at-rest .at-nurses .ensures) ∙ after-at _ _ (at-rest .before .enum-told8 .given .1)
+    let at-enum-told8 : tie.After-enum-told8 = search in
+    weights-left _ _ _ (c .at-inner3 .ensures) (at-rest .at-nurses .ensures) ∙ after-at _ _ (at-enum-told8 .enum-told8 .given .1)
 
 returns-9 : tie.Need-returns-9
 returns-9 c =
     let at-rest : tie.After-at-nurses2 = search in
-    weights-left _ _ _ (c .at-inner4 .ensures) (at-rest .at-nurses2 .ensures) ∙ after-at _ _ (at-rest .before .enum-told9 .given .1)
+    let at-enum-told9 : tie.After-enum-told9 = search in
+    weights-left _ _ _ (c .at-inner4 .ensures) (at-rest .at-nurses2 .ensures) ∙ after-at _ _ (at-enum-told9 .enum-told9 .given .1)
 
 returns-10 : tie.Need-returns-10
 returns-10 c =
     let at-rest : tie.After-moved5 = search in
-    duties-left _ _ _ (c .at-inner5 .ensures) (at-rest .moved5 .ensures) ∙ after-at _ _ (at-rest .before .enum-told10 .given .1)
+    let at-enum-told10 : tie.After-enum-told10 = search in
+    duties-left _ _ _ (c .at-inner5 .ensures) (at-rest .moved5 .ensures) ∙ after-at _ _ (at-enum-told10 .enum-told10 .given .1)
 
 returns-11 : tie.Need-returns-11
 returns-11 c =
     let at-rest : tie.After-moved6 = search in
-    duties-left _ _ _ (c .at-inner6 .ensures) (at-rest .moved6 .ensures) ∙ after-at _ _ (at-rest .before .enum-told11 .given .1)
+    let at-enum-told11 : tie.After-enum-told11 = search in
+    duties-left _ _ _ (c .at-inner6 .ensures) (at-rest .moved6 .ensures) ∙ after-at _ _ (at-enum-told11 .enum-told11 .given .1)
 
 returns-12 : tie.Need-returns-12
 unfolding tree
@@ -259,12 +265,14 @@ returns-14 c =
 returns-15 : tie.Need-returns-15
 returns-15 c =
     let at-rest : tie.After-at-nurses3 = search in
-    marks-left _ _ _ (c .at-inner7 .ensures) (at-rest .at-nurses3 .ensures) ∙ after-at _ _ (at-rest .before .enum-told15 .given .1)
+    let at-enum-told15 : tie.After-enum-told15 = search in
+    marks-left _ _ _ (c .at-inner7 .ensures) (at-rest .at-nurses3 .ensures) ∙ after-at _ _ (at-enum-told15 .enum-told15 .given .1)
 
 returns-16 : tie.Need-returns-16
 returns-16 c =
     let at-rest : tie.After-at-nurses4 = search in
-    marks-left _ _ _ (c .at-inner8 .ensures) (at-rest .at-nurses4 .ensures) ∙ after-at _ _ (at-rest .before .enum-told16 .given .1)
+    let at-enum-told16 : tie.After-enum-told16 = search in
+    marks-left _ _ _ (c .at-inner8 .ensures) (at-rest .at-nurses4 .ensures) ∙ after-at _ _ (at-enum-told16 .enum-told16 .given .1)
 
 returns-17 : tie.Need-returns-17
 returns-17 c =
@@ -280,7 +288,8 @@ returns-18 c =
 returns-19 : tie.Need-returns-19
 returns-19 c =
     let at-rest : tie.After-at-days = search in
-    bounds-left _ _ _ (c .at-inner9 .ensures) (at-rest .at-days .ensures) ∙ after-at _ _ (at-rest .before .enum-told19 .given .1)
+    let at-enum-told19 : tie.After-enum-told19 = search in
+    bounds-left _ _ _ (c .at-inner9 .ensures) (at-rest .at-days .ensures) ∙ after-at _ _ (at-enum-told19 .enum-told19 .given .1)
 
 returns-20 : tie.Need-returns-20
 unfolding tree
@@ -303,7 +312,8 @@ returns-22 c =
 returns-23 : tie.Need-returns-23
 returns-23 c =
     let at-rest : tie.After-at-days2 = search in
-    bounds-left _ _ _ (c .at-inner10 .ensures) (at-rest .at-days2 .ensures) ∙ after-at _ _ (at-rest .before .enum-told23 .given .1)
+    let at-enum-told23 : tie.After-enum-told23 = search in
+    bounds-left _ _ _ (c .at-inner10 .ensures) (at-rest .at-days2 .ensures) ∙ after-at _ _ (at-enum-told23 .enum-told23 .given .1)
 
 returns-24 : tie.Need-returns-24
 returns-24 c = ended _ _ (c .enum-told24 .given .1)

@@ -107,8 +107,8 @@ enum-told-17 c = search needs
 
 all-requires : tie.Need-all-requires
 all-requires c κs =
-    let at-match : tie.At-match-keys17 = search in
-    let start = at-match .before in subst⁻¹ SmallField (wanted-at _ (c .enum-told17 .given .1)) (start .pre)
+    let start : tie.Start = search in
+    subst⁻¹ SmallField (wanted-at _ (c .enum-told17 .given .1)) (start .pre)
 
 range-requires-16 : tie.Need-range-requires-16
 range-requires-16 c κs = search needs
@@ -234,7 +234,8 @@ returns-16 c =
 returns-17 : tie.Need-returns-17
 returns-17 c =
     let at-all : tie.After-all = search in
-    c .range16 .ensures ∙ ap (λ (x : ℕ). Next (range 1 x)) (at-all .all .ensures) ∙ wanted-at _ (at-all .before .enum-told17 .given .1)
+    let at-enum-told17 : tie.After-enum-told17 = search in
+    c .range16 .ensures ∙ ap (λ (x : ℕ). Next (range 1 x)) (at-all .all .ensures) ∙ wanted-at _ (at-enum-told17 .enum-told17 .given .1)
 
 returns-18 : tie.Need-returns-18
 returns-18 c =
