@@ -39,8 +39,8 @@ use Rattle.letters.specs.declared.written.Roster.{Roster}
 use Rattle.letters.proofs.RowLaws.{letters-length}
 use Rattle.phases.specs.Phases.{nightsOpen, listsFit, dayListOver, dayPhase, nightOf}
 use Rattle.phases.specs.CodeQuestions.{phaseOf, beforeLists, afterLists, EndsOf, UnplacedZero}
-use Rattle.phases.specs.Outcomes.{rosterOf, lettersOf, callOf}
-use Rattle.phases.proofs.OutcomeLaws.{list-front}
+use Rattle.outcomes.specs.Outcomes.{rosterOf, lettersOf, callOf}
+use Rattle.outcomes.proofs.OutcomeLaws.{list-front}
 use Rattle.phases.proofs.PhaseLaws.{day-ascending}
 
 -- ---- the questions in two parts

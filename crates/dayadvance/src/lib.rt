@@ -4,9 +4,8 @@ use fields::sizes::ENDS;
 use fields::sizes::NURSES;
 use history::Search;
 use letters::written::Roster;
+use outcomes::Advance;
 use phases::opening;
-use phases::outcomes;
-use phases::outcomes::Advance;
 use phases::questions;
 use refusals::Answer;
 use refusals::question;
@@ -30,7 +29,7 @@ ghost use Rattle.search.specs.Stored.{advanceStored};
 ghost use Rattle.search.specs.CodeSeek.{answerOf};
 ghost use Rattle.phases.specs.Phases.{dayPhase, nightOf};
 ghost use Rattle.phases.specs.CodeQuestions.{beforeLists, afterLists, EndsOf, UnplacedZero};
-ghost use Rattle.phases.specs.Outcomes.{lettersOf, advanceOf, rosterOf, leftBy, callOf};
+ghost use Rattle.outcomes.specs.Outcomes.{lettersOf, advanceOf, rosterOf, leftBy, callOf};
 
 // The roster that an advance gives out: at penalty zero that of the nights and its days, else none.
 fn roster_given(w: &[u64], nights: &[u32; NURSES], x: Advanced) -> Roster

@@ -30,7 +30,7 @@ use Rattle.search.specs.Stored.{refusalStored, soundStored}
 use Rattle.search.specs.CodeSeek.{answerWith, answerOf, Lists, Seeks}
 use Rattle.phases.specs.Phases.{nightPhase, commonFits}
 use Rattle.phases.specs.CodeQuestions.{phaseOf}
-use Rattle.phases.specs.Outcomes.{lettersOf, callOf}
+use Rattle.outcomes.specs.Outcomes.{lettersOf, callOf}
 use Rattle.phases.proofs.PhaseLaws.{night-ascending}
 
 -- ---- the questions

@@ -2,8 +2,7 @@
 use fields::sizes::ENDS;
 use fields::sizes::NURSES;
 use history::Search;
-use phases::outcomes;
-use phases::outcomes::Advance;
+use outcomes::Advance;
 use phases::questions;
 use refusals::Answer;
 use refusals::question;
@@ -17,7 +16,7 @@ ghost use Rattle.fields.specs.Fields.{Accepted};
 ghost use Rattle.nights.specs.Nights.{commonOf};
 ghost use Rattle.search.specs.Stored.{refusalStored, advanceStored};
 ghost use Rattle.phases.specs.Phases.{nightPhase, commonFits};
-ghost use Rattle.phases.specs.Outcomes.{advanceOf, leftBy, callOf};
+ghost use Rattle.outcomes.specs.Outcomes.{advanceOf, leftBy, callOf};
 
 // Question 9.
 fn common_asked(w: &[u64], places: usize) -> Answer

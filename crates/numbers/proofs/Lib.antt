@@ -6,3 +6,4 @@ pub mod SetLaws
 pub mod BufferLaws
 pub mod AgreeLaws
 pub mod HalfLaws
+pub mod CopyLaws

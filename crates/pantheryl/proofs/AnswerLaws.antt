@@ -12,12 +12,13 @@ use Rattle.refusals.specs.declared.Answer.the-variants.{Yes, No}
 use Rattle.ward.specs.declared.Reading.{Reading}
 use Rattle.search.specs.declared.Record.{Record as Stored}
 use Rattle.history.specs.Phase.{Answer, refused, ended, End, End·zero, End·asked, End·none}
-use Rattle.phases.specs.Outcomes.{outcomeOf, lettersOf, advanceOf, rosterOf}
+use Rattle.outcomes.specs.Outcomes.{outcomeOf, lettersOf, advanceOf, rosterOf}
 use Rattle.letters.specs.declared.written.Roster.{Roster}
-use Rattle.phases.specs.declared.outcomes.Advance.{Advance}
-use Rattle.pantheryl.specs.Words.{recordOfWords, wordsOfRecord}
-use Rattle.pantheryl.specs.Answers.{countWords, readWords, numbersLeft, advanceWords, wordsLeft, rosterLeft}
-use Rattle.pantheryl.specs.CodeWords.{outcomeWords, isRefused}
+use Rattle.outcomes.specs.declared.Advance.{Advance}
+use Rattle.recordwords.specs.Words.{recordOfWords, wordsOfRecord}
+use Rattle.answerwords.specs.AnswerWords.{countWords, advanceWords}
+use Rattle.pantheryl.specs.Answers.{readWords, numbersLeft, wordsLeft, rosterLeft}
+use Rattle.answerwords.specs.CodeAnswers.{outcomeWords, isRefused}
 
 -- ---- the reader
 

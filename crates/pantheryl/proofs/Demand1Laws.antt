@@ -15,16 +15,17 @@ use Rattle.refusals.specs.Refusals.{numbered, refusalIn}
 use Rattle.history.specs.Phase.{Answer, refused, ended}
 use Rattle.search.specs.Stored.{Sized}
 use Rattle.search.specs.declared.Record.{Record as Stored}
-use Rattle.phases.specs.Outcomes.{leftBy, callOf}
-use Rattle.planner.specs.declared.Checked.{Checked}
-use Rattle.planner.specs.declared.Checked.the-variants.{Refused, Passed, Broken}
+use Rattle.outcomes.specs.Outcomes.{leftBy, callOf}
+use Rattle.outcomes.specs.declared.Checked.{Checked}
+use Rattle.outcomes.specs.declared.Checked.the-variants.{Refused, Passed, Broken}
 use Rattle.planner.specs.Answers.{checkSays}
 use Rattle.planner.specs.Left.{listOf, listsOf, nightLeft, dayLeft}
 use Rattle.planner.specs.Demand1.{noInCheck}
 use Rattle.planner.proofs.Demand1Laws.{noIn, nights-answer, days-answer, demand1}
-use Rattle.pantheryl.specs.Words.{recordWords, recordOfWords}
-use Rattle.pantheryl.specs.Answers.{countWords, readWords, numbersLeft, wardOf, writeWords, advanceWords, wordsLeft, nightsFrom, daysFrom, rosterLeft, checkWords}
-use Rattle.pantheryl.proofs.WordLaws.{patterns-long, flags-long, removals-long}
+use Rattle.recordwords.specs.Words.{recordWords, recordOfWords}
+use Rattle.answerwords.specs.AnswerWords.{countWords, advanceWords, checkWords}
+use Rattle.pantheryl.specs.Answers.{readWords, numbersLeft, wardOf, writeWords, wordsLeft, nightsFrom, daysFrom, rosterLeft}
+use Rattle.recordwords.proofs.WordLaws.{patterns-long, flags-long, removals-long}
 use Rattle.pantheryl.specs.Demand1.{noInWords, WordsDemand1}
 
 -- ---- the refusal in an answer's words is that of the answer

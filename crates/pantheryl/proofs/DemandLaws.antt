@@ -25,10 +25,10 @@ use Rattle.planner.specs.Advances.{advanceOver}
 use Rattle.phases.proofs.PhaseLaws.{night-fits, day-fits}
 use Rattle.planner.proofs.DemandLaws.{advance-read, advance-without, advance-unread, demand}
 use Rattle.planner.specs.Demand3.{Rightly, Settled, UnlessRefused, Each}
-use Rattle.pantheryl.specs.Words.{recordWords, wordsOfRecord}
+use Rattle.recordwords.specs.Words.{recordWords, wordsOfRecord}
 use Rattle.pantheryl.specs.Answers.{wordsLeft}
 use Rattle.pantheryl.specs.Demand3.{byWords, asWords, WordsDemanded}
-use Rattle.pantheryl.proofs.BackLaws.{read-back}
+use Rattle.recordwords.proofs.BackLaws.{read-back}
 
 -- ---- a record handed back has its declared sizes
 

@@ -1,35 +1,20 @@
--- The six words of an answer (question, place, outcome, steps made, penalty, count), and what each call leaves in its caller's memory.
+-- What each call answers, in the six words of answerwords, and what it leaves in its caller's memory.
 use Prim.Native.Nat.{ℕ}
-use mathlib.Core.List.{List, [], _∷_, _++_}
+use mathlib.Core.List.{List, _++_}
 use lib.ListN.{length, drop}
-use Rattle.refusals.specs.declared.Refusal.{Refusal}
 use Rattle.refusals.specs.declared.Answer.{Answer as Asked}
 use Rattle.refusals.specs.declared.Answer.the-variants.{Yes, No}
 use Rattle.ward.specs.declared.Ward.{Ward}
 use Rattle.ward.specs.declared.Reading.{Reading}
 use Rattle.ward.specs.declared.Writing.{Writing}
 use Rattle.search.specs.declared.Record.{Record as Stored}
-use Rattle.history.specs.Phase.{Answer, refused, ended, End, End·zero, End·asked, End·none}
+use Rattle.history.specs.Phase.{Answer, refused, ended}
 use Rattle.planner.specs.Advances.{advanceNights, advanceDays}
-use Rattle.planner.specs.declared.Checked.{Checked}
-use Rattle.planner.specs.declared.Checked.the-variants.{Refused, Passed, Broken}
-use Rattle.phases.specs.Outcomes.{lettersOf, callOf}
-use Rattle.pantheryl.specs.Words.{recordOfWords, wordsOfRecord}
-
--- a refusal: the question's number and its place, and all else 0
-abbrev pub refusalWords : Refusal → List ℕ
-refusalWords n = n .question ∷ n .place ∷ 0 ∷ 0 ∷ 0 ∷ 0 ∷ []
-
--- not refused
-abbrev pub doneWords : ℕ → ℕ → ℕ → ℕ → List ℕ
-doneWords outcome steps penalty count = 0 ∷ 0 ∷ outcome ∷ steps ∷ penalty ∷ count ∷ []
+use Rattle.outcomes.specs.Outcomes.{lettersOf, callOf}
+use Rattle.recordwords.specs.Words.{recordOfWords, wordsOfRecord}
+use Rattle.answerwords.specs.AnswerWords.{countWords}
 
 -- ---- the ward
-
--- a count of numbers read or of bytes written
-abbrev pub countWords : Asked → ℕ → List ℕ
-countWords (No n) count = refusalWords n
-countWords Yes count = doneWords 0 0 0 count
 
 abbrev pub readWords : Reading → List ℕ
 readWords r = countWords (r .answer) (r .ward .count)
@@ -50,16 +35,6 @@ writeWords r = countWords (r .answer) (r .bytes)
 
 -- ---- the advances
 
-abbrev pub endWord : End → ℕ
-endWord End·zero = 1
-endWord End·asked = 2
-endWord End·none = 3
-
--- the count is that of the roster's letters, 0 where none is given out
-unfoldable pub advanceWords : Answer → List ℕ
-advanceWords (refused n) = refusalWords n
-advanceWords (ended e made penalty letters) = doneWords (endWord e) made penalty (length letters)
-
 -- the record's words after an advance; a refused one leaves them as they were
 unfoldable pub wordsLeft : Answer × Stored → List ℕ → List ℕ
 wordsLeft (refused n, r) before = before
@@ -76,11 +51,3 @@ nightsFrom file words k buffer = advanceNights file (callOf k (length buffer)) (
 -- and a day advance
 abbrev pub daysFrom : List ℕ → List ℕ → List ℕ → ℕ → List ℕ → Answer × Stored
 daysFrom file nights words k buffer = advanceDays file nights (callOf k (length buffer)) (recordOfWords words)
-
--- ---- the check
-
--- 1 for a yes, 2 for a no
-abbrev pub checkWords : Checked → List ℕ
-checkWords (Refused n) = refusalWords n
-checkWords Passed = doneWords 1 0 0 0
-checkWords Broken = doneWords 2 0 0 0

@@ -12,13 +12,14 @@ use Rattle.layout.specs.Faults.{FileFault}
 use Rattle.ward.specs.Answers.{readWard, readingOf, counted, checkWard, writingOf, leftOf}
 use Rattle.refusals.specs.declared.Refusal.{Refusal}
 use Rattle.phases.specs.Phases.{nightOf}
-use Rattle.phases.specs.Outcomes.{callOf}
+use Rattle.outcomes.specs.Outcomes.{callOf}
 use Rattle.planner.specs.Answers.{checkSays}
 use Rattle.planner.specs.Left.{nightLeft, dayLeft}
 use Rattle.planner.specs.Faults.{nightQuestions, dayQuestions, checkQuestions, FileNo, WriterNo}
 use Rattle.planner.specs.Demand1.{Refuses, Bytes}
-use Rattle.pantheryl.specs.Words.{recordWords, recordOfWords}
-use Rattle.pantheryl.specs.Answers.{refusalWords, readWords, numbersLeft, wardOf, writeWords, advanceWords, wordsLeft, nightsFrom, daysFrom, rosterLeft, checkWords}
+use Rattle.recordwords.specs.Words.{recordWords, recordOfWords}
+use Rattle.answerwords.specs.AnswerWords.{refusalWords, advanceWords, checkWords}
+use Rattle.pantheryl.specs.Answers.{readWords, numbersLeft, wardOf, writeWords, wordsLeft, nightsFrom, daysFrom, rosterLeft}
 
 -- an answer's words are a refusal's where the first is not 0: question and place
 abbrev pub noInWords : List ℕ → Option Refusal

@@ -8,7 +8,7 @@ use Rattle.search.specs.Stored.{store}
 use Rattle.search.specs.declared.Record.{Record as Stored}
 use Rattle.planner.specs.Advances.{advanceNights, advanceDays}
 use Rattle.planner.specs.Demand3.{DemandedOf}
-use Rattle.pantheryl.specs.Words.{recordWords, recordOfWords, wordsOfRecord}
+use Rattle.recordwords.specs.Words.{recordWords, recordOfWords, wordsOfRecord}
 use Rattle.pantheryl.specs.Answers.{wordsLeft}
 
 -- what an advance answers where the record is handed in as words, and the words that it leaves: `nightsFrom` and `wordsLeft` of the contracts, and by day

@@ -1,19 +1,17 @@
 // The C interface, over the planner's published calls. include/pantheryl.h says it for C.
-mod answers;
-mod words;
-
 use fields::sizes::LETTERS;
 use fields::sizes::NUMBERS;
 use fields::sizes::NURSES;
+use recordwords::WORDS;
 use refusals::Answer;
-use words::WORDS;
 ghost use mathlib.Core.Path.{_≡_};
 ghost use lib.ListN.{length};
 ghost use Rattle.ward.specs.Answers.{readingOf, readWard, counted, checkWard, writingOf, leftOf};
 ghost use Rattle.planner.specs.Answers.{checkSays};
 ghost use Rattle.planner.specs.Left.{nightLeft, dayLeft};
-ghost use Rattle.pantheryl.specs.Words.{recordOfWords};
-ghost use Rattle.pantheryl.specs.Answers.{readWords, numbersLeft, wardOf, writeWords, advanceWords, wordsLeft, nightsFrom, daysFrom, rosterLeft, checkWords};
+ghost use Rattle.recordwords.specs.Words.{recordOfWords};
+ghost use Rattle.answerwords.specs.AnswerWords.{advanceWords, checkWords};
+ghost use Rattle.pantheryl.specs.Answers.{readWords, numbersLeft, wardOf, writeWords, wordsLeft, nightsFrom, daysFrom, rosterLeft};
 
 // Reads a ward file into numbers; the count says how many.
 #[no_mangle]
@@ -23,7 +21,7 @@ pub extern "C" fn pantheryl_read(file: &[u8], numbers: &mut [u64; NUMBERS], answ
 {
     let reading = planner::read(file);
     let read = reading.answer;
-    let said = answers::count_words(read, reading.ward.count as u64);
+    let said = answerwords::count_words(read, reading.ward.count as u64);
     *answer = said;
     match read {
         Answer::No(_) => {}
@@ -52,7 +50,7 @@ pub extern "C" fn pantheryl_write(
     };
     let writing = planner::write(ward, buffer);
     let written = writing.answer;
-    let said = answers::count_words(written, writing.bytes as u64);
+    let said = answerwords::count_words(written, writing.bytes as u64);
     *answer = said;
 }
 
@@ -70,14 +68,19 @@ pub extern "C" fn pantheryl_advance_nights(
     ensures leaves { λ _. ⌜ now (buffer .exit) ≡ nightLeft (now (file .entry)) (recordOfWords (now (words .entry))) k (now (buffer .entry)) ⌝ }
 {
     let before = *words;
-    let rec = words::record_of(before);
+    let rec = recordwords::record_of(before);
     let done = planner::advance_nights(rec, file, k, buffer);
     let outcome = done.outcome;
-    let said = answers::outcome_words(outcome, done.steps, done.penalty, done.roster.count as u64);
+    let said = answerwords::outcome_words(
+        outcome,
+        done.steps,
+        done.penalty,
+        done.roster.count as u64,
+    );
     *answer = said;
-    if !answers::is_refused(outcome) {
+    if !answerwords::is_refused(outcome) {
         let rec = done.after;
-        let after = words::words_of(rec);
+        let after = recordwords::words_of(rec);
         *words = after;
     }
 }
@@ -99,17 +102,17 @@ pub extern "C" fn pantheryl_advance_days(
     ensures gives { λ _. ⌜ now (roster .exit) ≡ rosterLeft (daysFrom (now (file .entry)) (now (nights .entry)) (now (words .entry)) k (now (buffer .entry)) .0) (now (roster .entry)) ⌝ }
 {
     let before = *words;
-    let rec = words::record_of(before);
+    let rec = recordwords::record_of(before);
     let done = planner::advance_days(rec, file, nights, k, buffer);
     let outcome = done.outcome;
     let letters = done.roster.letters;
     let count = done.roster.count;
-    let said = answers::outcome_words(outcome, done.steps, done.penalty, count as u64);
+    let said = answerwords::outcome_words(outcome, done.steps, done.penalty, count as u64);
     *answer = said;
-    answers::put_letters(roster, letters, count);
-    if !answers::is_refused(outcome) {
+    answerwords::put_letters(roster, letters, count);
+    if !answerwords::is_refused(outcome) {
         let rec = done.after;
-        let after = words::words_of(rec);
+        let after = recordwords::words_of(rec);
         *words = after;
     }
 }
@@ -120,6 +123,6 @@ pub extern "C" fn pantheryl_check(file: &[u8], roster: &[u8], answer: &mut [u64;
     ensures { λ _. ⌜ now (answer .exit) ≡ checkWords (checkSays (now (file .entry)) (now (roster .entry))) ⌝ }
 {
     let checked = planner::check(file, roster);
-    let said = answers::check_words(checked);
+    let said = answerwords::check_words(checked);
     *answer = said;
 }

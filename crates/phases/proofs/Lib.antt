@@ -1,5 +1,4 @@
 pub mod PhaseLaws
 pub mod QuestionLaws
 pub mod OpeningLaws
-pub mod OutcomeLaws
 pub mod FitLaws

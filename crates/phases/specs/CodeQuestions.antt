@@ -18,11 +18,7 @@ use Rattle.history.specs.declared.Search.the-variants.{Nights, Days}
 use Rattle.history.specs.Record.{lacking}
 use Rattle.search.specs.Stored.{soundStored}
 use Rattle.search.specs.declared.Record.{Record as Stored}
-use Rattle.search.specs.declared.Ending.{Ending}
-use Rattle.search.specs.declared.Ending.the-variants as endings
 use Rattle.phases.specs.Phases.{nightPhase, dayPhase, nightsOpen, listsFit, dayListOver}
-use Rattle.phases.specs.declared.outcomes.Outcome.{Outcome}
-use Rattle.phases.specs.declared.outcomes.Outcome.the-variants as outcomes
 
 -- by night the nights; by day the days over these night patterns, one for each nurse
 unfoldable pub phaseOf : Search → List ℕ → List ℕ → Phase
@@ -46,9 +42,3 @@ EndsOf lists m ends = (k : ℕ) → k ≤ m → getD ends k 0 ≡ length (upTo l
 -- an unplaced nurse's pattern is 0
 unfoldable pub UnplacedZero : List ℕ → Stored → Type 0
 UnplacedZero w r = (i : ℕ) → i < nurses w → getD (r .placed) i false ≡ false → getD (r .patterns) i 0 ≡ 0
-
--- the outcome of an advance that ended so
-abbrev pub outcomeBy : Ending → Outcome
-outcomeBy endings.Zero = outcomes.Zero
-outcomeBy endings.Asked = outcomes.Asked
-outcomeBy endings.None = outcomes.None

@@ -20,8 +20,8 @@ use Rattle.letters.specs.CodeLetters.{foundOf}
 use Rattle.letters.specs.declared.Place.{Place}
 use Rattle.letters.specs.declared.Place.the-variants.{At, Nowhere}
 use Rattle.letters.proofs.LetterLaws.{placed-long}
-use Rattle.planner.specs.declared.Checked.{Checked}
-use Rattle.planner.specs.declared.Checked.the-variants.{Refused, Passed, Broken}
+use Rattle.outcomes.specs.declared.Checked.{Checked}
+use Rattle.outcomes.specs.declared.Checked.the-variants.{Refused, Passed, Broken}
 use Rattle.planner.specs.Answers.{checkLetters, checkOver, checkSays}
 
 -- ---- question 12 and the rules

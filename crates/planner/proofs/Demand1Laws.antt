@@ -41,12 +41,12 @@ use Rattle.search.specs.declared.Record.{Record as Stored}
 use Rattle.search.proofs.SoundLaws.{sound-when}
 use Rattle.search.proofs.AdvanceLaws.{stored-refused, stored-goes}
 use Rattle.phases.specs.Phases.{nightPhase, dayPhase, nightsOpen, commonFits, listsFit, dayListOver, nightOf}
-use Rattle.phases.specs.Outcomes.{advanceOf, rosterOf, leftBy, callOf}
+use Rattle.outcomes.specs.Outcomes.{advanceOf, rosterOf, leftBy, callOf}
 use Rattle.phases.proofs.FitLaws.{over-answers}
 use Rattle.phases.proofs.PhaseLaws.{night-fits, day-fits}
 use Rattle.planner.specs.Advances.{advanceOver, advanceNights, advanceDays}
 use Rattle.planner.specs.Answers.{checkLetters, checkOver, checkSays}
-use Rattle.planner.specs.declared.Checked.the-variants as checks
+use Rattle.outcomes.specs.declared.Checked.the-variants as checks
 use Rattle.planner.specs.Left.{listOf, nightLeft, listsOf, dayLeft}
 use Rattle.planner.specs.Faults.{StepsFault, NightsFault, CommonFault, ListsFault, PatternFault, RecordFault, LettersFault, nightQuestions, dayQuestions, checkQuestions, FileNo, in-file, in-call, WriterNo, in-numbers, in-buffer}
 use Rattle.planner.specs.Demand1.{Refuses, Bytes, noInOutcome, noInCheck, refusedBy, ReadRefuses, WriteRefuses, NightsRefuse, DaysRefuse, CheckRefuses, Demand1}

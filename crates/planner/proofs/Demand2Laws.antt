@@ -23,8 +23,8 @@ use Rattle.letters.proofs.LetterLaws.{placed-long}
 use Rattle.rostercheck.specs.Check.{Holds}
 use Rattle.rostercheck.specs.CodeCheck.{holds}
 use Rattle.rostercheck.proofs.CheckLaws.{holds-sound, holds-complete}
-use Rattle.planner.specs.declared.Checked.{Checked}
-use Rattle.planner.specs.declared.Checked.the-variants.{Refused, Passed, Broken}
+use Rattle.outcomes.specs.declared.Checked.{Checked}
+use Rattle.outcomes.specs.declared.Checked.the-variants.{Refused, Passed, Broken}
 use Rattle.planner.specs.Answers.{checkLetters, checkOver, checkSays}
 use Rattle.planner.specs.Demand2.{Passes, Demand2}
 

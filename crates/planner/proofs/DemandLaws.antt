@@ -40,7 +40,7 @@ use Rattle.rostercheck.specs.CodeCheck.{holds}
 use Rattle.rostercheck.proofs.GivenLaws.{duty-alike, members-alike, Patterns, placedAll, given-at-zero}
 use Rattle.phases.specs.Phases.{nightPhase, nightsOpen, listsFit, dayListOver, dayPhase, nightOf}
 use Rattle.planner.specs.Advances.{advanceOver, advanceNights, advanceDays}
-use Rattle.planner.specs.declared.Checked.the-variants.{Passed}
+use Rattle.outcomes.specs.declared.Checked.the-variants.{Passed}
 use Rattle.planner.specs.Answers.{checkLetters, checkOver, checkSays}
 use Rattle.planner.specs.Demand3.{NightPatterns, DayPatterns, Rightly, Settled, UnlessRefused, Each, DayDemand, Demanded}
 use Rattle.phases.proofs.PhaseLaws.{night-fits, night-lawful, day-fits, day-lawful}

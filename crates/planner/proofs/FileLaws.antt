@@ -9,8 +9,8 @@ use Rattle.ward.specs.Answers.{readWard}
 use Rattle.history.specs.Phase.{Phase, Answer, refused}
 use Rattle.search.specs.Stored.{advanceStored}
 use Rattle.search.specs.declared.Record.{Record as Stored}
-use Rattle.phases.specs.declared.outcomes.Advance.{Advance}
-use Rattle.phases.specs.Outcomes.{advanceOf, leftBy, callOf}
+use Rattle.outcomes.specs.declared.Advance.{Advance}
+use Rattle.outcomes.specs.Outcomes.{advanceOf, leftBy, callOf}
 use Rattle.planner.specs.Advances.{advanceOver}
 
 -- `phase` is the phase of a ward, and `lists` what stands in the buffer after an advance

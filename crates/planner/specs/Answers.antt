@@ -10,8 +10,8 @@ use Rattle.layout.specs.Grammar.{Read, good, bad}
 use Rattle.ward.specs.Answers.{readWard}
 use Rattle.letters.specs.Letters.{misplaced}
 use Rattle.rostercheck.specs.CodeCheck.{holds}
-use Rattle.planner.specs.declared.Checked.{Checked}
-use Rattle.planner.specs.declared.Checked.the-variants.{Refused, Passed, Broken}
+use Rattle.outcomes.specs.declared.Checked.{Checked}
+use Rattle.outcomes.specs.declared.Checked.the-variants.{Refused, Passed, Broken}
 
 -- question 12, then the rules
 unfoldable pub checkLetters : List ℕ → List ℕ → Checked

@@ -16,13 +16,13 @@ use Rattle.refusals.specs.declared.Refusal.{Refusal}
 use Rattle.search.specs.Stored.{Sized}
 use Rattle.search.specs.declared.Record.{Record as Stored}
 use Rattle.phases.specs.Phases.{nightOf}
-use Rattle.phases.specs.Outcomes.{advanceOf, callOf}
-use Rattle.phases.specs.declared.outcomes.Advance.{Advance}
-use Rattle.phases.specs.declared.outcomes.Outcome.{Outcome}
-use Rattle.phases.specs.declared.outcomes.Outcome.the-variants as outcomes
+use Rattle.outcomes.specs.Outcomes.{advanceOf, callOf}
+use Rattle.outcomes.specs.declared.Advance.{Advance}
+use Rattle.outcomes.specs.declared.Outcome.{Outcome}
+use Rattle.outcomes.specs.declared.Outcome.the-variants as outcomes
 use Rattle.planner.specs.Advances.{advanceNights, advanceDays}
-use Rattle.planner.specs.declared.Checked.{Checked}
-use Rattle.planner.specs.declared.Checked.the-variants as checks
+use Rattle.outcomes.specs.declared.Checked.{Checked}
+use Rattle.outcomes.specs.declared.Checked.the-variants as checks
 use Rattle.planner.specs.Answers.{checkSays}
 use Rattle.planner.specs.Left.{nightLeft, dayLeft}
 use Rattle.planner.specs.Faults.{nightQuestions, dayQuestions, checkQuestions, FileNo, WriterNo}

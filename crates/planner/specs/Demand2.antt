@@ -25,7 +25,7 @@ use Rattle.penalty.specs.Held.{NightHeld, DayHeld}
 use Rattle.letters.specs.Letters.{misplaced}
 use Rattle.rostercheck.specs.Check.{Holds}
 use Rattle.planner.specs.Answers.{checkSays}
-use Rattle.planner.specs.declared.Checked.the-variants.{Passed}
+use Rattle.outcomes.specs.declared.Checked.the-variants.{Passed}
 
 -- a penalty is zero exactly where nothing is broken, and is never above 485,059,200
 pub record Weighs (penalty : (ℕ → Slot) → ℕ) (Held : (ℕ → Slot) → Type 0) : Type 0 where

@@ -20,7 +20,7 @@ use Rattle.search.specs.Stored.{allZero, store}
 use Rattle.phases.specs.Phases.{nightPhase, dayPhase, dayListOver, nightOf}
 use Rattle.planner.specs.Advances.{advanceNights, advanceDays}
 use Rattle.planner.specs.Answers.{checkSays}
-use Rattle.planner.specs.declared.Checked.the-variants.{Passed}
+use Rattle.outcomes.specs.declared.Checked.the-variants.{Passed}
 
 -- by night, every nurse has a pattern
 abbrev pub NightPatterns : List ℕ → Type 0

@@ -8,7 +8,7 @@ use Rattle.ward.specs.Answers.{readWard}
 use Rattle.nights.specs.Nights.{commonOf}
 use Rattle.daylists.specs.Lists.{upTo, dayLists}
 use Rattle.search.specs.declared.Record.{Record as Stored}
-use Rattle.phases.specs.Outcomes.{leftBy, callOf}
+use Rattle.outcomes.specs.Outcomes.{leftBy, callOf}
 use Rattle.planner.specs.Advances.{advanceNights, advanceDays}
 
 -- ---- what the night advance leaves

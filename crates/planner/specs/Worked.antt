@@ -30,8 +30,8 @@ use Rattle.removals.specs.Removals.{noRemoval}
 use Rattle.search.specs.Stored.{view, store, allZero, unusedZero, soundStored, refusalStored, replyStored, advanceStored}
 use Rattle.phases.specs.Phases.{nightPhase, dayPhase, nightOf, nightsOpen, commonFits, listsFit}
 use Rattle.planner.specs.Advances.{advanceOver, advanceNights, advanceDays}
-use Rattle.planner.specs.declared.Checked.{Checked}
-use Rattle.planner.specs.declared.Checked.the-variants.{Refused, Passed, Broken}
+use Rattle.outcomes.specs.declared.Checked.{Checked}
+use Rattle.outcomes.specs.declared.Checked.the-variants.{Refused, Passed, Broken}
 use Rattle.planner.specs.Answers.{checkLetters, checkOver, checkSays}
 
 abbrev call : ℕ → ℕ → Call

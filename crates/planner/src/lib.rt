@@ -1,9 +1,9 @@
 // The published calls.
 use fields::sizes::NURSES;
 use letters::Place;
-use phases::outcomes;
-pub use phases::outcomes::Advance;
-pub use phases::outcomes::Outcome;
+pub use outcomes::Advance;
+pub use outcomes::Checked;
+pub use outcomes::Outcome;
 use refusals::Answer;
 use refusals::Refusal;
 use refusals::question;
@@ -13,7 +13,7 @@ ghost use Rattle.fields.specs.Fields.{Accepted};
 ghost use Rattle.ward.specs.Answers.{readingOf, readWard, counted, checkWard, writingOf, leftOf};
 ghost use Rattle.planner.specs.Answers.{checkLetters, checkSays};
 ghost use Rattle.planner.specs.Advances.{advanceNights, advanceDays};
-ghost use Rattle.phases.specs.Outcomes.{advanceOf, callOf};
+ghost use Rattle.outcomes.specs.Outcomes.{advanceOf, callOf};
 ghost use Rattle.planner.specs.Left.{nightLeft, dayLeft};
 
 // The ward of a file, or the first of questions 1 to 5 that it fails.
@@ -29,13 +29,6 @@ pub fn write(ward: ward::Ward, buffer: &mut [u8]) -> ward::Writing
     ensures leaves { λ _. ⌜ now (buffer .exit) ≡ leftOf (now (buffer .entry)) (checkWard (counted ward)) ⌝ }
 {
     ward::write(ward, buffer)
-}
-
-// What the check answers: a refusal; or that the roster keeps the rules, or that a rule is broken.
-pub enum Checked {
-    Refused(Refusal),
-    Passed,
-    Broken,
 }
 
 // Question 12, then the rules, over an accepted ward.

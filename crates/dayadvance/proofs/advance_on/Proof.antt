@@ -4,7 +4,7 @@ use Rattle.refusals.specs.Refusals.{refusalIn}
 use Rattle.fields.specs.Fields.{nurses}
 use Rattle.daylists.specs.Lists.{upTo}
 use Rattle.phases.specs.Phases.{dayListOver, dayPhase, nightOf}
-use Rattle.phases.proofs.OutcomeLaws.{told-refused}
+use Rattle.outcomes.proofs.OutcomeLaws.{told-refused}
 use Rattle.dayadvance.proofs.DayLaws.{two-before}
 use borrow.Author.Needs.{needs}
 use Rattle.dayadvance.proofs.advance_on.Statement.{statement}

@@ -8,7 +8,7 @@ use Rattle.refusals.specs.Refusals.{refusalIn}
 use Rattle.fields.specs.Fields.{nurses}
 use Rattle.daylists.specs.Lists.{upTo}
 use Rattle.phases.specs.Phases.{dayListOver, dayPhase, nightOf}
-use Rattle.phases.proofs.OutcomeLaws.{front-fits, told-refused, told-advanced}
+use Rattle.outcomes.proofs.OutcomeLaws.{front-fits, told-refused, told-advanced}
 use Rattle.dayadvance.proofs.DayLaws.{Open, day-lists, day-seeks, two-after, opened, lists-front, stored-zero}
 use borrow.Author.Needs.{needs}
 use Rattle.dayadvance.proofs.with_lists.Statement.{statement}

@@ -8,8 +8,8 @@ use Rattle.refusals.specs.Refusals.{refusalIn}
 use Rattle.nights.specs.Nights.{commonOf}
 use Rattle.search.specs.Stored.{refusalStored}
 use Rattle.phases.specs.Phases.{nightPhase}
-use Rattle.phases.specs.Outcomes.{rosterOf, callOf}
-use Rattle.phases.proofs.OutcomeLaws.{list-front, front-fits, told-refused, told-advanced}
+use Rattle.outcomes.specs.Outcomes.{rosterOf, callOf}
+use Rattle.outcomes.proofs.OutcomeLaws.{list-front, front-fits, told-refused, told-advanced}
 use Rattle.nightadvance.proofs.NightLaws.{Clear, clear, night-letters, night-lists, night-seeks}
 use borrow.Author.Needs.{needs}
 use Rattle.nightadvance.proofs.advance_on.Statement.{statement}

@@ -7,7 +7,7 @@ use Rattle.fields.specs.Sizes.{letterPlaces}
 use Rattle.search.specs.declared.Record.{Record as Stored}
 use borrow.Author.Tests.{not-true, not-false}
 use Rattle.history.specs.Phase.{Answer}
-use Rattle.phases.specs.Outcomes.{callOf}
+use Rattle.outcomes.specs.Outcomes.{callOf}
 use Rattle.planner.specs.Advances.{advanceDays}
 use Rattle.planner.specs.Left.{dayLeft}
 use Rattle.pantheryl.proofs.AnswerLaws.{told, count-fits, in-roster, advance-refused, advance-done}

@@ -2,7 +2,7 @@
 use lib.ListN.{length}
 use Rattle.search.specs.declared.Record.{Record as Stored}
 use borrow.Author.Tests.{not-true, not-false}
-use Rattle.phases.specs.Outcomes.{callOf}
+use Rattle.outcomes.specs.Outcomes.{callOf}
 use Rattle.planner.specs.Advances.{advanceNights}
 use Rattle.planner.specs.Left.{nightLeft}
 use Rattle.pantheryl.proofs.AnswerLaws.{advance-refused, advance-done}

@@ -1,6 +1,6 @@
 -- `pantheryl::pantheryl_check` meets its contract, by the planner's.
 use mathlib.Core.Path.{ap, _∙_}
-use Rattle.pantheryl.specs.Answers.{checkWords}
+use Rattle.answerwords.specs.AnswerWords.{checkWords}
 use borrow.Author.Needs.{needs}
 use Rattle.pantheryl.proofs.pantheryl_check.Statement.{statement}
 use Rattle.pantheryl.proofs.pantheryl_check.Tie as tie
