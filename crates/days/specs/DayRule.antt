@@ -19,7 +19,7 @@ pub record Among (row : ℕ → ℕ) (k t : ℕ) (passes : ℕ → Type 0) : Typ
 
 -- what a row keeps, at each window that ends in the month
 pub record RowRule (longest n : ℕ) (row : ℕ → ℕ) : Type 0 where
-  -- at most D day duties running
+  -- at most D day duties running, other duty counted with them
   pub run : (t : ℕ) → 7 ≤ t → t < 7 + n → Among row longest t (λ duty. inRun duty ≡ false)
   -- a rest in every seven days
   pub rest : (t : ℕ) → 7 ≤ t → t < 7 + n → Among row 6 t (λ duty. isRest duty ≡ true)

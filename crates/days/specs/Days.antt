@@ -24,9 +24,9 @@ rowDuty b p q t = cond (ltb t 7) (duty b t) (dutyOn b p q (t - 6))
 abbrev pub window : (ℕ → ℕ) → ℕ → ℕ → List ℕ
 window row k t = map row (upFrom (suc t - k) k)
 
--- which duties count in a run of day duty: other duty is not day duty
+-- which duties count in a run of day duty: day duty, and other duty with it (document 02, job 1)
 abbrev pub inRun : ℕ → Bool
-inRun duty = eqb duty 1
+inRun duty = eqb duty 1 || eqb duty 4
 
 abbrev pub isRest : ℕ → Bool
 isRest duty = eqb duty 0
@@ -54,7 +54,7 @@ unfoldable pub freeOf : List (List ℕ) → (ℕ → ℕ) → ℕ → Bool
 freeOf [] row t = true
 freeOf (s ∷ ss) row t = not (same s (window row (length s) t)) && freeOf ss row t
 
--- the windows that end at place t: at most D day duties running, a rest in every seven days, no forbidden sequence
+-- the windows that end at place t: at most D duties running that count in a run, a rest in every seven days, no forbidden sequence
 unfoldable pub windowsHold : (ℕ → ℕ) → ℕ → ℕ → Bool
 windowsHold row longest t =
     not (all inRun (window row (suc longest) t))

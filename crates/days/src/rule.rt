@@ -22,11 +22,11 @@ pub fn has(set: u64, i: usize) -> bool
     (set >> i) % 2 == 1
 }
 
-// Which duties count in a run of day duty.
+// Which duties count in a run of day duty: day and other.
 fn in_run(duty: u64) -> bool
     ensures { λ r. ⌜ r ≡ inRun duty ⌝ }
 {
-    duty == 1
+    duty == 1 || duty == 4
 }
 
 fn is_rest(duty: u64) -> bool
@@ -49,7 +49,7 @@ fn duty_at(row: &[u64; ROW], q: u64, t: usize) -> u64
     row[t]
 }
 
-// More than `longest` day duties running, the last at place t.
+// More than `longest` duties running that count in a run, the last at place t.
 fn long_run(row: &[u64; ROW], q: u64, longest: usize, t: usize) -> bool
     requires { ⌜ t < rowPlaces ⌝ }
     requires { ⌜ longest ≤ t ⌝ }

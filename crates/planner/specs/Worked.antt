@@ -1,4 +1,4 @@
--- What the definitions come to, computed by the prover, on the ward worked through in document 01 and on the second one of fields/specs/Worked.antt.
+-- What the definitions come to, computed by the prover, on the ward worked through in document 01 and on the others of fields/specs/Worked.antt.
 use Prim.Native.Nat.{ℕ, zero, suc}
 use mathlib.Core.Path.{_≡_, refl}
 use mathlib.Core.Bool.{true, false}
@@ -12,7 +12,7 @@ use Rattle.codec.specs.Groups.{encode, decode}
 use Rattle.layout.specs.Grammar.{good, bad, read, check, failedBy, bytesOf}
 use Rattle.ward.specs.Answers.{readWard, checkWard}
 use Rattle.fields.specs.Fields.{blockAt, block, groupsAt, memberSets, needsAt, needs}
-use Rattle.fields.specs.Worked.{workedWard, secondWard}
+use Rattle.fields.specs.Worked.{workedWard, secondWard, redatedWard}
 use Rattle.rows.specs.Rows.{rowState, marksAllow, availableOn, dutyOn}
 use Rattle.nights.specs.Nights.{common, commonOf, inCommon, starts, follow}
 use Rattle.nights.specs.Hers.{nightList, hers, shifted, through, lastRun}
@@ -125,12 +125,13 @@ worked-through = record {
 
 -- ---- the second ward
 
--- the nights that its search finds, and the roster over them: Nn/--/, n/-Nn/ and /--+/N
+-- the nights that its search finds
 abbrev secondNights : List ℕ
 secondNights = 1 ∷ 8 ∷ 32 ∷ []
 
+-- the roster over them where nurse 3 may have 3 rests: Nn/--/, n/-Nn/ and /-/+/N
 abbrev secondRoster : List ℕ
-secondRoster = 78 ∷ 110 ∷ 47 ∷ 45 ∷ 45 ∷ 47 ∷ 110 ∷ 47 ∷ 45 ∷ 78 ∷ 110 ∷ 47 ∷ 47 ∷ 45 ∷ 45 ∷ 43 ∷ 47 ∷ 78 ∷ []
+secondRoster = 78 ∷ 110 ∷ 47 ∷ 45 ∷ 45 ∷ 47 ∷ 110 ∷ 47 ∷ 45 ∷ 78 ∷ 110 ∷ 47 ∷ 47 ∷ 45 ∷ 47 ∷ 43 ∷ 47 ∷ 78 ∷ []
 
 -- its first six and eight night steps, the last one first
 abbrev sixSteps : History
@@ -174,37 +175,42 @@ pub record SecondWorked : Type 0 where
   pub stored-removals : take 5 ((store (recordOf (nightPhase secondWard) eightSteps)) .removals)
       ≡ record { nurse = 2; has = true; pattern = 40 } ∷ record { nurse = 3; has = true; pattern = 1 } ∷ record { nurse = 1; has = true; pattern = 17 }
       ∷ record { nurse = 1; has = true; pattern = 16 } ∷ noRemoval ∷ []
-  -- by day over these nights: step by step to the roster; then no room for the last nurse's list, and none for the first one's
+  -- by day over these nights: nurse 3 has one row, with too many of the group on day 5; then no room for the last nurse's list, and none for the first one's
   pub days-1 : dayList secondWard 0 1 ≡ 8 ∷ 16 ∷ 24 ∷ 32 ∷ 40 ∷ 48 ∷ []
   pub days-2 : dayList secondWard 1 8 ≡ 4 ∷ []
-  pub days-3 : dayList secondWard 2 32 ≡ 6 ∷ 18 ∷ 20 ∷ []
-  pub day-answers : answers (dayPhase secondWard (nightOf secondNights)) (call 0 10 ∷ ones 5 10 ++ (call 1 9 ∷ call 1 3 ∷ []))
-      ≡ ended End·asked 0 30000011 [] ∷ after 20000004 ∷ after 10000001 ∷ after 1 ∷ after 1 ∷ ended End·zero 1 0 secondRoster ∷ refuses 9 3 ∷ refuses 9 1 ∷ []
-  pub day-steps : history (dayPhase secondWard (nightOf secondNights)) (call 100 10 ∷ []) ≡ did 2 6 ∷ did 0 24 ∷ did 1 4 ∷ did 0 8 ∷ did 2 18 ∷ []
-  pub day-stored : (inTurn (advanceDays secondWard secondNights) (call 100 10 ∷ []) allZero) .0 ≡ ended End·zero 5 0 secondRoster ∷ []
-  -- over other nights at penalty zero, where nurse 1 starts on day 5: no exchange is left after seven steps
+  pub days-3 : dayList secondWard 2 32 ≡ 18 ∷ []
+  pub day-answers : answers (dayPhase secondWard (nightOf secondNights)) (call 0 8 ∷ ones 5 8 ++ (call 1 7 ∷ call 1 3 ∷ []))
+      ≡ ended End·asked 0 30000011 [] ∷ after 20000004 ∷ after 10000001 ∷ after 1 ∷ after 1 ∷ after 1 ∷ refuses 9 3 ∷ refuses 9 1 ∷ []
+  -- over other nights at penalty zero, where nurse 1 starts on day 5: no exchange is left after five steps
   pub none-days-1 : dayList secondWard 0 16 ≡ 4 ∷ 8 ∷ 12 ∷ []
-  pub none-answers : answers (dayPhase secondWard (nightOf (16 ∷ 8 ∷ 32 ∷ []))) (call 0 7 ∷ ones 6 7 ++ (call 100 7 ∷ call 1 7 ∷ []))
-      ≡ ended End·asked 0 30000011 [] ∷ after 20000004 ∷ after 10000001 ∷ after 1 ∷ after 1 ∷ after 3 ∷ after 6
-      ∷ ended End·none 1 9 [] ∷ ended End·none 0 9 [] ∷ []
-  pub none-steps : history (dayPhase secondWard (nightOf (16 ∷ 8 ∷ 32 ∷ []))) (call 100 7 ∷ [])
-      ≡ did 2 20 ∷ did 0 4 ∷ did 2 6 ∷ did 0 12 ∷ did 1 4 ∷ did 0 8 ∷ did 2 18 ∷ []
+  pub none-answers : answers (dayPhase secondWard (nightOf (16 ∷ 8 ∷ 32 ∷ []))) (call 0 5 ∷ ones 4 5 ++ (call 100 5 ∷ call 1 5 ∷ []))
+      ≡ ended End·asked 0 30000011 [] ∷ after 20000004 ∷ after 10000001 ∷ after 1 ∷ after 1 ∷ ended End·none 1 4 [] ∷ ended End·none 0 4 [] ∷ []
+  pub none-steps : history (dayPhase secondWard (nightOf (16 ∷ 8 ∷ 32 ∷ []))) (call 100 5 ∷ [])
+      ≡ did 0 4 ∷ did 0 12 ∷ did 1 4 ∷ did 0 8 ∷ did 2 18 ∷ []
   -- question 8: nights that are not at penalty zero; nights at zero, but nurse 1 has fewer than her least
   pub not-at-zero : answers (dayPhase secondWard (nightOf (1 ∷ 40 ∷ 1 ∷ []))) (call 1 10 ∷ call 10001 10 ∷ call 0 0 ∷ []) ≡ refuses 8 0 ∷ refuses 7 0 ∷ refuses 8 0 ∷ []
   pub not-hers-penalty : nightPenalty secondWard (λ i. some (nightOf (0 ∷ 8 ∷ 32 ∷ []) i)) ≡ 0
   pub not-hers : answers (dayPhase secondWard (nightOf (0 ∷ 8 ∷ 32 ∷ []))) (call 1 10 ∷ []) ≡ refuses 8 0 ∷ []
+  -- re-dated, over the same nights: step by step to the roster
+  pub redated-days-3 : dayList redatedWard 2 32 ≡ 2 ∷ 4 ∷ 16 ∷ 18 ∷ []
+  pub redated-answers : answers (dayPhase redatedWard (nightOf secondNights)) (call 0 11 ∷ ones 5 11 ++ (call 1 10 ∷ []))
+      ≡ ended End·asked 0 30000011 [] ∷ after 20000004 ∷ after 10000001 ∷ after 1 ∷ after 1 ∷ ended End·zero 1 0 secondRoster ∷ refuses 9 3 ∷ []
+  pub redated-steps : history (dayPhase redatedWard (nightOf secondNights)) (call 100 11 ∷ []) ≡ did 2 2 ∷ did 0 24 ∷ did 1 4 ∷ did 0 8 ∷ did 2 18 ∷ []
+  pub redated-stored : (inTurn (advanceDays redatedWard secondNights) (call 100 11 ∷ []) allZero) .0 ≡ ended End·zero 5 0 secondRoster ∷ []
   -- the check of the roster
-  pub roster-checked : checkSays secondWard secondRoster ≡ Passed
+  pub roster-checked : checkSays redatedWard secondRoster ≡ Passed
   -- One rule is broken in each. Nurse 1: three days running; a start under her mark 5.
-  pub days-running : checkSays secondWard (set secondRoster 5 45) ≡ Broken
-  pub against-mark-5 : checkSays secondWard (set secondRoster 5 78) ≡ Broken
-  -- nurse 2: a rest under her mark 2; nurse 3: a rest too many, and no rest in seven days
-  pub against-mark-2 : checkSays secondWard (set secondRoster 8 47) ≡ Broken
-  pub rest-too-many : checkSays secondWard (set secondRoster 14 47) ≡ Broken
-  pub no-rest-in-seven : checkSays secondWard (set (set secondRoster 12 45) 14 47) ≡ Broken
+  pub days-running : checkSays redatedWard (set secondRoster 5 45) ≡ Broken
+  pub against-mark-5 : checkSays redatedWard (set secondRoster 5 78) ≡ Broken
+  -- nurse 3: two days and other duty running, which D 3 would allow; a rest too many where she may have 2
+  pub other-running : checkSays redatedWard (set secondRoster 14 45) ≡ Broken
+  pub other-allowed : checkSays (set redatedWard 9 3) (set secondRoster 14 45) ≡ Passed
+  pub rest-too-many : checkSays secondWard secondRoster ≡ Broken
+  -- nurse 2: a rest under her mark 2, where D 3 lets nurse 3 meet the day's need
+  pub against-mark-2 : checkSays (set redatedWard 9 3) (set (set secondRoster 14 45) 8 47) ≡ Broken
   -- day 5: the day need, and the group's high by day
-  pub need-unmet : checkSays secondWard (set secondRoster 4 47) ≡ Broken
-  pub above-high : checkSays secondWard (set (set secondRoster 14 47) 16 45) ≡ Broken
+  pub need-unmet : checkSays redatedWard (set secondRoster 4 47) ≡ Broken
+  pub above-high : checkSays redatedWard (set secondRoster 16 45) ≡ Broken
 
 pub second-worked : SecondWorked
 unfolding secondWard encode decode read check failedBy bytesOf readWard checkWard nightPhase dayPhase nightsOpen commonFits listsFit firstOver upTo answers history advance reply extend run refusal given next penalty allowed advanceOver advanceStored refusalStored replyStored soundStored unusedZero view store recordOf proceed replyOf best total mayTake stepped sound common nightList hers inCommon starts follow shifted through lastRun marksAllow sumTo numberOf filter all upFrom blockAt block groupsAt memberSets needsAt needs rowState availableOn dutyOn onDuty members shortOn overOn unplacedIn nightParts nightPenalty dayParts dayPenalty dayList dayRule choice rowDuty same anyOf freeOf windowsHold rests letters rowLettersOf letter isLetter firstBad misplaced checkLetters checkOver holds rowsHold rowHolds lettersIn sameRow daysHold dayHolds dutyHolds groupHolds lettered
@@ -237,20 +243,23 @@ second-worked = record {
   days-2 = refl;
   days-3 = refl;
   day-answers = refl;
-  day-steps = refl;
-  day-stored = refl;
   none-days-1 = refl;
   none-answers = refl;
   none-steps = refl;
   not-at-zero = refl;
   not-hers-penalty = refl;
   not-hers = refl;
+  redated-days-3 = refl;
+  redated-answers = refl;
+  redated-steps = refl;
+  redated-stored = refl;
   roster-checked = refl;
   days-running = refl;
   against-mark-5 = refl;
-  against-mark-2 = refl;
+  other-running = refl;
+  other-allowed = refl;
   rest-too-many = refl;
-  no-rest-in-seven = refl;
+  against-mark-2 = refl;
   need-unmet = refl;
   above-high = refl;
 }

@@ -47,17 +47,21 @@ pub fn all() -> Vec<Subject> {
         .into_iter()
         .flatten()
         .collect::<Vec<_>>();
-    all.push(surgical());
+    all.push(redated());
     let large = include_bytes!("../../reference/wards/large.ward");
     all.push(Subject { night: Some(30), ..Subject::new("large", large) });
     all
 }
 
 /// Both of its searches end at zero.
-fn surgical() -> Subject {
-    let file = include_bytes!("../../reference/wards/surgical.ward");
+fn redated() -> Subject {
+    let file = include_bytes!("../../reference/wards/redated.ward");
     let (done, _) = Baseline::ListsKept.by_night(file, 1_000, PLACES).expect("no refusal");
     assert_eq!(done.end, End::Zero);
     let nights = done.in_use.into_iter().flatten().collect();
-    Subject { night: Some(1_000), day: Some((nights, 1_000)), ..Subject::new("surgical", file) }
+    Subject {
+        night: Some(1_000),
+        day: Some((nights, 1_000)),
+        ..Subject::new("re-dated surgical", file)
+    }
 }

@@ -4,7 +4,7 @@ use crate::calls::*;
 use crate::case::Case;
 use crate::rounds::FRESH;
 use crate::trial::Trial;
-use reference::samples::{file_of, DEAD_ENDS, LARGE, STUCK, SURGICAL};
+use reference::samples::{file_of, DEAD_ENDS, LARGE, OLD_ROSTER, REDATED, STUCK, SURGICAL};
 
 /// Patterns of the longest common list: 31 days, V 15, L 3, gaps 1.
 const LONGEST_LIST: usize = 2_679_533;
@@ -101,16 +101,27 @@ fn large_wards(trial: &mut Trial) {
     }
 }
 
-/// Both searches of the surgical ward to zero, the stuck ward to none, and 10,000 steps.
+/// Both searches of the re-dated ward to zero, the surgical ward's first, the stuck ward to none,
+/// and 10,000 steps.
 fn whole_searches(trial: &mut Trial) {
     trial.compare("the stuck ward", &nights(STUCK, 1_000, 16_384));
     trial.compare("ten thousand steps", &nights(&never_at_zero(), 10_000, 16_384));
-    let left = trial.compare("the surgical ward", &nights(SURGICAL, 1_000, 16_384));
-    assert_eq!(left.answer()[OUTCOME..=STEPS], [ZERO, 371]);
-    let mut chosen = [0; NURSES];
-    chosen.copy_from_slice(&left.record()[..NURSES]);
-    let left = trial.compare("the surgical ward", &days(SURGICAL, chosen, 1_000, 16_384));
-    assert_eq!(left.answer()[OUTCOME..=STEPS], [ZERO, 38]);
+    let by_day = |trial: &mut Trial, kind, file: &[u8]| {
+        let left = trial.compare(kind, &nights(file, 1_000, 16_384));
+        assert_eq!(left.answer()[OUTCOME..=STEPS], [ZERO, 371]);
+        let mut chosen = [0; NURSES];
+        chosen.copy_from_slice(&left.record()[..NURSES]);
+        trial.compare(kind, &days(file, chosen, 1_000, 16_384))
+    };
+    let left = by_day(trial, "the surgical ward", SURGICAL);
+    assert_eq!(left.answer()[..=PLACE], [10, 27]);
+    let roster = OLD_ROSTER.lines().collect::<String>().into_bytes();
+    let left =
+        trial.compare("the old rule's roster", &Case::Check { file: SURGICAL.to_vec(), roster });
+    assert_eq!(left.answer()[OUTCOME], NO);
+    let left = by_day(trial, "the re-dated ward", REDATED);
+    assert_eq!(left.answer()[OUTCOME..=STEPS], [ZERO, 39]);
     let roster = left.roster().to_vec();
-    trial.compare("the surgical ward", &Case::Check { file: SURGICAL.to_vec(), roster });
+    let left = trial.compare("the re-dated ward", &Case::Check { file: REDATED.to_vec(), roster });
+    assert_eq!(left.answer()[OUTCOME], YES);
 }

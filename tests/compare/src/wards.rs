@@ -6,6 +6,8 @@ use reference::samples::{file_of, random_before, ward_of, Dice};
 use reference::ward::Ward;
 use reference::{days, nights};
 
+/// Where D stands among the head's numbers.
+const LONGEST_DAY_RUN: usize = 9;
 /// Where a nurse's numbers stand: seven duties, bounds of nights and of rests, marks.
 const NIGHT_BOUNDS: usize = 7;
 const REST_BOUNDS: usize = 9;
@@ -242,6 +244,14 @@ fn draw(dice: &mut Dice, span: Span) -> u64 {
 /// Seven days that end in a run of four nights, longer than any of one month.
 const LONGEST_RUN: [u64; 7] = [2, 3, 2, 3, 2, 3, 2];
 
+/// Seven days that end in a run of day and other duty.
+fn run_before(dice: &mut Dice) -> Vec<u64> {
+    let rests = dice.from(1, 5) as usize;
+    let mut before = vec![0; rests];
+    before.resize_with(7, || dice.pick(&[1, 4]));
+    before
+}
+
 /// Head and groups drawn, last month's duties too; no marks, no bounds, no needs.
 fn unbound(dice: &mut Dice, size: &Size) -> Draft {
     let (m, n, r) = (draw(dice, size.nurses), draw(dice, size.days), draw(dice, size.groups));
@@ -254,6 +264,7 @@ fn unbound(dice: &mut Dice, size: &Size) -> Draft {
         let before = match dice.upto(11) {
             0..=3 => vec![0; 7],
             4 => LONGEST_RUN.to_vec(),
+            5 => run_before(dice),
             _ => random_before(dice),
         };
         [before, vec![0, 15, 0, 31], vec![0; n as usize]].concat()
@@ -300,6 +311,18 @@ fn mark_days_off(
         if state == State::Open && dice.one_in(6) && !dice.one_in(size.free) {
             draft.nurses[nurse][MARKS + at] = dice.pick(&[1, 4, 6]);
         }
+    }
+    if dice.one_in(5) {
+        mark_other_duty(dice, ward, draft, nurse, night);
+    }
+}
+
+/// Other duty on the open ones of some days running, at most one more than D.
+fn mark_other_duty(dice: &mut Dice, ward: &Ward, draft: &mut Draft, nurse: usize, night: u32) {
+    let (first, days) = (dice.index(ward.day_count), dice.from(1, draft.head[LONGEST_DAY_RUN] + 1));
+    let states = states(ward, nurse, night).into_iter().enumerate();
+    for (at, _) in states.skip(first).take(days as usize).filter(|day| day.1 == State::Open) {
+        draft.nurses[nurse][MARKS + at] = 4;
     }
 }
 

@@ -11,6 +11,7 @@ use compare::words::{record_of_words, FLAGS, REMOVALS, STEPS_AT};
 use reference::check::check_in;
 use reference::phase::{ask_steps, DayPhase, NightPhase, Phase};
 use reference::record::{advance_by, Record};
+use reference::rows::Duty;
 use reference::tally::Exchange;
 use reference::ward::{parse, Ward};
 use std::io::Write;
@@ -221,6 +222,9 @@ fn ward_faults() -> Vec<(&'static str, Fault)> {
         ("her most rests", Ward(|w| w.nurses.iter_mut().for_each(|n| n.most_rests += 1))),
         ("her least rests", Ward(|w| w.nurses.iter_mut().for_each(|n| n.least_rests = 0))),
         ("day run one too long", Ward(|w| w.longest_day_run = (w.longest_day_run + 1).min(6))),
+        ("other duty ends a run", Ward(|w| w.run_duties = vec![Duty::Day])),
+        ("other duty before the month ends a run", Ward(others_before_end_a_run)),
+        ("a night's second day in a run", Ward(|w| w.run_duties.push(Duty::NightSecond))),
         ("mark 5 as 0", Ward(|w| marks_as(w, 5, 0))),
         ("mark 6 as 1", Ward(|w| marks_as(w, 6, 1))),
         ("mark 4 as 1", Ward(|w| marks_as(w, 4, 1))),
@@ -236,6 +240,15 @@ fn ward_faults() -> Vec<(&'static str, Fault)> {
         ("night needs ignored", Ward(|w| w.days.iter_mut().for_each(|d| d.night.need = 0))),
         ("day needs ignored", Ward(|w| w.days.iter_mut().for_each(|d| d.day.need = 0))),
     ]
+}
+
+/// A 3 without its 2 before it ends a run, and is nothing else but on day 0.
+fn others_before_end_a_run(ward: &mut Ward) {
+    for duty in ward.nurses.iter_mut().flat_map(|nurse| &mut nurse.before[..6]) {
+        if *duty == 4 {
+            *duty = 3;
+        }
+    }
 }
 
 fn marks_as(ward: &mut Ward, mark: u64, other: u64) {

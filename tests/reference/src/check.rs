@@ -22,7 +22,7 @@ fn ask_letters(ward: &Ward, roster: &[u8]) -> Result<(), Refusal> {
 }
 
 /// A row follows from a night and a day pattern of hers.
-fn row_follows(ward: &Ward, nurse: usize, row: &[u8]) -> bool {
+pub fn row_follows(ward: &Ward, nurse: usize, row: &[u8]) -> bool {
     let (night, day) = (days_with(row, b'N'), days_with(row, b'-'));
     nights::hers(ward, nurse, night)
         && days::hers(ward, nurse, night, day)

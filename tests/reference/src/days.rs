@@ -21,7 +21,7 @@ fn keeps_rules(ward: &Ward, nurse: usize, all: &[Duty]) -> bool {
 /// The three window rules for the windows that end on the last day given.
 fn window_kept(ward: &Ward, until: &[Duty]) -> bool {
     let tail = |length: usize| &until[until.len() - length..];
-    let too_long = tail(ward.longest_day_run + 1).iter().all(|&d| d == Duty::Day);
+    let too_long = tail(ward.longest_day_run + 1).iter().all(|d| ward.run_duties.contains(d));
     let rested = tail(7).contains(&Duty::Rest);
     let broken = tail(5) == [Duty::Rest, Duty::Day, Duty::Rest, Duty::Day, Duty::Rest];
     !too_long && rested && !broken
@@ -65,7 +65,7 @@ fn spread(choice: u32, free: &[u32]) -> u32 {
 
 /// What may be done from a day on hangs on this alone: the day, the six duties before it
 /// and the month's rests so far.
-type Stand = (usize, [u8; 6], u64);
+type Stand = (usize, [Duty; 6], u64);
 
 /// Counts the ways to finish a row, each stand once.
 struct Walk<'a> {
@@ -108,7 +108,7 @@ impl<'a> Walk<'a> {
         if day > self.ward.day_count {
             return u64::from(rests >= her.least_rests);
         }
-        let stand = (day, six(all), rests);
+        let stand = (day, last_six(all), rests);
         if let Some(&known) = self.ways.get(&stand) {
             return known;
         }
@@ -145,16 +145,9 @@ impl<'a> Walk<'a> {
     }
 }
 
-/// The last six duties: rest, day or neither.
-fn six(all: &[Duty]) -> [u8; 6] {
-    let mut last = [0; 6];
-    for (kind, duty) in last.iter_mut().zip(&all[all.len() - 6..]) {
-        *kind = match duty {
-            Duty::Rest => 0,
-            Duty::Day => 1,
-            _ => 2,
-        };
-    }
+fn last_six(all: &[Duty]) -> [Duty; 6] {
+    let mut last = [Duty::Rest; 6];
+    last.copy_from_slice(&all[all.len() - 6..]);
     last
 }
 

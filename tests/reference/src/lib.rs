@@ -1,4 +1,4 @@
-//! A second, deliberately naive reading of document 01, the two-shift ward planner.
+//! A second, deliberately naive reading of documents 01 and 02, the two-shift ward planner.
 //! Nothing here is proved. It is run beside the proved planner and compared with it.
 
 pub mod check;

@@ -16,7 +16,7 @@ pub enum State {
 }
 
 /// What a nurse does on one day.
-#[derive(Clone, Copy, Debug, PartialEq, Eq)]
+#[derive(Clone, Copy, Debug, PartialEq, Eq, Hash)]
 pub enum Duty {
     Rest,
     Day,

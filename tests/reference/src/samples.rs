@@ -5,8 +5,12 @@ use crate::ward::{encode, parse, Ward};
 pub const WORKED: &[u8] = include_bytes!("../wards/worked.ward");
 pub const STUCK: &[u8] = include_bytes!("../wards/stuck.ward");
 pub const SURGICAL: &[u8] = include_bytes!("../wards/surgical.ward");
+pub const REDATED: &[u8] = include_bytes!("../wards/redated.ward");
 pub const DEAD_ENDS: &[u8] = include_bytes!("../wards/dead-ends.ward");
 pub const LARGE: &[u8] = include_bytes!("../wards/large.ward");
+
+/// The surgical ward's roster from before other duty counted in a run, a line a nurse.
+pub const OLD_ROSTER: &str = include_str!("../wards/surgical-old-rule.roster");
 
 /// The numbers of "A ward worked through".
 pub const WORKED_NUMBERS: [u64; 50] = [

@@ -1,5 +1,7 @@
 //! The ward file: reader and writer ("Ward file", questions 1 to 6).
 
+use crate::rows::Duty;
+
 /// Most numbers a ward can have.
 pub const MOST_NUMBERS: usize = 4094;
 /// "At most 7 groups".
@@ -81,6 +83,8 @@ pub struct Ward {
     pub tabu_length: usize,
     /// D
     pub longest_day_run: usize,
+    /// what counts in a run of day duty: no number of the file, the same in every ward
+    pub run_duties: Vec<Duty>,
     pub night_weights: Weights,
     pub day_weights: Weights,
     pub nurses: Vec<Nurse>,
@@ -264,6 +268,8 @@ fn structure(numbers: Vec<u64>) -> Ward {
         gaps: [numbers[5], numbers[6], numbers[7]],
         tabu_length: numbers[8] as usize,
         longest_day_run: numbers[9] as usize,
+        // "counts other duty with day duty in the longest run D" (document 02, job 1)
+        run_duties: vec![Duty::Day, Duty::Other],
         night_weights: weights(&numbers[10..13]),
         day_weights: weights(&numbers[13..16]),
         nurses: numbers[HEADER..groups_at].chunks(per_nurse).map(nurse).collect(),

@@ -16,6 +16,8 @@ pub struct Open {
     /// day duty and rest before the month
     worked_before: u64,
     rested_before: u64,
+    /// other duty, before the month and in it
+    other: u64,
     /// days of the month that are rest where they are not worked
     idle_rest: u64,
     may: u32,
@@ -28,6 +30,7 @@ impl Open {
         let before =
             |duty: u8| -> u64 { (0..7).map(|at| u64::from(nurse.before[at] == duty) << at).sum() };
         let resting = ward.month() & !(row.starts | row.seconds | nurse.marks[4]) | row.rests;
+        let other = ward.month() & nurse.marks[4] & !(row.starts | row.seconds | row.rests);
         Open {
             days: ward.days,
             day_run: ward.day_run,
@@ -35,6 +38,7 @@ impl Open {
             most_rests: nurse.most_rests,
             worked_before: before(1),
             rested_before: before(0),
+            other: before(4) | u64::from(other) << BEFORE,
             idle_rest: u64::from(resting & ward.month()) << BEFORE,
             may: nurse.available(row),
             must: nurse.marks[2],
@@ -53,9 +57,9 @@ impl Open {
             let last = first + length - 1;
             last >= BEFORE && last < BEFORE + self.days as u32
         };
-        let (worked, rested) = (worked >> first, rested >> first);
+        let (worked, rested, other) = (worked >> first, rested >> first, self.other >> first);
         let run = (1u64 << (self.day_run + 1)) - 1;
-        !(ends(self.day_run + 1) && worked & run == run
+        !(ends(self.day_run + 1) && (worked | other) & run == run
             || ends(7) && rested & 0x7f == 0
             || ends(5) && worked & 0b01010 == 0b01010 && rested & 0b10101 == 0b10101)
     }

@@ -1,7 +1,7 @@
 //! A frozen baseline of edition one: plain Rust, tuned, with nothing proved, for the ratios of
-//! `docs/BENCHMARKS.md` and for nothing else. It reads, writes and checks wards of edition one and
-//! advances fresh searches on them. It does not follow the planner: later rules, editions and calls
-//! have no place here.
+//! `docs/BENCHMARKS.md` and for nothing else. It reads, writes and checks wards of edition one, by
+//! the rules in force for them, and advances fresh searches on them. It does not follow the planner:
+//! later editions and calls have no place here.
 
 mod check;
 mod days;

@@ -1,9 +1,10 @@
 //! The roster check: the worked roster, its spoilings, and rosters given out.
 
-use crate::check::{check, check_in};
+use crate::check::{check, check_in, row_follows};
 use crate::phase::{DayPhase, End, NightPhase, Phase};
 use crate::record::{advance_day, advance_day_in, advance_night, advance_night_in, fresh};
 use crate::samples::*;
+use crate::ward::parse;
 use crate::{penalty, rows};
 
 #[test]
@@ -54,14 +55,27 @@ fn every_roster_of_the_worked_ward() {
 }
 
 #[test]
-fn surgical_roster() {
-    let night = advance_night(SURGICAL, &fresh(), 1000, 16_384).unwrap();
-    let day = advance_day(SURGICAL, &night.record.patterns, &fresh(), 1000, 16_384).unwrap();
+fn redated_roster() {
+    let night = advance_night(REDATED, &fresh(), 1000, 16_384).unwrap();
+    let day = advance_day(REDATED, &night.record.patterns, &fresh(), 1000, 16_384).unwrap();
     let roster = day.roster.unwrap();
-    assert_eq!(check(SURGICAL, &roster), Ok(true));
+    assert_eq!(check(REDATED, &roster), Ok(true));
     let mut spoiled = roster.clone();
     spoiled.swap(0, 1);
-    assert_eq!(check(SURGICAL, &spoiled), Ok(false));
+    assert_eq!(check(REDATED, &spoiled), Ok(false));
+}
+
+/// It was good until other duty counted in a run; these nurses' rows no longer are.
+#[test]
+fn surgical_roster_of_the_old_rule() {
+    let ward = parse(SURGICAL).unwrap();
+    let rows: Vec<&[u8]> = OLD_ROSTER.lines().map(str::as_bytes).collect();
+    let broken = |nurse: &usize| !row_follows(&ward, nurse - 1, rows[nurse - 1]);
+    assert_eq!((1..=28).filter(broken).collect::<Vec<_>>(), [10, 18, 19, 23, 27]);
+    assert_eq!(check(SURGICAL, &rows.concat()), Ok(false));
+    let mut by_old_rule = ward.clone();
+    by_old_rule.run_duties = vec![rows::Duty::Day];
+    assert_eq!(check_in(&by_old_rule, &rows.concat()), Ok(true));
 }
 
 #[test]

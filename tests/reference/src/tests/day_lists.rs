@@ -25,18 +25,45 @@ fn run_of_day_duty() {
     assert!(!hers(&one.ward(), 0, 0, 0b111));
     one.before = [0, 0, 0, 0, 0, 1, 1];
     assert!(!hers(&one.ward(), 0, 0, 0b001));
-    // other duty ends a run and is no rest
-    one.before = [0, 0, 0, 0, 0, 1, 4];
-    assert!(hers(&one.ward(), 0, 0, 0b011));
+    // a night ends a run and is no rest
+    one.before = [0, 0, 0, 1, 1, 2, 3];
+    one.marks = vec![0, 2, 0];
+    assert!(hers(&one.ward(), 0, 0, 0b110));
+}
+
+/// Document 02, job 1: with D 3 "- - + -" is too long and "- + /" is fine.
+#[test]
+fn other_duty_in_a_run() {
+    let mut one = day_ward(4);
+    one.day_run = 3;
+    one.marks = vec![0, 0, 4, 0];
+    assert!(!hers(&one.ward(), 0, 0, 0b1011)); // --+-
+    assert!(hers(&one.ward(), 0, 0, 0b0010)); // /-+/
+    one.marks = vec![0, 4, 0, 0];
+    assert_eq!(list_by_filter(&one.ward(), 0, 0), [0, 1, 4, 5, 8, 9, 12]);
+    // other duty alone
+    one.marks = vec![4, 4, 4, 0];
+    assert_eq!(list_by_filter(&one.ward(), 0, 0), [0]);
+    one.marks = vec![4; 4];
+    assert_eq!(list_by_filter(&one.ward(), 0, 0), []);
+    // before the month
+    let mut one = day_ward(2);
+    one.day_run = 3;
+    one.before = [0, 0, 0, 0, 4, 1, 4];
+    assert_eq!(list_by_filter(&one.ward(), 0, 0), [0, 2]);
+    // a run that ended before the month is not judged
+    one.before = [0, 4, 1, 4, 1, 4, 0];
+    assert_eq!(list_by_filter(&one.ward(), 0, 0), [0, 1, 2, 3]);
 }
 
 #[test]
 fn rest_in_every_seven_days() {
+    // nights keep the run short: seven day or other duties break D whatever it is
     let mut one = day_ward(2);
-    one.before = [0, 4, 4, 4, 4, 4, 4];
+    one.before = [0, 4, 2, 3, 4, 1, 4];
     assert!(!hers(&one.ward(), 0, 0, 0b01));
     assert!(hers(&one.ward(), 0, 0, 0b10));
-    one.before = [4, 0, 4, 4, 4, 4, 4];
+    one.before = [4, 0, 2, 3, 4, 1, 4];
     assert!(hers(&one.ward(), 0, 0, 0b01));
     assert!(!hers(&one.ward(), 0, 0, 0b11));
 }
@@ -50,6 +77,9 @@ fn rest_day_rest_day_rest() {
     one.before = [0, 0, 0, 0, 1, 0, 1];
     assert!(!hers(&one.ward(), 0, 0, 0));
     assert!(hers(&one.ward(), 0, 0, 1));
+    // other duty is not day duty
+    one.before = [0, 0, 0, 0, 1, 0, 4];
+    assert!(hers(&one.ward(), 0, 0, 0));
 }
 
 #[test]
