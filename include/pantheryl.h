@@ -1,9 +1,12 @@
 /* Pantheryl: a hospital ward's monthly two-shift roster.
  *
- * A ward is handed over as the bytes of a ward file. No call keeps anything between calls, allocates, or prints. Every call takes any
- * content: it either answers or refuses. The buffers of one call must not overlap. A pointer must not be null, also where its length is 0.
- * A pointer with a size in its comment, as numbers [4094], points to that many places, all readable and, where the call writes there, writable,
- * whatever a count says. A call takes less than 192 KiB of stack.
+ * A ward is handed over as the bytes of a ward file, of edition one or two. No call keeps anything between calls, allocates, or prints. Every
+ * call takes any content: it either answers or refuses. The buffers of one call must not overlap. A pointer must not be null, also where its
+ * length is 0. A pointer with a size in its comment, as numbers [PANTHERYL_NUMBERS], points to that many places, all readable and, where the
+ * call writes there, writable, whatever a count says. A call takes less than 192 KiB of stack.
+ *
+ * A ward of edition two may have pairs, each of two days one after the other. By night a nurse's pattern is then a night pattern and the number
+ * of a pair, from 1, both of whose days she has off. In a ward without pairs, of either edition, and by day the number is 0.
  *
  * Every call writes six words into answer:
  *
@@ -21,21 +24,24 @@
  *
  *    1  the file ends before a number does, or a number is missing     place: offset of the number; for the writer its index
  *    2  a number has more than 7 groups, or is not in its shortest form       offset
- *    3  a number is out of its field's range, or below the pair's first       offset or index
+ *    3  a number is out of its field's range, or below the least or low       offset or index
+ *       before it
  *    4  a duty of the seven days before the month does not follow the last    offset or index
  *    5  something follows the last number                                     first extra offset or index
  *    6  the writer's buffer is too short                                      0
  *    7  k is above 10,000, or the steps so far plus k above 1,000,000         0
- *    8  by day: a night pattern is not hers, or the nights have a penalty     0
+ *    8  by day: a night pattern with its pair is not hers, or the nights      0
+ *       have a penalty
  *    9  the buffer does not hold the list of patterns, or the lists           0; by day the first nurse who does not fit, from 1
- *   10  a nurse has no pattern                                                the lowest such nurse, from 1
+ *   10  a nurse has no pattern; by night with pairs, none with a pair         the lowest such nurse, from 1
  *   11  the record is not one of this ward: a placed nurse holds a pattern    0
  *       that is not hers; one of its removals (as many as steps so far, but
  *       not above TL) names no nurse of the ward, or a pattern that is not
- *       that nurse's; or a field that is not used is not 0: the pattern of
- *       an unplaced nurse, pattern and flag past the last nurse, the pattern
- *       of a removal whose flag is not set, all of the removals' places after
- *       those. A flag that is not 0 is set
+ *       that nurse's; or a field that is not used is not 0: pattern and pair
+ *       of an unplaced nurse, pattern, pair and flag past the last nurse,
+ *       pattern and pair of a removal whose flag is not set, all of the
+ *       removals' places after those. A flag that is not 0 is set. A pattern
+ *       that is hers is so with its pair; by day the pair is 0
  *   12  the roster has another letter than / - N n +, or not m times n        first bad index, else the count given
  */
 #ifndef PANTHERYL_H
@@ -44,11 +50,13 @@
 #include <stddef.h>
 #include <stdint.h>
 
-#define PANTHERYL_NUMBERS 4094 /* the most numbers that a ward has */
-#define PANTHERYL_RECORD 289   /* words of a search record */
+#define PANTHERYL_FILE 4203    /* the most bytes that a ward file of edition one or two has */
+#define PANTHERYL_NUMBERS 4441 /* places for a ward's numbers; a ward of edition one or two has at most 4,107 of them */
 #define PANTHERYL_NURSES 48    /* the most nurses that a ward has */
+#define PANTHERYL_NIGHTS 96    /* words of a choice of nights, the first of a night record: each nurse's night pattern, each nurse's pair */
+#define PANTHERYL_RECORD 401   /* words of a search record */
 #define PANTHERYL_ROSTER 1488  /* the most letters that a roster has */
-#define PANTHERYL_ANSWER 6
+#define PANTHERYL_ANSWER 6     /* words of an answer */
 
 #ifdef __cplusplus
 extern "C" {
@@ -57,50 +65,54 @@ extern "C" {
 /* Reads a ward file: questions 1 to 5.
  *
  * file, file_len   the file's bytes
- * numbers          written, all 4,094 places: the ward's numbers in file order, then 0 in all places after them
+ * numbers          written, all places: the ward's numbers in file order, then 0 in all places after them
  * answer           written: count is how many numbers there are
  */
-void pantheryl_read(const uint8_t *file, size_t file_len, uint64_t *numbers /* [4094] */, uint64_t *answer /* [6] */);
+void pantheryl_read(const uint8_t *file, size_t file_len, uint64_t *numbers /* [PANTHERYL_NUMBERS] */,
+                    uint64_t *answer /* [PANTHERYL_ANSWER] */);
 
 /* Writes a ward file: questions 1, 3, 4, 5 (places are indexes into numbers) and 6.
  *
- * numbers, count      the ward is the first count numbers; the others do not matter, but all 4,094 places are read. Of a count above 4,094 the
- *                     missing ones are 0
- * buffer, buffer_len  written from its start: the file's bytes; the places after them are untouched. 4,190 bytes hold any ward
+ * numbers, count      the ward is the first count numbers; the others do not matter, but all places are read. Of a count above
+ *                     PANTHERYL_NUMBERS the missing ones are 0
+ * buffer, buffer_len  written from its start: the file's bytes; the places after them are untouched. PANTHERYL_FILE bytes hold any ward of
+ *                     editions one and two
  * answer              written: count is how many bytes there are
  */
-void pantheryl_write(const uint64_t *numbers /* [4094] */, uint64_t count, uint8_t *buffer, size_t buffer_len,
-                     uint64_t *answer /* [6] */);
+void pantheryl_write(const uint64_t *numbers /* [PANTHERYL_NUMBERS] */, uint64_t count, uint8_t *buffer, size_t buffer_len,
+                     uint64_t *answer /* [PANTHERYL_ANSWER] */);
 
 /* Advances the night search by up to k steps: questions 1 to 5, 7, 9, 10 and 11.
  *
  * file, file_len      the ward file's bytes, the same throughout a search
- * record              the search so far, in and out; 289 zeros begin one. Words 0 to 47 are the nurses' night patterns (day d is bit d-1);
- *                     48 to 95 their flags, 1 where she is placed; 96 to 287 the 64 removals, the newest first, each a nurse's number from 1,
- *                     a flag and the pattern that she gave up, if any; 288 all steps so far. A flag is read as set if it is not 0, and
- *                     written as 0 or 1. Written unless the call is refused, also where no step was made
+ * record              the search so far, in and out; all zeros begin one. Words 0 to 47 are the nurses' night patterns (day d is bit d-1);
+ *                     48 to 95 the numbers of their pairs; 96 to 143 their flags, 1 where she is placed; 144 to 399 the 64 removals, the
+ *                     newest first, each four words: a nurse's number from 1, a flag, the pattern and the pair that she gave up, if any; 400
+ *                     all steps so far. A flag is read as set if it is not 0, and written as 0 or 1. Written unless the call is refused, also
+ *                     where no step was made
  * k                   the most steps to make, at most 10,000
- * buffer, buffer_len  room for the common list of patterns, counted in 32-bit numbers. Written from its start; the places after the list are
- *                     untouched. It carries nothing from call to call
+ * buffer, buffer_len  room for the common list of night patterns, counted in 32-bit numbers; pairs take no place in it. Written from its start;
+ *                     the places after the list are untouched. It carries nothing from call to call
  * answer              written: outcome, steps and penalty; count is 0
  */
-void pantheryl_advance_nights(const uint8_t *file, size_t file_len, uint32_t *record /* [289] */, uint32_t k, uint32_t *buffer,
-                              size_t buffer_len, uint64_t *answer /* [6] */);
+void pantheryl_advance_nights(const uint8_t *file, size_t file_len, uint32_t *record /* [PANTHERYL_RECORD] */, uint32_t k, uint32_t *buffer,
+                              size_t buffer_len, uint64_t *answer /* [PANTHERYL_ANSWER] */);
 
 /* Advances the day search over one choice of nights by up to k steps: questions 1 to 5 and 7 to 11.
  *
  * file, file_len      as at night
- * nights              each nurse's night pattern, as words 0 to 47 of a night record that ended at zero; the same throughout a search
- * record              as at night, with the nurses' day patterns; 289 zeros begin a search
+ * nights              each nurse's night pattern and pair, as words 0 to 95 of a night record that ended at zero; the same throughout a search
+ * record              as at night, with the nurses' day patterns, and 0 for each pair; all zeros begin a search
  * k                   as at night
  * buffer, buffer_len  room for all nurses' lists of day patterns, each after the one before. Written from its start; the places after the
  *                     lists are untouched
  * roster              written where the outcome is 1, zero: m times n letters from its start, row after row (see pantheryl_check); the
- *                     places after them keep what they hold. At any other outcome none is written. All 1,488 places must be there
+ *                     places after them keep what they hold. At any other outcome none is written. All places must be there
  * answer              written: outcome, steps and penalty; count is the number of letters given out, 0 where there are none
  */
-void pantheryl_advance_days(const uint8_t *file, size_t file_len, const uint32_t *nights /* [48] */, uint32_t *record /* [289] */,
-                            uint32_t k, uint32_t *buffer, size_t buffer_len, uint8_t *roster /* [1488] */, uint64_t *answer /* [6] */);
+void pantheryl_advance_days(const uint8_t *file, size_t file_len, const uint32_t *nights /* [PANTHERYL_NIGHTS] */,
+                            uint32_t *record /* [PANTHERYL_RECORD] */, uint32_t k, uint32_t *buffer, size_t buffer_len,
+                            uint8_t *roster /* [PANTHERYL_ROSTER] */, uint64_t *answer /* [PANTHERYL_ANSWER] */);
 
 /* Checks a roster: questions 1 to 5 and 12.
  *
@@ -108,7 +120,8 @@ void pantheryl_advance_days(const uint8_t *file, size_t file_len, const uint32_t
  * roster, roster_len  m times n letters, row after row: / rest, - day, N night's first day, n its second, + other
  * answer              written: outcome is 1 where every row and every day keeps the rules, else 2
  */
-void pantheryl_check(const uint8_t *file, size_t file_len, const uint8_t *roster, size_t roster_len, uint64_t *answer /* [6] */);
+void pantheryl_check(const uint8_t *file, size_t file_len, const uint8_t *roster, size_t roster_len,
+                     uint64_t *answer /* [PANTHERYL_ANSWER] */);
 
 #ifdef __cplusplus
 }

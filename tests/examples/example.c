@@ -15,10 +15,10 @@ static const uint8_t ward[] = {
     1, 1, 0, 1, 0, 0,                               /* each day: night need, day need */
 };
 
-static void print(const char *call, const uint64_t answer[6])
+static void print(const char *call, const uint64_t answer[PANTHERYL_ANSWER])
 {
     printf("%s:", call);
-    for (int i = 0; i < 6; i++)
+    for (int i = 0; i < PANTHERYL_ANSWER; i++)
         printf(" %llu", (unsigned long long)answer[i]);
     printf("\n");
 }
@@ -33,7 +33,7 @@ int main(void)
     pantheryl_advance_nights(ward, sizeof ward, nights, 1000, buffer, 16384, answer);
     print("nights", answer);
 
-    /* The night patterns are the first 48 words of the night record. */
+    /* The choice of nights is the first words of the night record: patterns and, in a ward that has them, pairs. */
     pantheryl_advance_days(ward, sizeof ward, nights, days, 1000, buffer, 16384, roster, answer);
     print("days", answer);
     size_t letters = answer[5];

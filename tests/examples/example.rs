@@ -15,7 +15,12 @@ mod pantheryl {
         }
     }
 
-    pub type Record = [u32; 289];
+    pub const NIGHTS: usize = 96;
+    pub const RECORD: usize = 401;
+    pub const ROSTER: usize = 1488;
+
+    pub type Nights = [u32; NIGHTS];
+    pub type Record = [u32; RECORD];
     pub type Answer = [u64; 6];
 
     pub fn advance_nights(file: &[u8], record: &mut Record, k: u32, buffer: &mut [u32]) -> Answer {
@@ -24,7 +29,7 @@ mod pantheryl {
         answer
     }
 
-    pub fn advance_days(file: &[u8], nights: &[u32; 48], record: &mut Record, k: u32, buffer: &mut [u32], roster: &mut [u8; 1488]) -> Answer {
+    pub fn advance_days(file: &[u8], nights: &Nights, record: &mut Record, k: u32, buffer: &mut [u32], roster: &mut [u8; ROSTER]) -> Answer {
         let mut answer = [0; 6];
         unsafe {
             c::pantheryl_advance_days(
@@ -55,12 +60,12 @@ fn main() {
     ]
     .concat();
     let mut buffer = vec![0; 16_384];
-    let mut night_record = [0; 289];
-    let mut day_record = [0; 289];
-    let mut roster = [0; 1488];
+    let mut night_record = [0; pantheryl::RECORD];
+    let mut day_record = [0; pantheryl::RECORD];
+    let mut roster = [0; pantheryl::ROSTER];
 
     print("nights", pantheryl::advance_nights(&ward, &mut night_record, 1000, &mut buffer));
-    // The night patterns are the first 48 words of the night record.
+    // The choice of nights is the first words of the night record: patterns and, in a ward that has them, pairs.
     let nights = std::array::from_fn(|i| night_record[i]);
     let answer = pantheryl::advance_days(&ward, &nights, &mut day_record, 1000, &mut buffer, &mut roster);
     print("days", answer);

@@ -11,9 +11,10 @@ use native.Mathlib.Numerals.{add-one}
 use lib.Dec.{ltb}
 use lib.ListN.{length, getD, take}
 use lib.Seq.{take-suc, take-all}
-use borrow.Author.Tests.{ltb-true, ltb-false}
+use borrow.Author.Tests.{ltb-true, ltb-false, le-ltb}
 use Rattle.numbers.specs.Range.{upFrom, filter, Ascending}
 use Rattle.numbers.proofs.RangeLaws.{range-add}
+use Rattle.numbers.proofs.MemberLaws.{Each}
 use Rattle.history.specs.Phase.{Step, Phase, offersTo, offers, exchanges, least}
 use Rattle.history.specs.Record.{Record, mayTake, costAfter, best}
 use Rattle.history.specs.Claim.{NotAfter}
@@ -34,6 +35,11 @@ module _ (may : ℕ → Bool) (c i : ℕ) (b : Best) (p : ℕ) where
   pub considered-better : {u t : Bool} → u ≡ may p → u ≡ true → t ≡ improves b c → t ≡ true → Exchange i p c ≡ considered may (λ q. c) i b p
   considered-better e f g h = rw (sym e ∙ f, sym g ∙ h)
 
+-- what costs no less improves no more
+pub improves-less : (b : Best) {c d : ℕ} → c ≤ d → improves b c ≡ false → improves b d ≡ false
+improves-less Nothing l e = e
+improves-less (Exchange j q x) {c} {d} l e = le-ltb d x (omega (arith, ltb-false c x e))
+
 -- ---- the loop over a list
 
 module _ (may : ℕ → Bool) (cost : ℕ → ℕ) (i : ℕ) where
@@ -41,15 +47,34 @@ module _ (may : ℕ → Bool) (cost : ℕ → ℕ) (i : ℕ) where
   unfolding overList
   over-nil b = refl
 
-  over-snoc : (b : Best) (ps : List ℕ) (p : ℕ) → overList may cost i b (ps ++ (p ∷ [])) ≡ considered may cost i (overList may cost i b ps) p
+  pub over-one : (b : Best) (p : ℕ) → overList may cost i b (p ∷ []) ≡ considered may cost i b p
   unfolding overList
-  over-snoc b [] p = refl
-  over-snoc b (q ∷ ps) p = over-snoc (considered may cost i b q) ps p
+  over-one b p = refl
+
+  pub over-append : (b : Best) (ps qs : List ℕ) → overList may cost i b (ps ++ qs) ≡ overList may cost i (overList may cost i b ps) qs
+  unfolding overList
+  over-append b [] qs = refl
+  over-append b (p ∷ ps) qs = over-append (considered may cost i b p) ps qs
+
+  -- where nothing that she may take improves, the best stays
+  pub over-none : (b : Best) (ps : List ℕ) → Each (λ p. may p ≡ true → improves b (cost p) ≡ false) ps → overList may cost i b ps ≡ b
+  unfolding overList
+  over-none b [] f = refl
+  over-none b (p ∷ ps) f =
+      ap (λ (x : Best). overList may cost i x ps) (stays (may p) refl)
+      ∙ over-none b ps (λ k l. f (suc k) (suc-le-suc l))
+    where
+      same : (t : Bool) → t ≡ false → cond t (Exchange i p (cost p)) b ≡ b
+      same t e = rw e
+
+      stays : (u : Bool) → may p ≡ u → cond u (cond (improves b (cost p)) (Exchange i p (cost p)) b) b ≡ b
+      stays true e = same (improves b (cost p)) (f 0 (omega arith) e)
+      stays false e = refl
 
   -- one more of a list that is walked by its index
   pub over-more : (b : Best) (ps : List ℕ) (k : ℕ) → k < length ps
       → overList may cost i b (take (k + 1) ps) ≡ considered may cost i (overList may cost i b (take k ps)) (getD ps k 0)
-  over-more b ps k h = rw (add-one, take-suc ps k 0) (over-snoc b (take k ps) (getD ps k 0))
+  over-more b ps k h = rw (add-one, take-suc ps k 0) (over-append b (take k ps) (getD ps k 0 ∷ []) ∙ over-one (overList may cost i b (take k ps)) (getD ps k 0))
 
   pub over-done : (b : Best) (ps : List ℕ) (k : ℕ) → length ps ≤ k → overList may cost i b (take k ps) ≡ overList may cost i b ps
   over-done b ps k h = ap (overList may cost i b) (take-all k ps h)

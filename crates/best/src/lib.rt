@@ -7,7 +7,7 @@ pub enum Best {
     Nothing,
     Exchange {
         nurse: usize,
-        pattern: u32,
+        pattern: u64,
         cost: u64,
     },
 }

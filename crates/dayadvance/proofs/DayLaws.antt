@@ -2,7 +2,7 @@
 use Prim.Native.Nat.{ℕ, zero, suc, _+_, _-_, _≤_, _<_}
 use mathlib.Core.Path.{_≡_, refl, sym, ap, ap₂, _∙_, subst}
 use mathlib.Core.Bool.{Bool, true, false, cond, _&&_, true≢false}
-use mathlib.Core.List.{List, [], _++_, append-nil}
+use mathlib.Core.List.{List, [], _∷_, _++_, map, append-nil}
 use mathlib.Core.Option.{Option, none, some}
 use native.Mathlib.Numerals.{add-one}
 use native.Mathlib.Omega.{arith}
@@ -11,6 +11,7 @@ use lib.ListN.{length, getD, take, replicate, length-append}
 use borrow.Author.Tests.{leb-true, lt-ltb, le-ltb, eq-eqb, ne-eqb, eqb-true}
 use Rattle.fields.specs.Sizes.{nursePlaces, letterPlaces}
 use Rattle.numbers.specs.Range.{upFrom}
+use Rattle.numbers.specs.Patterns.{unpaired, daysOf}
 use Rattle.numbers.proofs.RangeLaws.{and-parts}
 use Rattle.fields.specs.Fields.{Accepted, nurses}
 use Rattle.daylists.specs.Lists.{upTo, firstOver}
@@ -51,11 +52,24 @@ regroup none none (some n) d = refl
 regroup none (some n) c d = refl
 regroup (some n) b c d = refl
 
+-- a list is empty exactly where it is with no pairs
+lacking-unpaired : (lists : ℕ → List ℕ) (is : List ℕ) → lacking (λ i. map unpaired (lists i)) is ≡ lacking lists is
+lacking-unpaired lists [] = refl
+lacking-unpaired lists (i ∷ is) = go (lists i) refl (lacking-unpaired lists is)
+  where
+    go : (l : List ℕ) → lists i ≡ l → lacking (λ j. map unpaired (lists j)) is ≡ lacking lists is
+        → lacking (λ j. map unpaired (lists j)) (i ∷ is) ≡ lacking lists (i ∷ is)
+    go [] q e = rw (q, lacking)
+    go (p ∷ ps) q e = rw (q, lacking) e
+
 module _ (w : List ℕ) (nights : ℕ → ℕ) (k places : ℕ) (r : Stored) where
   pub in-two : refusalStored (dayPhase w nights) (callOf k places) r ≡ first (beforeLists w nights k r) (afterLists w nights places r)
   unfolding refusalStored refusal dayPhase beforeLists afterLists
   in-two =
-      regroup (unless (leb k 10000 && leb (r .steps + k) 1000000) question.steps 0) (unless (nightsOpen w nights) question.nights 0) (listsFit (dayListOver w nights) (nurses w) places)
+      ap (λ (l : Option Refusal). first (first (unless (leb k 10000 && leb (r .steps + k) 1000000) question.steps 0) (first (unless (nightsOpen w nights) question.nights 0)
+      (listsFit (dayListOver w nights) (nurses w) places))) (first l (unless (soundStored (dayPhase w nights) r) question.record-sound 0)))
+      (lacking-unpaired (dayListOver w nights) (upFrom 0 (nurses w)))
+      ∙ regroup (unless (leb k 10000 && leb (r .steps + k) 1000000) question.steps 0) (unless (nightsOpen w nights) question.nights 0) (listsFit (dayListOver w nights) (nurses w) places)
       (first (lacking (dayListOver w nights) (upFrom 0 (nurses w))) (unless (soundStored (dayPhase w nights) r) question.record-sound 0))
 
   pub two-before : {n : Option Refusal} → n ≡ beforeLists w nights k r → {x : Refusal} → n ≡ some x → refusalStored (dayPhase w nights) (callOf k places) r ≡ some x
@@ -120,20 +134,20 @@ slot-pattern false p f = f refl
 
 -- the letters that the phase gives for a record, by its patterns
 letters-of : (w : List ℕ) (nights : ℕ → ℕ) (r : Stored) → UnplacedZero w r
-    → letters w nights (λ i. getD (r .patterns) i 0) (nurses w) ≡ dayPhase w nights .letters (viewOf (dayPhase w nights) r .slots)
+    → letters w (λ i. daysOf (nights i)) (λ i. daysOf (getD (r .patterns) i 0)) (nurses w) ≡ dayPhase w nights .letters (viewOf (dayPhase w nights) r .slots)
 unfolding dayPhase view UnplacedZero
 letters-of w nights r z =
-    letters-alike w nights _ _ (nurses w) (λ i h. slot-pattern (getD (r .placed) i false) (getD (r .patterns) i 0) (z i h)
-    ∙ ap (λ (b : Bool). patternOf (cond b (slotAt r i) none)) (sym (lt-ltb i (nurses w) h)))
+    letters-alike w (λ i. daysOf (nights i)) _ _ (nurses w) (λ i h. ap daysOf (slot-pattern (getD (r .placed) i false) (getD (r .patterns) i 0) (z i h)
+    ∙ ap (λ (b : Bool). patternOf (cond b (slotAt r i) none)) (sym (lt-ltb i (nurses w) h))))
 
 -- the roster that an advance gives out, by how it ended
 module _ (w : List ℕ) (nights : ℕ → ℕ) (x : Advanced) where
   abbrev given : Ending → List ℕ
   given e = lettersOf (answerWith (dayPhase w nights) (x .after) (x .steps) (x .penalty) e)
 
-  pub given-zero : {r : Roster} → UnplacedZero w (x .after) → x .ending ≡ Zero → Written w nights (λ i. getD (x .after .patterns) i 0) r
+  pub given-zero : {r : Roster} → UnplacedZero w (x .after) → x .ending ≡ Zero → Written w (λ i. daysOf (nights i)) (λ i. daysOf (getD (x .after .patterns) i 0)) r
       → r ≡ rosterOf (lettersOf (answerOf (dayPhase w nights) x))
-  given-zero z e v = written-roster w nights _ v ∙ ap rosterOf (letters-of w nights (x .after) z) ∙ sym (ap (λ (y : Ending). rosterOf (given y)) e)
+  given-zero z e v = written-roster w _ _ v ∙ ap rosterOf (letters-of w nights (x .after) z) ∙ sym (ap (λ (y : Ending). rosterOf (given y)) e)
 
   pub given-asked : {r : Roster} → x .ending ≡ Asked → r ≡ rosterOf [] → r ≡ rosterOf (lettersOf (answerOf (dayPhase w nights) x))
   given-asked e q = q ∙ sym (ap (λ (y : Ending). rosterOf (given y)) e)
@@ -217,6 +231,6 @@ module _ (w : List ℕ) (nights : ℕ → ℕ) where
       nurses-are = refl;
       tabu-is = refl;
       cost-is = λ slots. refl;
-      patterns-are = λ i h. rw (begin-is i (omega arith), begin-is (i + 1) (omega arith), e) (sym (stretch-is (dayListOver w nights) (nurses w) i rest h));
+      patterns-are = λ i h. rw (begin-is i (omega arith), begin-is (i + 1) (omega arith), e) (ap (map unpaired) (sym (stretch-is (dayListOver w nights) (nurses w) i rest h)));
       ascending = day-ascending w nights;
     }

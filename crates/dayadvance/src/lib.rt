@@ -32,7 +32,7 @@ ghost use Rattle.phases.specs.CodeQuestions.{beforeLists, afterLists, EndsOf, U
 ghost use Rattle.outcomes.specs.Outcomes.{lettersOf, advanceOf, rosterOf, leftBy, callOf};
 
 // The roster that an advance gives out: at penalty zero that of the nights and its days, else none.
-fn roster_given(w: &[u64], nights: &[u32; NURSES], x: Advanced) -> Roster
+fn roster_given(w: &[u64], nights: &[u64; NURSES], x: Advanced) -> Roster
     requires { ⌜ Accepted (now w) × UnplacedZero (now w) (x .after) ⌝ }
     ensures { λ r. ⌜ r ≡ rosterOf (lettersOf (answerOf (dayPhase (now (w .entry)) (nightOf (now (nights .entry)))) x)) ⌝ }
 {
@@ -48,7 +48,7 @@ fn roster_given(w: &[u64], nights: &[u32; NURSES], x: Advanced) -> Roster
 }
 
 // Questions 7 and 8.
-fn first_no(rec: Record, w: &[u64], nights: &[u32; NURSES], k: u32) -> Answer
+fn first_no(rec: Record, w: &[u64], nights: &[u64; NURSES], k: u32) -> Answer
     requires { ⌜ Accepted (now w) ⌝ }
     ensures { λ r. ⌜ refusalIn r ≡ beforeLists (now (w .entry)) (nightOf (now (nights .entry))) k rec ⌝ }
 {
@@ -75,7 +75,7 @@ fn days_lacking(ends: [usize; ENDS], m: usize) -> Answer
 }
 
 // Questions 9, 10 and 11, by where the lists end.
-fn next_no(rec: Record, w: &[u64], nights: &[u32; NURSES], counted: Ends) -> Answer
+fn next_no(rec: Record, w: &[u64], nights: &[u64; NURSES], counted: Ends) -> Answer
     requires { ⌜ Accepted (now w) ⌝ }
     ensures { λ r. ⌜ ((places : ℕ) → Counted (dayLists (now (w .entry)) (now (nights .entry))) (nurses (now (w .entry))) places (counted .over) (counted .ends) → refusalIn r ≡ afterLists (now (w .entry)) (nightOf (now (nights .entry))) places rec) ⌝ }
 {
@@ -95,7 +95,7 @@ fn next_no(rec: Record, w: &[u64], nights: &[u32; NURSES], counted: Ends) -> Ans
 fn with_lists(
     rec: Record,
     w: &[u64],
-    nights: &[u32; NURSES],
+    nights: &[u64; NURSES],
     k: u32,
     counted: Ends,
     buffer: &mut [u32],
@@ -124,7 +124,7 @@ fn with_lists(
 pub fn advance_on(
     rec: Record,
     w: &[u64],
-    nights: &[u32; NURSES],
+    nights: &[u64; NURSES],
     k: u32,
     buffer: &mut [u32],
 ) -> Advance

@@ -1,5 +1,6 @@
 -- What the walk lists from its beginning is the nurse's day list.
 use mathlib.Core.Path.{_≡_, sym, ap, ap₂, _∙_, subst}
+use mathlib.Core.Bool.{Bool}
 use mathlib.Core.List.{List}
 use Prim.Native.Nat.{ℕ, _+_, _*_, _^_, _≤_, _<_}
 use native.Mathlib.Omega.{arith}
@@ -7,10 +8,12 @@ use lib.Pow.{pow-mono}
 use Rattle.fields.specs.Sizes.{dayPlaces}
 use Rattle.numbers.specs.Range.{upFrom, filter}
 use Rattle.numbers.specs.Digits.{has, numberOf}
+use Rattle.numbers.specs.Patterns.{daysOf, pairOf}
 use Rattle.numbers.proofs.RangeLaws.{filter-same}
 use Rattle.numbers.proofs.DigitLaws.{number-lt, number-has}
 use Rattle.fields.specs.Fields.{Accepted, days, longestDays, block, leastRestsOf, mostRestsOf}
 use Rattle.rows.specs.Rows.{fixedDay}
+use Rattle.rows.specs.Pairs.{inPair}
 use Rattle.days.specs.Days.{dayRuleOf, dayList}
 use Rattle.days.specs.CodeMonth.{IsSheet, inBounds, ruleOf}
 use Rattle.days.specs.declared.month.Month.{Month}
@@ -20,9 +23,9 @@ use Rattle.daylists.specs.declared.walk.Point.{Point}
 use Rattle.daylists.proofs.ReachLaws.{Bounded}
 use Rattle.daylists.proofs.ListLaws.{walk-lists}
 
-bounded : (b : List ℕ) (n longest p : ℕ) (m : Month) (row : List ℕ) → IsSheet b n longest p m row → n ≤ dayPlaces → longest ≤ 6 → Bounded m
-bounded b n longest p m row s few short = record {
-  small = sheet-small b n longest p m row s few short;
+bounded : (b : List ℕ) (n longest p : ℕ) (off : ℕ → Bool) (m : Month) (row : List ℕ) → IsSheet b n longest p off m row → n ≤ dayPlaces → longest ≤ 6 → Bounded m
+bounded b n longest p off m row s few short = record {
+  small = sheet-small b n longest p off m row s few short;
   fixed-days =
       subst (λ (x : ℕ). x < 2 ^ m .days) (sym (s .fixed-is))
       (subst (λ (k : ℕ). numberOf (fixedDay b) n < 2 ^ k) (sym (s .days-is)) (number-lt (fixedDay b) n));
@@ -31,21 +34,25 @@ bounded b n longest p m row s few short = record {
       ∙ ap₂ (λ (x y : ℕ). inBounds x y k) (sym (s .least-is)) (sym (s .most-is));
 }
 
-lists-day-list : (w : List ℕ) (i p : ℕ) (m : Month) (row : List ℕ) → Accepted w → IsSheet (block w i) (days w) (longestDays w) p m row
-    → listed m row (days w) 0 0 ≡ dayList w i p
+-- her sheet under her pattern c
+abbrev Sheet : List ℕ → ℕ → ℕ → Month → List ℕ → Type 0
+Sheet w i c m row = IsSheet (block w i) (days w) (longestDays w) (daysOf c) (inPair w (pairOf c)) m row
+
+lists-day-list : (w : List ℕ) (i c : ℕ) (m : Month) (row : List ℕ) → Accepted w → Sheet w i c m row → listed m row (days w) 0 0 ≡ dayList w i c
 unfolding dayList
-lists-day-list w i p m row a s =
+lists-day-list w i c m row a s =
     ap (λ (k : ℕ). listed m row k 0 0) (sym (s .days-is))
-    ∙ walk-lists m row (bounded (block w i) (days w) (longestDays w) p m row s (a .days-most) (a .day-run-most))
-    ∙ filter-same (ruleOf m row) (dayRuleOf w i p) (λ q. sym (rule-is (block w i) (days w) (longestDays w) p m row s (a .day-run-most) q)) (upFrom 0 (2 ^ m .days))
-    ∙ ap (λ (k : ℕ). filter (dayRuleOf w i p) (upFrom 0 (2 ^ k))) (s .days-is)
+    ∙ walk-lists m row (bounded _ _ _ _ _ m row s (a .days-most) (a .day-run-most))
+    ∙ filter-same (ruleOf m row) (dayRuleOf w i c) (λ q. sym (rule-is _ _ _ _ _ m row s (a .day-run-most) q)) (upFrom 0 (2 ^ m .days))
+    ∙ ap (λ (k : ℕ). filter (dayRuleOf w i c) (upFrom 0 (2 ^ k))) (s .days-is)
 
 -- ---- the walk's beginning
 
-pub start-ready : {w : List ℕ} (i : ℕ) {p : ℕ} {m : Month} {row table : List ℕ} {s : Point} → IsSheet (block w i) (days w) (longestDays w) p m row → Accepted w
-    → Filled m row table (64 * m .days + 64) → s ≡ record { left = m .days; from = 0; rests = 0 } → Ready m row table s
-start-ready {w} i {p} {m} {row} {table} h a f e =
-    let small = sheet-small (block w i) (days w) (longestDays w) p m row h (a .days-most) (a .day-run-most) in
+pub start-ready : {w : List ℕ} (i : ℕ) {p : ℕ} {off : ℕ → Bool} {m : Month} {row table : List ℕ} {s : Point}
+    → IsSheet (block w i) (days w) (longestDays w) p off m row → Accepted w → Filled m row table (64 * m .days + 64)
+    → s ≡ record { left = m .days; from = 0; rests = 0 } → Ready m row table s
+start-ready i {m = m} {row} {table} h a f e =
+    let small = sheet-small _ _ _ _ _ m row h (a .days-most) (a .day-run-most) in
     subst (Ready m row table) (sym e) (record {
       small = small;
       filled = f;
@@ -55,7 +62,7 @@ start-ready {w} i {p} {m} {row} {table} h a f e =
       };
     })
 
-pub start-lists : (w : List ℕ) (i p : ℕ) (m : Month) (row : List ℕ) {s : Point} → Accepted w → IsSheet (block w i) (days w) (longestDays w) p m row
-    → s ≡ record { left = m .days; from = 0; rests = 0 } → listedAt m row s ≡ dayList w i p
-start-lists w i p m row a h e =
-    ap (listedAt m row) e ∙ ap (λ (k : ℕ). listed m row k 0 0) (h .days-is) ∙ lists-day-list w i p m row a h
+pub start-lists : (w : List ℕ) (i c : ℕ) (m : Month) (row : List ℕ) {s : Point} → Accepted w → Sheet w i c m row
+    → s ≡ record { left = m .days; from = 0; rests = 0 } → listedAt m row s ≡ dayList w i c
+start-lists w i c m row a h e =
+    ap (listedAt m row) e ∙ ap (λ (k : ℕ). listed m row k 0 0) (h .days-is) ∙ lists-day-list w i c m row a h

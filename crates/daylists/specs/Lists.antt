@@ -16,6 +16,6 @@ unfoldable pub firstOver : (ℕ → List ℕ) → ℕ → ℕ → ℕ → ℕ
 firstOver f places i zero = i
 firstOver f places i (suc k) = cond (leb (length (upTo f (suc i))) places) (firstOver f places (suc i) k) i
 
--- nurse i's day list over her night pattern
+-- nurse i's day list over her pattern among those handed in
 abbrev pub dayLists : List ℕ → List ℕ → ℕ → List ℕ
 dayLists w nights i = dayList w i (getD nights i 0)

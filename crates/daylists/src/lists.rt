@@ -16,7 +16,7 @@ pub struct Ends {
     pub ends: [usize; ENDS],
 }
 
-pub fn lists_count(w: &[u64], nights: &[u32; NURSES], places: usize) -> Ends
+pub fn lists_count(w: &[u64], nights: &[u64; NURSES], places: usize) -> Ends
     requires { ⌜ Accepted (now w) ⌝ }
     requires { ⌜ places < 2305843009213693952 ⌝ }
     ensures { λ r. ⌜ Counted (dayLists (now (w .entry)) (now (nights .entry))) (nurses (now (w .entry))) places (r .over) (r .ends) ⌝ }
@@ -39,7 +39,7 @@ pub fn lists_count(w: &[u64], nights: &[u32; NURSES], places: usize) -> Ends
 }
 
 // Writes all lists, where there is room.
-pub fn lists_fill(w: &[u64], nights: &[u32; NURSES], buf: &mut [u32]) -> usize
+pub fn lists_fill(w: &[u64], nights: &[u64; NURSES], buf: &mut [u32]) -> usize
     requires { ⌜ Accepted (now w) ⌝ }
     requires { ⌜ length (upTo (dayLists (now w) (now nights)) (nurses (now w))) ≤ length (now buf) ⌝ }
     ensures { λ k. ⌜ k ≡ length (upTo (dayLists (now (w .entry)) (now (nights .entry))) (nurses (now (w .entry)))) ⌝ }

@@ -10,12 +10,12 @@ use borrow.Author.Tests.{lt-ltb, le-ltb, eq-eqb, ne-eqb}
 use lib.Dec.{eqb}
 use lib.ListN.{length, getD, drop, drop-of-length-le}
 use lib.Seq.{drop-cons}
-use Rattle.numbers.specs.Range.{upFrom, filter, all}
+use Rattle.numbers.specs.Range.{upFrom, filter, all, anyOf}
 use Rattle.numbers.specs.Sum.{oneIf}
 use Rattle.numbers.specs.Digits.{has}
 use Rattle.rows.specs.Rows.{started}
 use Rattle.numbers.proofs.RangeLaws.{range-next, range-turn, range-done, length-filtered}
-use Rattle.days.specs.Days.{inRun, isRest, alternating, anyOf, same, window, freeOf, windowsHold, rests}
+use Rattle.days.specs.Days.{inRun, isRest, alternating, same, window, freeOf, windowsHold, rests}
 use Rattle.days.specs.CodeMonth.{dutyAt, choiceOf, inBounds, restOn, ruleOf}
 use Rattle.days.specs.declared.month.Month.{Month}
 

@@ -1,4 +1,4 @@
--- The test `dayRule` says yes exactly when the day rule of document 01 holds.
+-- The test `dayRule` says yes exactly when the day rule holds as specs/DayRule says it.
 use mathlib.Core.Path.{_≡_, refl, sym, ap, ap₂, _∙_, subst}
 use mathlib.Core.Logic.{_↔_, _≢_, ⊎-elim}
 use mathlib.Core.Bool.{Bool, true, false, cond, not, _&&_, _||_, or-true, true≢false, false≢true}
@@ -9,11 +9,11 @@ use native.Mathlib.Omega.{arith}
 use borrow.Author.Tests.{ltb-true, lt-ltb, leb-true, le-leb, eqb-true, eq-eqb, not-true}
 use lib.Dec.{leb, ltb, eqb}
 use lib.ListN.{length}
-use Rattle.numbers.specs.Range.{upFrom, all}
+use Rattle.numbers.specs.Range.{upFrom, all, anyOf}
 use Rattle.numbers.proofs.RangeLaws.{and-parts, range-all, range-each}
 use Rattle.fields.specs.Fields.{leastRestsOf, mostRestsOf, markOn}
 use Rattle.rows.specs.Rows.{started, availableOn}
-use Rattle.days.specs.Days.{choice, rowDuty, window, inRun, isRest, forbidden, same, anyOf, freeOf, windowsHold, rests, dayRule}
+use Rattle.days.specs.Days.{mayWork, choice, rowDuty, window, inRun, isRest, forbidden, same, freeOf, windowsHold, rests, dayRule}
 use Rattle.days.specs.DayRule.{Among, RowRule, DayHers}
 
 -- ---- two lists
@@ -171,7 +171,7 @@ module _ (row : ℕ → ℕ) (longest n : ℕ) (short : longest ≤ 6) where
 
 -- ---- the choice
 
--- c: the day is chosen; a: she is available; f: it is marked 2
+-- c: the day is chosen; a: she may work it; f: it is marked 2
 chosen-open : (c a f : Bool) → cond c a (not f) ≡ true → c ≡ true → a ≡ true
 chosen-open true a f e h = e
 chosen-open false a f e h = absurd (false≢true h)
@@ -185,62 +185,71 @@ chosen-both true a f h k = h refl
 chosen-both false a true h k = k refl
 chosen-both false a false h k = refl
 
-module _ (b : List ℕ) (n p q : ℕ) where
+module _ (b : List ℕ) (n p : ℕ) (off : ℕ → Bool) (q : ℕ) where
   -- what `choice` asks, apart
   record Chosen : Type 0 where
     month : q < 2 ^ n
     available : (d : ℕ) → 1 ≤ d → d ≤ n → started q d ≡ true → availableOn b p d ≡ true
+    not-off : (d : ℕ) → 1 ≤ d → d ≤ n → started q d ≡ true → off d ≡ false
     marks : (d : ℕ) → 1 ≤ d → d ≤ n → markOn b d ≡ 2 → started q d ≡ true
 
   abbrev mayDay : ℕ → Bool
-  mayDay d = cond (started q d) (availableOn b p d) (not (eqb (markOn b d) 2))
+  mayDay d = cond (started q d) (mayWork b p off d) (not (eqb (markOn b d) 2))
 
-  choice-says : choice b n p q ≡ true → Chosen
+  choice-says : choice b n p off q ≡ true → Chosen
   unfolding choice
   choice-says e =
       let a = and-parts (ltb q (2 ^ n)) (all mayDay (upFrom 1 n)) e in
       let at : (d : ℕ) → 1 ≤ d → d ≤ n → mayDay d ≡ true = λ d l h. range-each mayDay 1 n (a .1) d l (omega arith) in
+      let may : (d : ℕ) → 1 ≤ d → d ≤ n → started q d ≡ true → (availableOn b p d ≡ true) × (not (off d) ≡ true)
+      = λ d l h s. and-parts (availableOn b p d) (not (off d)) (chosen-open (started q d) (mayWork b p off d) (eqb (markOn b d) 2) (at d l h) s) in
       record {
         month = ltb-true q (2 ^ n) (a .0);
-        available = λ d l h s. chosen-open (started q d) (availableOn b p d) (eqb (markOn b d) 2) (at d l h) s;
-        marks = λ d l h m. fixed-chosen (started q d) (availableOn b p d) (eqb (markOn b d) 2) (at d l h) (eq-eqb (markOn b d) 2 m);
+        available = λ d l h s. may d l h s .0;
+        not-off = λ d l h s. not-true (off d) (may d l h s .1);
+        marks = λ d l h m. fixed-chosen (started q d) (mayWork b p off d) (eqb (markOn b d) 2) (at d l h) (eq-eqb (markOn b d) 2 m);
       }
 
-  says-choice : Chosen → choice b n p q ≡ true
+  says-choice : Chosen → choice b n p off q ≡ true
   unfolding choice
   says-choice c =
       rw (lt-ltb q (2 ^ n) (c .month))
       (range-all mayDay 1 n
-      (λ d l h. chosen-both (started q d) (availableOn b p d) (eqb (markOn b d) 2) (c .available d l (omega arith)) (λ m. c .marks d l (omega arith) (eqb-true (markOn b d) 2 m))))
+      (λ d l h.
+      let k : d ≤ n = omega arith in
+      chosen-both (started q d) (mayWork b p off d) (eqb (markOn b d) 2)
+      (λ s. ap₂ _&&_ (c .available d l k s) (ap not (c .not-off d l k s)))
+      (λ m. c .marks d l k (eqb-true (markOn b d) 2 m))))
 
 -- ---- the rule
 
-module _ (b : List ℕ) (n longest p q : ℕ) (short : longest ≤ 6) where
-  rule-says : dayRule b n longest p q ≡ true → DayHers b n longest p q
+module _ (b : List ℕ) (n longest p : ℕ) (off : ℕ → Bool) (q : ℕ) (short : longest ≤ 6) where
+  rule-says : dayRule b n longest p off q ≡ true → DayHers b n longest p off q
   unfolding dayRule
   rule-says e =
       let row = rowDuty b p q in
       let least = leb (leastRestsOf b) (rests row n) in
       let most = leb (rests row n) (mostRestsOf b) in
-      let a = and-parts (choice b n p q) (all (windowsHold row longest) (upFrom 7 n) && (least && most)) e in
+      let a = and-parts (choice b n p off q) (all (windowsHold row longest) (upFrom 7 n) && (least && most)) e in
       let w = and-parts (all (windowsHold row longest) (upFrom 7 n)) (least && most) (a .1) in
       let r = and-parts least most (w .1) in
-      let c = choice-says b n p q (a .0) in
+      let c = choice-says b n p off q (a .0) in
       record {
         month = c .month;
         available = c .available;
+        not-off = c .not-off;
         marks = c .marks;
         row-keeps = row-rule row longest n short (w .0);
         least-rests = leb-true (leastRestsOf b) (rests row n) (r .0);
         most-rests = leb-true (rests row n) (mostRestsOf b) (r .1);
       }
 
-  says-rule : DayHers b n longest p q → dayRule b n longest p q ≡ true
+  says-rule : DayHers b n longest p off q → dayRule b n longest p off q ≡ true
   unfolding dayRule
   says-rule h =
       let row = rowDuty b p q in
-      let chosen = says-choice b n p q (record { month = h .month; available = h .available; marks = h .marks }) in
+      let chosen = says-choice b n p off q (record { month = h .month; available = h .available; not-off = h .not-off; marks = h .marks }) in
       rw (chosen, rule-row row longest n short (h .row-keeps), le-leb (leastRestsOf b) (rests row n) (h .least-rests)) (le-leb (rests row n) (mostRestsOf b) (h .most-rests))
 
-pub rule-when : (b : List ℕ) (n longest p q : ℕ) → longest ≤ 6 → (dayRule b n longest p q ≡ true) ↔ DayHers b n longest p q
-rule-when b n longest p q short = (rule-says b n longest p q short, says-rule b n longest p q short)
+pub rule-when : (b : List ℕ) (n longest p : ℕ) (off : ℕ → Bool) (q : ℕ) → longest ≤ 6 → (dayRule b n longest p off q ≡ true) ↔ DayHers b n longest p off q
+rule-when b n longest p off q short = (rule-says b n longest p off q short, says-rule b n longest p off q short)

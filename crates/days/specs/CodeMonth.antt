@@ -11,21 +11,21 @@ use Rattle.numbers.specs.Range.{upFrom, all}
 use Rattle.numbers.specs.Sum.{oneIf}
 use Rattle.numbers.specs.Digits.{has, numberOf}
 use Rattle.fields.specs.Fields.{leastRestsOf, mostRestsOf}
-use Rattle.rows.specs.Rows.{started, availableOn, fixedDay}
-use Rattle.days.specs.Days.{rowDuty, isRest, windowsHold, rests}
+use Rattle.rows.specs.Rows.{started, fixedDay}
+use Rattle.days.specs.Days.{mayWork, rowDuty, isRest, windowsHold, rests}
 use Rattle.days.specs.declared.month.Month.{Month}
 
 -- a count of rests within bounds
 abbrev pub inBounds : ℕ → ℕ → ℕ → Bool
 inBounds least most k = leb least k && leb k most
 
--- the month and the row of a nurse with block b, in a month of n days with D `longest`, under the night pattern p
-pub record IsSheet (b : List ℕ) (n longest p : ℕ) (m : Month) (row : List ℕ) : Type 0 where
+-- the month and the row of a nurse with block b, in a month of n days with D `longest`, under the night pattern p with a pair of the days `off`
+pub record IsSheet (b : List ℕ) (n longest p : ℕ) (off : ℕ → Bool) (m : Month) (row : List ℕ) : Type 0 where
   pub days-is : m .days ≡ n
   pub longest-is : m .longest ≡ longest
   pub least-is : m .least ≡ leastRestsOf b
   pub most-is : m .most ≡ mostRestsOf b
-  pub available-days : m .available ≡ numberOf (λ d. availableOn b p (suc d)) n
+  pub available-days : m .available ≡ numberOf (λ d. mayWork b p off (suc d)) n
   pub fixed-is : m .fixed ≡ numberOf (fixedDay b) n
   pub within-is : m .within ≡ numberOf (inBounds (leastRestsOf b) (mostRestsOf b)) 32
   pub row-is : (t : ℕ) → t < 7 + n → getD row t 0 ≡ rowDuty b p 0 t

@@ -1,7 +1,8 @@
--- The day rule in document 01's words. `b` is the nurse's block of the ward's numbers, p her night pattern, q a day pattern. A row has a place for each
--- of the seven days and of the month: place t is day t - 6, so the month's days are places 7 on. proofs/WordsLaws shows that `dayRule` is the same.
+-- The day rule in document 01's words, with jobs 1 and 2 of document 02. `b` is the nurse's block of the ward's numbers, p her night pattern, `off` says which
+-- days are of her pair, q is a day pattern. A row has a place for each of the seven days and of the month: place t is day t - 6, so the month's days are
+-- places 7 on. proofs/WordsLaws shows that `dayRule` is the same.
 use mathlib.Core.Path.{_≡_}
-use mathlib.Core.Bool.{true, false}
+use mathlib.Core.Bool.{Bool, true, false}
 use mathlib.Core.Logic.{_≢_}
 use mathlib.Core.List.{List, List·Memᴰ}
 use Prim.Native.Nat.{ℕ, _+_, _^_, _≤_, _<_}
@@ -26,10 +27,12 @@ pub record RowRule (longest n : ℕ) (row : ℕ → ℕ) : Type 0 where
   -- no rest-day-rest-day-rest
   pub no-sequence : (t : ℕ) → 7 ≤ t → t < 7 + n → (s : List ℕ) → List·Memᴰ s forbidden → window row (length s) t ≢ s
 
-pub record DayHers (b : List ℕ) (n longest p q : ℕ) : Type 0 where
+pub record DayHers (b : List ℕ) (n longest p : ℕ) (off : ℕ → Bool) (q : ℕ) : Type 0 where
   -- a set of available days
   pub month : q < 2 ^ n
   pub available : (d : ℕ) → 1 ≤ d → d ≤ n → started q d ≡ true → availableOn b p d ≡ true
+  -- which those of her pair no longer are (document 02, job 2)
+  pub not-off : (d : ℕ) → 1 ≤ d → d ≤ n → started q d ≡ true → off d ≡ false
   -- with every mark 2 in it
   pub marks : (d : ℕ) → 1 ≤ d → d ≤ n → markOn b d ≡ 2 → started q d ≡ true
   -- over the seven days and the month

@@ -1,12 +1,13 @@
 -- What the day rule comes to on rows that single rules forbid, and on one nurse's days, computed by the prover.
 use mathlib.Core.Path.{_≡_, refl}
-use mathlib.Core.Bool.{true, false}
+use mathlib.Core.Bool.{Bool, true, false, _||_}
 use mathlib.Core.List.{List, [], _∷_, _++_}
 use Prim.Native.Nat.{ℕ, _^_}
+use lib.Dec.{eqb}
 use lib.ListN.{getD}
-use Rattle.numbers.specs.Range.{upFrom, filter, all}
+use Rattle.numbers.specs.Range.{upFrom, filter, all, anyOf}
 use Rattle.rows.specs.Rows.{rowState, availableOn, dutyOn}
-use Rattle.days.specs.Days.{choice, rowDuty, same, anyOf, freeOf, windowsHold, rests, dayRule}
+use Rattle.days.specs.Days.{choice, rowDuty, same, freeOf, windowsHold, rests, dayRule}
 
 -- a row whose month is the one day at place 7, with D 3
 abbrev holdsAt7 : List ℕ → Type 0
@@ -15,17 +16,23 @@ holdsAt7 duties = windowsHold (λ t. getD duties t 0) 3 7 ≡ true
 abbrev broken : List ℕ → Type 0
 broken duties = windowsHold (λ t. getD duties t 0) 3 7 ≡ false
 
--- her day patterns in a month of n days with D 3: no nights and no bounds, after these seven days, under these marks
-abbrev listOf : ℕ → List ℕ → List ℕ → List ℕ
-listOf n seven marks = filter (dayRule (seven ++ (0 ∷ 15 ∷ 0 ∷ 31 ∷ marks)) n 3 0) (upFrom 0 (2 ^ n))
+-- her day patterns in a month of n days with D 3: no nights and no bounds, after these seven days, under these marks, with a pair of the days `off`
+abbrev listOf : ℕ → List ℕ → List ℕ → (ℕ → Bool) → List ℕ
+listOf n seven marks off = filter (dayRule (seven ++ (0 ∷ 15 ∷ 0 ∷ 31 ∷ marks)) n 3 0 off) (upFrom 0 (2 ^ n))
+
+abbrev noPair : ℕ → Bool
+noPair d = false
+
+abbrev secondAndThird : ℕ → Bool
+secondAndThird d = eqb d 2 || eqb d 3
 
 -- a free month of two days after these seven
 abbrev after : List ℕ → List ℕ
-after seven = listOf 2 seven (0 ∷ 0 ∷ [])
+after seven = listOf 2 seven (0 ∷ 0 ∷ []) noPair
 
--- a month of four days under these marks, after seven rests
-abbrev under : List ℕ → List ℕ
-under marks = listOf 4 (0 ∷ 0 ∷ 0 ∷ 0 ∷ 0 ∷ 0 ∷ 0 ∷ []) marks
+-- a month of four days with this pair under these marks, after seven rests
+abbrev under : (ℕ → Bool) → List ℕ → List ℕ
+under off marks = listOf 4 (0 ∷ 0 ∷ 0 ∷ 0 ∷ 0 ∷ 0 ∷ 0 ∷ []) marks off
 
 pub record RowsShown : Type 0 where
   pub four-days : broken (0 ∷ 0 ∷ 0 ∷ 0 ∷ 1 ∷ 1 ∷ 1 ∷ 1 ∷ [])
@@ -45,8 +52,11 @@ pub record RowsShown : Type 0 where
   pub others-before : after (0 ∷ 0 ∷ 0 ∷ 0 ∷ 4 ∷ 1 ∷ 4 ∷ []) ≡ 0 ∷ 2 ∷ []
   pub none-before : after (0 ∷ 0 ∷ 0 ∷ 0 ∷ 0 ∷ 0 ∷ 0 ∷ []) ≡ 0 ∷ 1 ∷ 2 ∷ 3 ∷ []
   -- other duty on day 2: not days 1, 3 and 4 together; on four days running: no pattern
-  pub other-between : under (0 ∷ 4 ∷ 0 ∷ 0 ∷ []) ≡ 0 ∷ 1 ∷ 4 ∷ 5 ∷ 8 ∷ 9 ∷ 12 ∷ []
-  pub no-pattern : under (4 ∷ 4 ∷ 4 ∷ 4 ∷ []) ≡ []
+  pub other-between : under noPair (0 ∷ 4 ∷ 0 ∷ 0 ∷ []) ≡ 0 ∷ 1 ∷ 4 ∷ 5 ∷ 8 ∷ 9 ∷ 12 ∷ []
+  pub no-pattern : under noPair (4 ∷ 4 ∷ 4 ∷ 4 ∷ []) ≡ []
+  -- document 02, job 2: she works neither day of her pair, and has no pattern where one of them is marked 2
+  pub pair-off : under secondAndThird (0 ∷ 0 ∷ 0 ∷ 0 ∷ []) ≡ 0 ∷ 1 ∷ 8 ∷ 9 ∷ []
+  pub pair-marked : under secondAndThird (0 ∷ 0 ∷ 2 ∷ 0 ∷ []) ≡ []
 
 pub rows-shown : RowsShown
 unfolding dayRule choice rowDuty same anyOf freeOf windowsHold rests upFrom filter all rowState availableOn dutyOn
@@ -65,4 +75,6 @@ rows-shown = record {
   none-before = refl;
   other-between = refl;
   no-pattern = refl;
+  pair-off = refl;
+  pair-marked = refl;
 }

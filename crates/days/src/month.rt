@@ -1,17 +1,18 @@
-// A nurse's month under her nights, made ready for the day patterns: the duties where she works no day, the days that she may
-// work, and the ward's and her own limits.
+// A nurse's month under her nights and her pair, made ready for the day patterns: the duties where she works no day, the days
+// that she may work, and the ward's and her own limits.
 use fields::nurse;
 use fields::sizes::ROW;
 ghost use mathlib.Core.Path.{_≡_};
-ghost use mathlib.Core.Bool.{cond};
+ghost use mathlib.Core.Bool.{cond, not, _&&_};
 ghost use Prim.Native.Nat.{ℕ, _+_, _^_, _≤_, _<_};
 ghost use Rattle.fields.specs.Sizes.{dayPlaces};
-ghost use Rattle.numbers.specs.Digits.{numberOf};
+ghost use Rattle.numbers.specs.Digits.{has, numberOf};
 ghost use lib.ListN.{length, getD};
 ghost use Rattle.fields.specs.Fields.{Block, duty};
+ghost use Rattle.rows.specs.Rows.{started, available};
 ghost use Rattle.days.specs.CodeMonth.{IsSheet, inBounds};
 
-// The days of the month, D, the bounds of her rests, the days that she is available on, those marked 2, and the counts of
+// The days of the month, D, the bounds of her rests, the days that she may work, those marked 2, and the counts of
 // rests within her bounds: the last three are sets.
 pub struct Month {
     pub days: usize,
@@ -75,11 +76,19 @@ fn seven_days(b: &[u64]) -> [u64; ROW]
     row
 }
 
-// Her month by her block of the ward's numbers and her night pattern.
-pub(crate) fn sheet_of(b: &[u64], n: usize, longest: usize, p: u32) -> Sheet
+// Whether she may work the day of index d: it is available, and none of her pair.
+fn may_work(mark: u64, state: usize, off: u32, d: u64) -> bool
+    requires { ⌜ d < 32 ⌝ }
+    ensures { λ r. ⌜ r ≡ (available mark state && not (has off d)) ⌝ }
+{
+    rows::is_available(mark, state) && !numbers::has_bit(off, d)
+}
+
+// Her month by her block of the ward's numbers, her night pattern and the days of her pair.
+pub(crate) fn sheet_of(b: &[u64], n: usize, longest: usize, p: u32, off: u32) -> Sheet
     requires { ⌜ Block (now b) n ⌝ }
     requires { ⌜ n ≤ dayPlaces ⌝ }
-    ensures { λ r. ⌜ IsSheet (now (b .entry)) n longest p (r .month) (r .row) ⌝ }
+    ensures { λ r. ⌜ IsSheet (now (b .entry)) n longest p (started off) (r .month) (r .row) ⌝ }
 {
     let states = rows::states(b, n, p);
     let mut row = seven_days(b);
@@ -89,7 +98,8 @@ pub(crate) fn sheet_of(b: &[u64], n: usize, longest: usize, p: u32) -> Sheet
     while d < n {
         let mark = nurse::mark(b, d);
         row[d + 7] = rows::duty_of(mark, states[d], false);
-        available = with_next(available, d as u64, rows::is_available(mark, states[d]));
+        let works = may_work(mark, states[d], off, d as u64);
+        available = with_next(available, d as u64, works);
         fixed = with_next(fixed, d as u64, mark == 2);
         d = d + 1;
     }

@@ -6,9 +6,9 @@ ghost use mathlib.Core.Path.{_≡_};
 ghost use mathlib.Core.Bool.{cond, not};
 ghost use Prim.Native.Nat.{suc, _≤_, _<_};
 ghost use Rattle.fields.specs.Sizes.{dayPlaces, rowPlaces};
-ghost use Rattle.numbers.specs.Range.{upFrom, all};
+ghost use Rattle.numbers.specs.Range.{upFrom, all, anyOf};
 ghost use Rattle.numbers.specs.Digits.{has};
-ghost use Rattle.days.specs.Days.{inRun, isRest, alternating, anyOf, same, window, windowsHold, rests};
+ghost use Rattle.days.specs.Days.{inRun, isRest, alternating, same, window, windowsHold, rests};
 ghost use Rattle.days.specs.CodeMonth.{SmallMonth, dutyAt, choiceOf, restOn, ruleOf};
 
 // The sequence of duties that no row has: rest, day, rest, day, rest.

@@ -2,9 +2,15 @@
 -- a nurse's marks take the day of the month, from 1; `needs` takes the day's index, from 0.
 use Prim.Native.Nat.{ℕ, zero, suc, _+_, _*_, _^_, _≤_, _<_}
 use mathlib.Core.Path.{_≡_}
+use mathlib.Core.Bool.{cond}
 use mathlib.Core.List.{List}
+use lib.Dec.{eqb}
 use lib.ListN.{length, getD, take, drop}
-use Rattle.fields.specs.Sizes.{nursePlaces, dayPlaces, tabuMost, numberPlaces}
+use Rattle.fields.specs.Sizes.{nursePlaces, dayPlaces, tabuMost, pairMost, numberPlaces}
+
+-- A ward's body, which all that follows is about: from edition two on its numbers begin with 0 and the edition, at which nobody past the reader looks.
+unfoldable pub bodyOf : List ℕ → List ℕ
+bodyOf ws = cond (eqb (getD ws 0 0) 0) (drop 2 ws) ws
 
 -- ---- the ward
 
@@ -110,6 +116,20 @@ low needs k g = getD needs (4 * g + 2 * k + 2) 0
 abbrev pub high : List ℕ → ℕ → ℕ → ℕ
 high needs k g = getD needs (4 * g + 2 * k + 3) 0
 
+-- ---- what later editions add after the days; an older edition lacks it, and its numbers end there
+
+-- where the days end
+unfoldable pub tailAt : List ℕ → ℕ
+unfolding needsAt
+tailAt w = needsAt w (days w)
+
+-- edition two: how many pairs of days off there are, and the first day of pair k, from 1; its other day is the next
+abbrev pub pairCount : List ℕ → ℕ
+pairCount w = getD w (tailAt w) 0
+
+abbrev pub pairDay : List ℕ → ℕ → ℕ
+pairDay w k = getD w (tailAt w + k) 0
+
 -- ---- an accepted ward: what the reader's yes says of its numbers, as far as later code leans on it
 
 -- of a nurse's block in a month of n days
@@ -144,7 +164,11 @@ pub record Accepted (w : List ℕ) : Type 0 where
   pub block-fits : (i : ℕ) → i < nurses w → blockAt w i + (11 + days w) ≤ length w
   pub groups-fit : groupsAt w + groups w ≤ length w
   pub needs-fit : (d : ℕ) → d < days w → needsAt w d + needsSize w ≤ length w
-  pub size : length w ≡ needsAt w (days w)
+  pub tail-fits : tailAt w ≤ length w
+  pub pairs-most : pairCount w ≤ pairMost
+  pub pair-fits : (k : ℕ) → 1 ≤ k → k ≤ pairCount w → tailAt w + k < length w
+  pub pair-day-some : (k : ℕ) → 1 ≤ k → k ≤ pairCount w → 1 ≤ pairDay w k
+  pub pair-day-most : (k : ℕ) → 1 ≤ k → k ≤ pairCount w → pairDay w k < days w
   pub blocks : (i : ℕ) → i < nurses w → Block (block w i) (days w)
   pub member-sets-most : (g : ℕ) → getD (memberSets w) g 0 < 2 ^ nurses w
   pub needs-most : (d j : ℕ) → d < days w → getD (needs w d) j 0 ≤ 48

@@ -21,9 +21,13 @@ tabuMost = 64
 abbrev pub removalPlaces : ℕ
 removalPlaces = 64
 
--- the numbers of a ward at most
+-- the pairs of days off at most
+abbrev pub pairMost : ℕ
+pairMost = 10
+
+-- the numbers of a ward: as many as the editions to come will want at most, so that no array grows with them; edition two wants 4,107
 abbrev pub numberPlaces : ℕ
-numberPlaces = 4094
+numberPlaces = 4441
 
 -- the letters of a roster at most: those of 48 nurses and 31 days
 abbrev pub letterPlaces : ℕ

@@ -6,9 +6,21 @@ pub mod sizes;
 
 ghost use mathlib.Core.Path.{_≡_};
 ghost use Prim.Native.Nat.{_<_, _≤_};
-ghost use Rattle.fields.specs.Sizes.{nursePlaces, dayPlaces, tabuMost};
+ghost use lib.ListN.{length};
+ghost use Rattle.fields.specs.Sizes.{nursePlaces, dayPlaces, tabuMost, pairMost};
 ghost use Rattle.fields.specs.Fields as of;
 ghost use Rattle.fields.specs.Fields.{Accepted};
+
+// A ward's body, which every other function here takes: its numbers, from edition two on without the 0 and the edition that they begin with.
+pub fn body(ws: &[u64]) -> &[u64]
+    requires { ⌜ 2 ≤ length (now ws) ⌝ }
+    ensures { λ r. ⌜ now r ≡ of.bodyOf (now (ws .entry)) ⌝ }
+{
+    if ws[0] == 0 {
+        return &ws[2..];
+    }
+    ws
+}
 
 // m
 pub fn nurses(w: &[u64]) -> usize
@@ -99,4 +111,34 @@ pub fn needs(w: &[u64], d: usize) -> &[u64]
     let a = groups_at(w) + r + d * size;
     let e = a + size;
     &w[a..e]
+}
+
+// Where the days end.
+fn tail_at(w: &[u64]) -> usize
+    requires { ⌜ Accepted (now w) ⌝ }
+    ensures { λ r. ⌜ (r ≡ of.tailAt (now (w .entry))) × (r ≤ length (now (w .entry))) ⌝ }
+{
+    let r = groups(w);
+    let size = 4 * r + 2;
+    groups_at(w) + r + days(w) * size
+}
+
+// How many pairs of days off there are.
+pub fn pair_count(w: &[u64]) -> usize
+    requires { ⌜ Accepted (now w) ⌝ }
+    ensures { λ r. ⌜ (r ≡ of.pairCount (now (w .entry))) × (r ≤ pairMost) ⌝ }
+{
+    let at = tail_at(w);
+    if at < w.len() {
+        return w[at] as usize;
+    }
+    0
+}
+
+// The first day of pair k, from 1.
+pub fn pair_day(w: &[u64], k: usize) -> u64
+    requires { ⌜ Accepted (now w) × (1 ≤ k) × (k ≤ of.pairCount (now w)) ⌝ }
+    ensures { λ r. ⌜ (r ≡ of.pairDay (now (w .entry)) k) × (1 ≤ r) × (r < of.days (now (w .entry))) ⌝ }
+{
+    w[tail_at(w) + k]
 }

@@ -3,8 +3,11 @@ use Prim.Native.Nat.{ℕ, zero, suc, _+_, _-_, _^_, _≤_, _<_}
 use mathlib.Core.Path.{_≡_, refl, ap, _∙_}
 use mathlib.Core.List.{List, [], _∷_}
 use native.Mathlib.Omega.{arith}
-use lib.ListN.{length, getD}
-use Rattle.layout.specs.Grammar.{Grammar, done, number, failedBy, Read, good, bad, prepend, onPass, check}
+use lib.ListN.{length, getD, drop}
+use Rattle.codec.specs.declared.Number.{Number}
+use Rattle.codec.specs.declared.Number.the-variants.{Value, Ended, Long}
+use Rattle.codec.specs.Groups.{decode}
+use Rattle.layout.specs.Grammar.{Grammar, done, number, failedBy, Read, good, bad, prepend, onPass, onNumber, read, check}
 use Rattle.layout.specs.CodeWant.{Within}
 use Rattle.layout.proofs.GrammarLaws.{in-range}
 
@@ -44,3 +47,21 @@ accepted (number f k) (suc n) i (w ∷ ws) vs h e =
       few = omega (arith, a .few);
       small = (omega (arith, h .0), a .small);
     }
+
+-- what a reading lets through passes the questions of a list of numbers, whatever the bytes
+pub read-checked : (g : Grammar) (at i : ℕ) (bs ws : List ℕ) → read g at bs ≡ good ws → check g i ws ≡ good ws
+unfolding read check
+read-checked done at i [] ws e = ap (check done i) (let n : ws ≡ [] = cc in n) ∙ e
+read-checked done at i (b ∷ bs) ws e = let z : _≡_ {A = ℕ} 0 1 = cc in absurd (omega arith)
+read-checked (number f k) at i bs ws e = go (decode bs) refl e (λ v used us. read-checked (k v) (at + used) (i + 1) (drop used bs) us)
+  where
+    passed : (v : ℕ) (us : List ℕ) → failedBy f v ≡ 0 → check (k v) (i + 1) us ≡ good us → check (number f k) i (v ∷ us) ≡ good (v ∷ us)
+    passed v us q h = rw (q, h)
+
+    go : (n : Number) → decode bs ≡ n → onNumber f at n (λ v used. prepend (v ∷ []) (read (k v) (at + used) (drop used bs))) ≡ good ws
+        → ((v used : ℕ) (us : List ℕ) → read (k v) (at + used) (drop used bs) ≡ good us → check (k v) (i + 1) us ≡ good us) → check (number f k) i ws ≡ good ws
+    go (Value v used) d x on =
+        let l = let-through (failedBy f v) at v (read (k v) (at + used) (drop used bs)) ws x in
+        rw (l .1 .2) (passed v (l .1 .0) (l .0) (on v used (l .1 .0) (l .1 .1)))
+    go Ended d x on = let z : _≡_ {A = ℕ} 0 1 = cc in absurd (omega arith)
+    go Long d x on = let z : _≡_ {A = ℕ} 0 1 = cc in absurd (omega arith)

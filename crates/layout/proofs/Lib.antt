@@ -7,5 +7,8 @@ pub mod AcceptLaws
 pub mod AccessLaws
 pub mod AskedLaws
 pub mod ListFaultLaws
+pub mod LargestLaws
 pub mod LongestLaws
 pub mod ReadFaultLaws
+pub mod EditionLaws
+pub mod PairLaws

@@ -1,18 +1,19 @@
--- The longest ward file has 4,190 bytes: one for each number, but up to seven for the members of each of 16 groups.
-use Prim.Native.Nat.{ℕ, _-_, _^_, _≤_}
+-- The longest ward file has 4,203 bytes: one for each of 4,107 numbers, but seven for the members of each of 16 groups.
+use Prim.Native.Nat.{ℕ, _≤_}
 use mathlib.Core.Path.{_≡_, refl}
 use mathlib.Core.Bool.{Bool, true, false, cond}
-use mathlib.Core.List.{List, _∷_, _++_}
+use mathlib.Core.List.{List}
 use native.Mathlib.Nat.{le-refl}
 use native.Mathlib.Omega.{arith}
 use borrow.Author.Tests.{ltb-true, lt-ltb}
-use lib.ListN.{length, replicate, length-append}
+use lib.ListN.{length, length-append}
 use lib.Dec.{ltb}
 use Rattle.codec.specs.Groups.{encode}
 use Rattle.codec.proofs.EncodeLaws.{encode-last, encode-most}
-use Rattle.layout.specs.Grammar.{Grammar, done, failedBy, good, check, bytesOf}
+use Rattle.layout.specs.Grammar.{Grammar, done, bytesOf}
 use Rattle.layout.specs.Layout.{ward}
 use Rattle.layout.specs.Faults.{Takes, none-yet, one-more}
+use Rattle.layout.proofs.LargestLaws.{largest, largest-checked, largest-long}
 use Rattle.layout.proofs.ListFaultLaws.{check-takes}
 use Rattle.layout.proofs.WithinLaws.{WithinBy, and-then, ward-by}
 
@@ -36,28 +37,13 @@ bytes-to v m h = go (ltb m 128) refl
     go true e = let l = ltb-true m 128 e in rw (encode-last v (omega arith)) (le-refl 1)
     go false e = encode-most v
 
-pub longest-file : (ws : List ℕ) → Takes ward ws done → length (bytesOf ws) ≤ 4190
+pub longest-file : (ws : List ℕ) → Takes ward ws done → length (bytesOf ws) ≤ 4203
 longest-file ws t = takes-bytes bytes-to (ward-by bytesTo 7 (λ m s. rw (lt-ltb m 128 s) (le-refl 1)) (λ m. seven (ltb m 128))) t
   where
     seven : (b : Bool) → cond {A = ℕ} b 1 7 ≤ 7
     seven true = omega arith
     seven false = omega arith
 
--- ---- and there is a ward of that many
-
--- 48 nurses, 31 days and 16 groups, every nurse in each
-abbrev largest : List ℕ
-largest =
-    48 ∷ 31 ∷ 16 ∷ 0 ∷ 1 ∷ 1 ∷ 1 ∷ 1 ∷ 0 ∷ 1 ∷ 1 ∷ 1 ∷ 1 ∷ 1 ∷ 1 ∷ 1
-    ∷ (replicate 2016 0 ++ (replicate 16 (2 ^ 48 - 1) ++ replicate 2046 0))
-
-largest-checked : check ward 0 largest ≡ good largest
-unfolding check failedBy ward
-largest-checked = refl
-
-largest-long : length (bytesOf largest) ≡ 4190
-unfolding bytesOf encode
-largest-long = refl
-
-pub longest-there : (ws : List ℕ) × Takes ward ws done × (length (bytesOf ws) ≡ 4190)
+-- and there is one of that many
+pub longest-there : (ws : List ℕ) × Takes ward ws done × (length (bytesOf ws) ≡ 4203)
 longest-there = (largest, check-takes ward 0 largest largest largest-checked .1, largest-long)

@@ -2,13 +2,14 @@
 use Prim.Native.Nat.{ℕ, zero, suc, _≤_, _<_, _-_}
 use mathlib.Core.Path.{_≡_, _∙_, refl, sym, ap}
 use native.Mathlib.Omega.{arith}
+use borrow.Author.Tests.{lt-ltb, le-ltb}
 use Rattle.layout.specs.declared.Cursor.{Cursor}
 use Rattle.layout.specs.declared.Place.{Place}
-use Rattle.layout.specs.declared.Place.the-variants.{Gap, Tabu, Weight, FirstDuty, NextDuty, LeastNightsOf, Mark, Members, NightNeed, NightLow, End}
+use Rattle.layout.specs.declared.Place.the-variants.{Edition, Days, Gap, Tabu, Weight, FirstDuty, NextDuty, LeastNightsOf, Mark, Members, NightNeed, NightLow, PairCount, PairDay, End}
 use Rattle.layout.specs.Grammar.{Grammar}
 use Rattle.layout.specs.CodeWant.{wanted, after}
 use Rattle.layout.specs.Layout
-use Rattle.layout.specs.CodePlace.{treeAt, tree, moved, innerLeft, outerLeft, turn, nightsOn}
+use Rattle.layout.specs.CodePlace.{treeAt, tree, moved, sized, innerLeft, outerLeft, turn, nightsOn}
 
 pub tree-at : (c : Cursor) {p : Place} → c .place ≡ p → treeAt p c ≡ tree c
 unfolding tree
@@ -83,6 +84,29 @@ module _ (c : Cursor) (k : ℕ) (rest : Cursor) {r : Cursor} where
   unfolding tree outerLeft
   groups-left e over = turned k _ rest (Layout.groups (c .head)) e over (λ j. refl)
 
-  pub days-left : r ≡ turn k (outerLeft NightNeed c) rest → rest ≡ moved End c → tree r ≡ Layout.days (c .head) k
+  pub days-left : r ≡ turn k (outerLeft NightNeed c) rest → tree rest ≡ Layout.two (c .head) → tree r ≡ Layout.days (c .head) k
   unfolding tree outerLeft
-  days-left e over = turned k _ rest (Layout.days (c .head)) e (ap tree over) (λ j. refl)
+  days-left e over = turned k _ rest (Layout.days (c .head)) e over (λ j. refl)
+
+  pub pairs-left : r ≡ turn k (innerLeft PairDay c) rest → rest ≡ moved End c → tree r ≡ Layout.pairs (c .head) k (c .before)
+  unfolding tree innerLeft
+  pairs-left e over = turned k _ rest (λ (i : ℕ). Layout.pairs (c .head) i (c .before)) e (ap tree over) (λ j. refl)
+
+-- what an edition has after the days, and what is left after the first number
+module _ (c : Cursor) {r : Cursor} where
+  pub older : c .head .edition < 2 → r ≡ moved End c → tree r ≡ Layout.two (c .head)
+  unfolding tree
+  older h e = ap tree e ∙ simp (lt-ltb _ _ h)
+
+  pub from-two : 2 ≤ c .head .edition → r ≡ moved PairCount c → tree r ≡ Layout.two (c .head)
+  unfolding tree
+  from-two h e = ap tree e ∙ simp (le-ltb _ _ h)
+
+  pub later-edition : (v : ℕ) → v ≡ 0 → r ≡ moved Edition c → tree r ≡ Layout.first v
+  unfolding tree
+  later-edition v h e = ap tree e ∙ sym (ap Layout.first h)
+
+  pub edition-one : (v : ℕ) → (v ≡ 0 → ⊥) → r ≡ sized v 0 0 1 Days c → tree r ≡ Layout.first v
+  unfolding tree
+  edition-one zero n e = absurd (n refl)
+  edition-one (suc v) n e = ap tree e

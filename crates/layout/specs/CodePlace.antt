@@ -1,8 +1,8 @@
 -- What is left to read at a cursor's place.
-use Prim.Native.Nat.{ℕ, zero, suc}
+use Prim.Native.Nat.{ℕ, zero, suc, _+_, _-_}
 use Rattle.layout.specs.declared.Cursor.{Cursor}
 use Rattle.layout.specs.declared.Place.{Place}
-use Rattle.layout.specs.declared.Place.the-variants.{Nurses, Days, Groups, MostNights, LongestRun, Gap, Tabu, LongestDays, Weight, FirstDuty, NextDuty, LeastNightsOf, MostNightsOf, LeastRestsOf, MostRestsOf, Mark, Members, NightNeed, DayNeed, NightLow, NightHigh, DayLow, DayHigh, End}
+use Rattle.layout.specs.declared.Place.the-variants.{First, Edition, Nurses, Days, Groups, MostNights, LongestRun, Gap, Tabu, LongestDays, Weight, FirstDuty, NextDuty, LeastNightsOf, MostNightsOf, LeastRestsOf, MostRestsOf, Mark, Members, NightNeed, DayNeed, NightLow, NightHigh, DayLow, DayHigh, PairCount, PairDay, End}
 use Rattle.layout.specs.Grammar.{Grammar, done, number}
 use Rattle.layout.specs.Layout
 
@@ -10,6 +10,9 @@ use Rattle.layout.specs.Layout
 
 abbrev pub moved : Place → Cursor → Cursor
 moved p c = record { place = p; outer = c .outer; inner = c .inner; before = c .before; head = c .head }
+
+abbrev pub sized : ℕ → ℕ → ℕ → ℕ → Place → Cursor → Cursor
+sized m n r e p c = record { place = p; outer = c .outer; inner = c .inner; before = c .before; head = record { m = m; n = n; r = r; edition = e } }
 
 -- at a place after which k numbers or pairs, or k rows, are left
 unfoldable pub innerLeft : Place → Cursor → ℕ → Cursor
@@ -40,7 +43,9 @@ abbrev pub boundsOn : Cursor → Grammar
 boundsOn c = Layout.repeat (c .inner) Layout.bounds (Layout.days (c .head) (c .outer))
 
 abbrev pub treeAt : Place → Cursor → Grammar
-treeAt Nurses c = Layout.ward
+treeAt First c = Layout.ward
+treeAt Edition c = Layout.later
+treeAt Nurses c = Layout.body (c .head .edition)
 treeAt Days c = Layout.sizes (c .head .edition) (c .head .m)
 treeAt Groups c = number (Layout.range 0 16) (λ r. Layout.rules (record { m = c .head .m; n = c .head .n; r = r; edition = c .head .edition }))
 treeAt MostNights c = Layout.rules (c .head)
@@ -63,6 +68,8 @@ treeAt NightLow c = Layout.bounds (boundsOn c)
 treeAt NightHigh c = Layout.one (Layout.range (c .before) 48) (Layout.pair 48 (boundsOn c))
 treeAt DayLow c = Layout.pair 48 (boundsOn c)
 treeAt DayHigh c = Layout.one (Layout.range (c .before) 48) (boundsOn c)
+treeAt PairCount c = number (Layout.range 0 (Layout.pairsMost (c .head .n))) (λ k. Layout.pairs (c .head) k 0)
+treeAt PairDay c = number (Layout.range (c .before + 1) (c .head .n - 1)) (λ d. Layout.pairs (c .head) (c .inner) d)
 treeAt End c = done
 
 unfoldable pub tree : Cursor → Grammar

@@ -13,13 +13,13 @@ abbrev pub after : Grammar → ℕ → Grammar
 after done v = done
 after (number f k) v = k v
 
--- at most n numbers, each below 2 ^ 49, which seven groups hold
+-- a field's least and most are below 2 ^ 49: they fit seven groups
+abbrev pub SmallField : Want → Type 0
+SmallField (Next f) = (f .least < 2 ^ 49) × (f .most < 2 ^ 49)
+SmallField Nothing = Unit
+
+-- at most n numbers, each of which seven groups hold
 abbrev pub Within : ℕ → Grammar → Type 0
 Within n done = Unit
 Within zero (number f k) = ⊥
-Within (suc n) (number f k) = (f .most < 2 ^ 49) × ((v : ℕ) → f .least ≤ v → v ≤ f .most → Within n (k v))
-
--- a field's numbers fit seven groups
-abbrev pub SmallField : Want → Type 0
-SmallField (Next f) = f .most < 2 ^ 49
-SmallField Nothing = Unit
+Within (suc n) (number f k) = SmallField (Next f) × ((v : ℕ) → f .least ≤ v → v ≤ f .most → Within n (k v))

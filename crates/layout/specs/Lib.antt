@@ -3,3 +3,5 @@ pub mod Layout
 pub mod CodePlace
 pub mod Faults
 pub mod CodeWant
+pub mod Editions
+pub mod Shown

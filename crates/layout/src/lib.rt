@@ -1,11 +1,14 @@
 // The layout as a walk: the field that is wanted at a place, and the place after a number.
 use refusals::question;
 ghost use mathlib.Core.Path.{_≡_};
-ghost use Prim.Native.Nat.{_-_, _^_, _<_};
+ghost use Prim.Native.Nat.{_+_, _-_, _^_, _<_};
 ghost use Rattle.layout.specs.Grammar.{failedBy};
 ghost use Rattle.layout.specs.CodeWant.{wanted, after, SmallField};
 ghost use Rattle.layout.specs.Layout;
-ghost use Rattle.layout.specs.CodePlace.{tree, moved, innerLeft, outerLeft, turn};
+ghost use Rattle.layout.specs.CodePlace.{tree, moved, sized, innerLeft, outerLeft, turn};
+
+// The last edition that is read.
+const LAST_EDITION: u64 = 2;
 
 // What a number must fit besides its range.
 pub enum Rule {
@@ -36,6 +39,9 @@ pub struct Head {
 
 // The field of the next number, in the file's order.
 pub enum Place {
+    // The first number: m, or 0 before the number of a later edition, and m after that.
+    First,
+    Edition,
     // The sizes: m, n, r.
     Nurses,
     Days,
@@ -64,6 +70,9 @@ pub enum Place {
     NightHigh,
     DayLow,
     DayHigh,
+    // Of the pairs, from edition two on: their count, and a pair's first day.
+    PairCount,
+    PairDay,
     // After the last number.
     End,
 }
@@ -119,6 +128,29 @@ fn all(m: u64) -> u64
     bit - 1
 }
 
+// The pairs of a ward at most.
+fn most_pairs(n: u64) -> u64
+    ensures { λ r. ⌜ r ≡ Layout.pairsMost n ⌝ }
+{
+    if n == 1 { 0 } else { 10 }
+}
+
+// The last of n days on which a pair can begin.
+fn last_pair_day(n: u64) -> u64
+    ensures { λ r. ⌜ r ≡ n - 1 ⌝ }
+{
+    if n == 0 { 0 } else { n - 1 }
+}
+
+// A pair's first day, above the one before.
+fn pair_day(before: u64, n: u64) -> Want
+    requires { ⌜ before + 1 < 2 ^ 49 ⌝ }
+    ensures { λ r. ⌜ r ≡ Want.Next (Layout.range (before + 1) (n - 1)) ⌝ }
+{
+    let least = before + 1;
+    range(least, last_pair_day(n))
+}
+
 // The field of the next number.
 pub fn wanted_at(c: Cursor) -> Want
     requires { ⌜ SmallField (wanted (tree c)) ⌝ }
@@ -127,7 +159,10 @@ pub fn wanted_at(c: Cursor) -> Want
     let place = c.place;
     let before = c.before;
     let m = c.head.m;
+    let n = c.head.n;
     match place {
+        Place::First => range(0, 48),
+        Place::Edition => range(2, LAST_EDITION),
         Place::Nurses => range(1, 48),
         Place::Days => range(1, 31),
         Place::Groups => range(0, 16),
@@ -155,6 +190,8 @@ pub fn wanted_at(c: Cursor) -> Want
         Place::NightHigh => range(before, 48),
         Place::DayLow => range(0, 48),
         Place::DayHigh => range(before, 48),
+        Place::PairCount => range(0, most_pairs(n)),
+        Place::PairDay => pair_day(before, n),
         Place::End => Want::Nothing,
     }
 }
@@ -175,7 +212,7 @@ fn moved(c: Cursor, place: Place) -> Cursor
 
 // Another place with new sizes.
 fn sized(c: Cursor, m: u64, n: u64, r: u64, edition: u64, place: Place) -> Cursor
-    ensures { λ x. ⌜ x ≡ record { place = place; outer = c .outer; inner = c .inner; before = c .before; head = record { m = m; n = n; r = r; edition = edition } } ⌝ }
+    ensures { λ x. ⌜ x ≡ sized m n r edition place c ⌝ }
 {
     Cursor {
         place,
@@ -208,11 +245,29 @@ fn at_outer(mut c: Cursor, place: Place, k: u64, rest: Cursor) -> Cursor
     rest
 }
 
+// Where k pairs are left, the next one's first day above `before`.
+fn at_pairs(mut c: Cursor, k: u64, before: u64) -> Cursor
+    ensures { λ r. ⌜ tree r ≡ Layout.pairs (c .head) k before ⌝ }
+{
+    c.before = before;
+    at_inner(c, Place::PairDay, k, moved(c, Place::End))
+}
+
+// After the days: what edition two adds.
+fn at_two(c: Cursor) -> Cursor
+    ensures { λ r. ⌜ tree r ≡ Layout.two (c .head) ⌝ }
+{
+    if c.head.edition < 2 {
+        return moved(c, Place::End);
+    }
+    moved(c, Place::PairCount)
+}
+
 // Where k days are left.
 fn at_days(c: Cursor, k: u64) -> Cursor
     ensures { λ r. ⌜ tree r ≡ Layout.days (c .head) k ⌝ }
 {
-    at_outer(c, Place::NightNeed, k, moved(c, Place::End))
+    at_outer(c, Place::NightNeed, k, at_two(c))
 }
 
 // Where k groups are left.
@@ -229,6 +284,16 @@ fn at_nurses(c: Cursor, k: u64) -> Cursor
     at_outer(c, Place::FirstDuty, k, at_groups(c, c.head.r))
 }
 
+// After the first number: a later edition's number where it is 0, else it is m of edition one.
+fn at_first(c: Cursor, v: u64) -> Cursor
+    ensures { λ r. ⌜ tree r ≡ Layout.first v ⌝ }
+{
+    if v == 0 {
+        return moved(c, Place::Edition);
+    }
+    sized(c, v, 0, 0, 1, Place::Days)
+}
+
 // The place after the number v.
 pub fn step(mut c: Cursor, v: u64) -> Cursor
     ensures { λ r. ⌜ tree r ≡ after (tree c) v ⌝ }
@@ -239,7 +304,9 @@ pub fn step(mut c: Cursor, v: u64) -> Cursor
     let h = c.head;
     c.before = v;
     match place {
-        Place::Nurses => sized(c, v, 0, 0, 1, Place::Days),
+        Place::First => at_first(c, v),
+        Place::Edition => sized(c, 0, 0, 0, v, Place::Nurses),
+        Place::Nurses => sized(c, v, 0, 0, h.edition, Place::Days),
         Place::Days => sized(c, h.m, v, h.r, h.edition, Place::Groups),
         Place::Groups => sized(c, h.m, h.n, v, h.edition, Place::MostNights),
         Place::MostNights => moved(c, Place::LongestRun),
@@ -262,6 +329,8 @@ pub fn step(mut c: Cursor, v: u64) -> Cursor
         Place::NightHigh => moved(c, Place::DayLow),
         Place::DayLow => moved(c, Place::DayHigh),
         Place::DayHigh => at_inner(c, Place::NightLow, inner, at_days(c, outer)),
+        Place::PairCount => at_pairs(c, v, 0),
+        Place::PairDay => at_pairs(c, inner, v),
         Place::End => c,
     }
 }
@@ -271,7 +340,7 @@ pub fn start() -> Cursor
     ensures { λ r. ⌜ tree r ≡ Layout.ward ⌝ }
 {
     Cursor {
-        place: Place::Nurses,
+        place: Place::First,
         outer: 0,
         inner: 0,
         before: 0,

@@ -95,12 +95,13 @@ module _ (w : List ℕ) (ps qs : ℕ → ℕ) where
     pub row-room : {n : ℕ} → Accepted w → i < nurses w → n ≡ days w → r .count + n ≤ letterPlaces
     row-room a h e = omega (arith, t .count-is, row-fits (nurses w) (days w) i h, all-room w a)
 
-    pub written-turn : (next : Roster) (b : List ℕ) (n : ℕ) → Accepted w → i < nurses w → b ≡ block w i → n ≡ days w
-        → next .letters ≡ paste (r .letters) (r .count) (rowLettersOf b n (ps i) (qs i)) n → next .count ≡ r .count + n → WrittenTo w ps qs (i + 1) next
-    written-turn next b n a h eb en l c = record {
+    pub written-turn : (next : Roster) (b : List ℕ) (n p q : ℕ) → Accepted w → i < nurses w → b ≡ block w i → n ≡ days w → p ≡ ps i → q ≡ qs i
+        → next .letters ≡ paste (r .letters) (r .count) (rowLettersOf b n p q) n → next .count ≡ r .count + n → WrittenTo w ps qs (i + 1) next
+    written-turn next b n p q a h eb en ep eq l c = record {
       rows-in = rows-turn w ps qs i (t .rows-in) h (all-room w a)
-          (l ∙ ap (λ (x : List ℕ). paste (r .letters) (r .count) (rowLettersOf x n (ps i) (qs i)) n) eb
-          ∙ ap (λ (k : ℕ). paste (r .letters) (r .count) (rowLettersOf (block w i) k (ps i) (qs i)) k) en
+          (l ∙ ap (λ (x : List ℕ). paste (r .letters) (r .count) (rowLettersOf x n p q) n) eb
+          ∙ ap (λ (k : ℕ). paste (r .letters) (r .count) (rowLettersOf (block w i) k p q) k) en
+          ∙ ap₂ (λ (x y : ℕ). paste (r .letters) (r .count) (rowLetters w i x y) (days w)) ep eq
           ∙ ap (λ (k : ℕ). paste (r .letters) k (rowLetters w i (ps i) (qs i)) (days w)) (t .count-is));
       count-is = (let s : suc i * days w ≡ i * days w + days w = suc-mul i (days w) in rw (add-one i) (omega (arith, c, t .count-is, en, s)));
     }

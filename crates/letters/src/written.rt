@@ -3,10 +3,12 @@ use fields::nurse;
 use fields::sizes::DAYS;
 use fields::sizes::LETTERS;
 use fields::sizes::NURSES;
+use numbers::pattern;
 ghost use mathlib.Core.Path.{_≡_};
 ghost use Prim.Native.Nat.{ℕ, suc, _+_, _≤_, _<_};
 ghost use lib.ListN.{getD};
 ghost use lib.Seq.{paste};
+ghost use Rattle.numbers.specs.Patterns.{daysOf};
 ghost use Rattle.fields.specs.Sizes.{dayPlaces, letterPlaces};
 ghost use Rattle.fields.specs.Fields.{Accepted, Block};
 ghost use Rattle.rows.specs.Rows.{dutyOn};
@@ -55,10 +57,10 @@ impl Roster {
     }
 }
 
-// The roster of everyone's night and day pattern.
-pub fn roster_of(w: &[u64], nights: [u32; NURSES], worked: [u32; NURSES]) -> Roster
+// The roster of everyone's night and day pattern. A pair's days are rests where nothing is worked on them.
+pub fn roster_of(w: &[u64], nights: [u64; NURSES], worked: [u64; NURSES]) -> Roster
     requires { ⌜ Accepted (now w) ⌝ }
-    ensures { λ r. ⌜ Written (now (w .entry)) (λ i. getD nights i 0) (λ i. getD worked i 0) r ⌝ }
+    ensures { λ r. ⌜ Written (now (w .entry)) (λ i. daysOf (getD nights i 0)) (λ i. daysOf (getD worked i 0)) r ⌝ }
 {
     let m = fields::nurses(w);
     let n = fields::days(w);
@@ -68,7 +70,9 @@ pub fn roster_of(w: &[u64], nights: [u32; NURSES], worked: [u32; NURSES]) -> Ros
     };
     let mut i: usize = 0;
     while i < m {
-        roster = roster.with_row(fields::block(w, i), n, nights[i], worked[i]);
+        let p = pattern::days_of(nights[i]);
+        let q = pattern::days_of(worked[i]);
+        roster = roster.with_row(fields::block(w, i), n, p, q);
         i += 1;
     }
     roster

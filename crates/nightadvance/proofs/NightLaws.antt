@@ -14,10 +14,10 @@ use Rattle.refusals.specs.declared.Refusal.{Refusal}
 use Rattle.refusals.specs.Refusals.{unless, first}
 use Rattle.refusals.specs.Questions as question
 use Rattle.refusals.proofs.OrderLaws.{first-assoc, first-none, unless-none}
-use Rattle.fields.specs.Fields.{nurses}
+use Rattle.fields.specs.Fields.{Accepted, nurses}
 use Rattle.nights.specs.Nights.{commonOf}
-use Rattle.nights.specs.Hers.{nightList}
-use Rattle.nights.proofs.ListLaws.{list-of-common}
+use Rattle.nights.specs.Own.{patternList}
+use Rattle.nights.proofs.OwnLaws.{own-of-common}
 use Rattle.history.specs.declared.Search.the-variants.{Nights}
 use Rattle.history.specs.Phase.{refusal}
 use Rattle.history.proofs.SearchLaws.{nights≢days}
@@ -50,7 +50,7 @@ module _ (w : List ℕ) (r : Stored) (k places : ℕ) where
   asksSteps = unless (leb k 10000 && leb (r .steps + k) 1000000) question.steps 0
 
   abbrev asksPatterns : Option Refusal
-  asksPatterns = lacking (nightList w) (upFrom 0 (nurses w))
+  asksPatterns = lacking (patternList w) (upFrom 0 (nurses w))
 
   abbrev asksRecord : List ℕ → Option Refusal
   asksRecord nights = unless (soundStored (phaseOf Nights w nights) r) question.record-sound 0
@@ -95,12 +95,12 @@ module _ (w ends : List ℕ) {lists : List ℕ} (e : lists ≡ commonOf w) where
   pub night-lists : Lists Nights w lists ends
   night-lists = record { common-list = λ q. e; begins = λ q. absurd (nights≢days q); finishes = λ q. absurd (nights≢days q) }
 
-  pub night-seeks : Seeks Nights w lists ends (nightPhase w)
+  pub night-seeks : Accepted w → Seeks Nights w lists ends (nightPhase w)
   unfolding nightPhase
-  night-seeks = record {
+  night-seeks a = record {
     nurses-are = refl;
     tabu-is = refl;
     cost-is = λ slots. refl;
-    patterns-are = λ i h. rw e (list-of-common w i);
-    ascending = night-ascending w;
+    patterns-are = λ i h. rw e (own-of-common w i (omega (arith, a .pairs-most)));
+    ascending = night-ascending w a;
   }

@@ -39,7 +39,7 @@ fn first_no(rec: Record, w: &[u64], k: u32, places: usize) -> Answer
             Answer::Yes => match questions::nights_lacking(w) {
                 Answer::No(n) => Answer::No(n),
                 Answer::Yes => {
-                    let none = [0u32; NURSES];
+                    let none = [0u64; NURSES];
                     questions::record_asked(w, &none, Search::Nights, rec)
                 }
             },

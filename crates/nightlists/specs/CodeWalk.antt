@@ -1,5 +1,5 @@
 -- The walk that finds the common list: over the days from the last to the first, not started before started.
-use mathlib.Core.Bool.{Bool, cond, _||_}
+use mathlib.Core.Bool.{Bool, cond, _&&_, _||_}
 use mathlib.Core.List.{List, [], _∷_, _++_}
 use Prim.Native.Nat.{ℕ, zero, suc, _+_, _-_, _^_, _≤_}
 use lib.Dec.{leb, ltb, eqb}
@@ -10,6 +10,8 @@ use Rattle.nightlists.specs.declared.Next.{Next}
 use Rattle.nightlists.specs.declared.Next.the-variants.{To, Never}
 use Rattle.fields.specs.Rules.{gap}
 use Rattle.fields.specs.CodeRules.{SmallRules}
+use Rattle.nights.specs.Hers.{hersOf}
+use Rattle.nights.specs.Own.{hasPair}
 
 -- a run of so many starts is followed by a gap that is wide enough, or by nothing
 abbrev pub closed : Rules → ℕ → ℕ → Bool
@@ -43,3 +45,7 @@ pub record Ready (r : Rules) (left a : ℕ) : Type 0 where
   pub small : SmallRules r
   pub few-days : left ≤ dayPlaces
   pub fits : a + 2 ^ left ≤ 2 ^ 32
+
+-- what the walk that looks for a pattern of nurse i's looks for: a night pattern of hers, under which some pair is hers
+unfoldable pub hersWithPair : List ℕ → ℕ → ℕ → Bool
+hersWithPair w i p = hersOf w i p && hasPair w i p

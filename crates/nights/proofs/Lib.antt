@@ -3,3 +3,5 @@ pub mod StartLaws
 pub mod HersLaws
 pub mod ListLaws
 pub mod RuleLaws
+pub mod OwnLaws
+pub mod PairRuleLaws

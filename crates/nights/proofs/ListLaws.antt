@@ -16,7 +16,7 @@ use Rattle.fields.specs.Rules.{rulesOf}
 use Rattle.nights.specs.Nights.{inCommon, common, commonOf}
 use Rattle.nights.specs.CodeCommon.{Among}
 use Rattle.rows.specs.Rows.{allowTable}
-use Rattle.nights.specs.Hers.{hers, hersOf, nightList}
+use Rattle.nights.specs.Hers.{hers, hersOf, meetsHersOf, nightList}
 
 -- ---- the common list
 
@@ -53,8 +53,13 @@ pub hers-common : (table : List (List ℕ)) (r : Rules) (n : ℕ) (b : List ℕ)
 unfolding hers
 hers-common table r n b p e = and-parts (inCommon r n p) _ (and-parts (ltb p (2 ^ n)) _ e .1) .0
 
+-- and of the common list what meets hers is hers
+pub hers-of-common : (w : List ℕ) (i k : ℕ) → k < length (commonOf w) → hersOf w i (getD (commonOf w) k 0) ≡ meetsHersOf w i (getD (commonOf w) k 0)
+unfolding hers
+hers-of-common w i k h = rw (lt-ltb (getD (commonOf w) k 0) (2 ^ days w) (common-below (rulesOf w) (days w) k h), common-keeps (rulesOf w) (days w) k h)
+
 -- a test that implies another keeps the same of what the other keeps
-false-here : (t : Bool) → (t ≡ true → false ≡ true) → t ≡ false
+pub false-here : (t : Bool) → (t ≡ true → false ≡ true) → t ≡ false
 false-here true f = sym (f refl)
 false-here false f = refl
 

@@ -21,7 +21,7 @@ use Rattle.nights.specs.Nights.{starts, allowed, runWith, follow, inComm
 use Rattle.nights.specs.Hers.{shifted, through, twos, lastRun, hers, hersOf, meetsHersOf, nightList}
 use Rattle.nights.specs.NightRule.{runTo, KeepsRule, InCommonList, MeetsHers, NightHers}
 use Rattle.nights.proofs.FollowLaws.{cond-same, run-some}
-use Rattle.nights.proofs.ListLaws.{common-below, common-keeps, list-of-common}
+use Rattle.nights.proofs.ListLaws.{hers-of-common, list-of-common}
 
 -- ---- the walk at start k, from 0, of a list
 
@@ -210,8 +210,4 @@ module _ (w : List ℕ) (p : ℕ) (some : 1 ≤ longestRun w) where
 
 -- her list is what of the common list meets what is hers
 pub list-filtered : (w : List ℕ) (i : ℕ) → nightList w i ≡ filter (meetsHersOf w i) (commonOf w)
-unfolding hers
-list-filtered w i =
-    list-of-common w i
-    ∙ filter-each (hersOf w i) (meetsHersOf w i) (commonOf w)
-    (λ k h. rw (lt-ltb (getD (commonOf w) k 0) (2 ^ days w) (common-below (rulesOf w) (days w) k h), common-keeps (rulesOf w) (days w) k h))
+list-filtered w i = list-of-common w i ∙ filter-each (hersOf w i) (meetsHersOf w i) (commonOf w) (hers-of-common w i)

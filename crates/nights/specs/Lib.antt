@@ -1,4 +1,5 @@
 pub mod Nights
 pub mod Hers
+pub mod Own
 pub mod NightRule
 pub mod CodeCommon

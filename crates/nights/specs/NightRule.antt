@@ -6,7 +6,8 @@ use mathlib.Core.Path.{_≡_}
 use Prim.Native.Nat.{ℕ, zero, suc, _+_, _^_, _≤_, _<_}
 use lib.Dec.{eqb}
 use lib.ListN.{length, getD}
-use Rattle.fields.specs.Fields.{days, block, mostNights, leastNightsOf, mostNightsOf, markOn}
+use Rattle.numbers.specs.Patterns.{daysOf, pairOf}
+use Rattle.fields.specs.Fields.{days, block, mostNights, leastNightsOf, mostNightsOf, markOn, pairCount, pairDay}
 use Rattle.fields.specs.Rules.{rulesOf, gap}
 use Rattle.fields.specs.declared.rules.Rules.{Rules}
 use Rattle.rows.specs.Rows.{allowTable, allows, rowState}
@@ -42,7 +43,25 @@ pub record MeetsHers (w : List ℕ) (i p : ℕ) : Type 0 where
   pub least-nights : leastNightsOf (block w i) ≤ length (starts (days w) p)
   pub most-nights : length (starts (days w) p) ≤ mostNightsOf (block w i)
 
--- nurse i's own pattern: one of the common list that meets what is hers
+-- nurse i's night pattern: one of the common list that meets what is hers
 pub record NightHers (w : List ℕ) (i p : ℕ) : Type 0 where
   pub common : InCommonList w p
   pub meets : MeetsHers w i p
+
+-- a pair's day, by its mark and its state: O or R, under mark 0, 1, 5 or 6
+pub record AtRest (mark state : ℕ) : Type 0 where
+  pub open-or-owed : (state ≡ 0) ⊎ (state ≡ 3)
+  pub marked : (mark ≡ 0) ⊎ ((mark ≡ 1) ⊎ ((mark ≡ 5) ⊎ (mark ≡ 6)))
+
+abbrev pub RestDay : List ℕ → ℕ → ℕ → Type 0
+RestDay b p d = AtRest (markOn b d) (rowState b p d)
+
+-- pair k is nurse i's under the night pattern p: both its days are such days; 0 in a ward without pairs
+pub data PairHers (w : List ℕ) (i p k : ℕ) : Type 0 where
+  without-pairs : pairCount w ≡ 0 → k ≡ 0 → PairHers w i p k
+  both-days : 1 ≤ k → k ≤ pairCount w → RestDay (block w i) p (pairDay w k) → RestDay (block w i) p (suc (pairDay w k)) → PairHers w i p k
+
+-- nurse i's own pattern: a night pattern of hers with a pair of hers
+pub record PatternHers (w : List ℕ) (i c : ℕ) : Type 0 where
+  pub nights : NightHers w i (daysOf c)
+  pub pair : PairHers w i (daysOf c) (pairOf c)

@@ -10,6 +10,7 @@ ghost use Rattle.rows.specs.Rows.{marksAllow};
 ghost use Rattle.nights.specs.Nights.{allowed, runWith, follow, starts};
 ghost use Rattle.fields.specs.CodeRules.{SmallRules};
 ghost use Rattle.nights.specs.Hers.{shifted, lastRun, hers, hersOf};
+ghost use Rattle.nights.specs.Own.{ownPattern};
 
 // The day of the last start, and how many starts its run has; 0 and 0 for none.
 pub struct Run {
@@ -152,4 +153,17 @@ pub fn is_hers(w: &[u64], i: usize, p: u32) -> bool
         fields::block(w, i),
         p,
     )
+}
+
+// Whether c is one of nurse i's own patterns.
+pub fn is_own(w: &[u64], i: usize, c: u64) -> bool
+    requires { ⌜ Accepted (now w) ⌝ }
+    requires { ⌜ i < nurses (now w) ⌝ }
+    ensures { λ h. ⌜ h ≡ ownPattern (now (w .entry)) i c ⌝ }
+{
+    let p = numbers::pattern::days_of(c);
+    if is_hers(w, i, p) {
+        return rows::pairs::pair_fits(w, i, p, numbers::pattern::pair_of(c) as usize);
+    }
+    false
 }

@@ -149,7 +149,7 @@ fn show_file(file: &[u8]) {
     let numbers = reading.ward.numbers;
     let count = reading.ward.count;
     match answer {
-        Answer::Yes => show_ward(&numbers[..count]),
+        Answer::Yes => show_ward(fields::body(&numbers[..count])),
         Answer::No(n) => number(n.question as u64),
     }
 }

@@ -7,3 +7,5 @@ pub mod BufferLaws
 pub mod AgreeLaws
 pub mod HalfLaws
 pub mod CopyLaws
+pub mod PatternLaws
+pub mod MemberLaws

@@ -115,7 +115,7 @@ ascending-cons x xs f up zero (suc k) l h = f k (le-of-suc-le-suc h)
 ascending-cons x xs f up (suc j) zero l h = absurd (not-suc-le-zero l)
 ascending-cons x xs f up (suc j) (suc k) l h = up j k (le-of-suc-le-suc l) (le-of-suc-le-suc h)
 
-filtered-ascending : (b : Bool) (x : ℕ) (ys : List ℕ) → ((k : ℕ) → k < length ys → x < getD ys k 0) → Ascending ys → Ascending (cond b (x ∷ ys) ys)
+pub filtered-ascending : (b : Bool) (x : ℕ) (ys : List ℕ) → ((k : ℕ) → k < length ys → x < getD ys k 0) → Ascending ys → Ascending (cond b (x ∷ ys) ys)
 filtered-ascending true x ys f up = ascending-cons x ys f up
 filtered-ascending false x ys f up = up
 
@@ -128,11 +128,11 @@ filter-ascending t a (suc n) =
 
 -- ---- membership
 
-at-front : (b : Bool) (x y : ℕ) (ys : List ℕ) → At ys x → At (cond b (y ∷ ys) ys) x
+pub at-front : (b : Bool) (x y : ℕ) (ys : List ℕ) → At ys x → At (cond b (y ∷ ys) ys) x
 at-front true x y ys a = record { place = suc (a .place); inside = suc-le-suc (a .inside); there = a .there }
 at-front false x y ys a = a
 
-at-here : (b : Bool) (x : ℕ) (ys : List ℕ) → b ≡ true → At (cond b (x ∷ ys) ys) x
+pub at-here : (b : Bool) (x : ℕ) (ys : List ℕ) → b ≡ true → At (cond b (x ∷ ys) ys) x
 at-here b x ys e = rw e (record { place = 0; inside = omega arith; there = refl })
 
 in-step : (t : ℕ → Bool) (a x : ℕ) (ys : List ℕ) → t x ≡ true → (a < x → At ys x) → (a ≡ x) ⊎ (a < x) → At (cond (t a) (a ∷ ys) ys) x
@@ -155,7 +155,7 @@ filtered-only t a n x at =
     (ap t (sym (at .there)) ∙ p, omega (arith, at .there, b .0), omega (arith, at .there, b .1))
 
 -- an ascending list has each number once
-ascending-once : (xs : List ℕ) → Ascending xs → (j k : ℕ) → j < length xs → k < length xs → getD xs j 0 ≡ getD xs k 0 → j ≡ k
+pub ascending-once : (xs : List ℕ) → Ascending xs → (j k : ℕ) → j < length xs → k < length xs → getD xs j 0 ≡ getD xs k 0 → j ≡ k
 unfolding Ascending
 ascending-once xs a j k l h e = go (decLt j k) (decLt k j)
   where

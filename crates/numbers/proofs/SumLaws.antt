@@ -34,6 +34,12 @@ sum-le zero b f h = zero-le
 sum-le (suc n) b f h =
     le-trans (add-le-add (sum-le n b f (λ i l. h i (le-trans l (le-suc n)))) (h n (lt-suc-self n))) (le-of-eq (sym (suc-mul n b)))
 
+-- each at most the other's
+pub sum-mono : (n : ℕ) (f g : ℕ → ℕ) → ((i : ℕ) → i < n → f i ≤ g i) → sumTo n f ≤ sumTo n g
+unfolding sumTo
+sum-mono zero f g h = zero-le
+sum-mono (suc n) f g h = add-le-add (sum-mono n f g (λ i l. h i (le-trans l (le-suc n)))) (h n (lt-suc-self n))
+
 -- A loop that adds f 0, f 1, .. to s, where s is at most p and each f i at most q.
 pub loop-start : (s p : ℕ) (f : ℕ → ℕ) {t : ℕ} → Is t s p → Is t (s + sumTo 0 f) p
 loop-start s p f h = record { is = omega (arith, h .is, sum-zero f); most = h .most }

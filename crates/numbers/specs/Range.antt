@@ -1,6 +1,6 @@
 -- Ascending ranges of numbers, and the numbers of a list that pass a test.
 use mathlib.Core.Path.{_≡_}
-use mathlib.Core.Bool.{Bool, true, cond, _&&_}
+use mathlib.Core.Bool.{Bool, true, false, cond, _&&_, _||_}
 use mathlib.Core.List.{List, [], _∷_}
 use Prim.Native.Nat.{ℕ, zero, suc, _<_}
 use lib.ListN.{length, getD}
@@ -19,6 +19,11 @@ filter t (x ∷ xs) = cond (t x) (x ∷ filter t xs) (filter t xs)
 unfoldable pub all : (ℕ → Bool) → List ℕ → Bool
 all t [] = true
 all t (x ∷ xs) = t x && all t xs
+
+-- whether one of a list passes a test
+unfoldable pub anyOf : (ℕ → Bool) → List ℕ → Bool
+anyOf t [] = false
+anyOf t (x ∷ xs) = t x || anyOf t xs
 
 -- each number of a list is below those after it
 unfoldable pub Ascending : List ℕ → Type 0

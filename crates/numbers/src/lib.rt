@@ -1,4 +1,6 @@
 // Sets of small numbers as one number, and counts of their members.
+pub mod pattern;
+
 ghost use mathlib.Core.Path.{_≡_};
 ghost use mathlib.Core.Bool.{_&&_};
 ghost use Prim.Native.Nat.{ℕ, _^_, _<_, _≤_};

@@ -1,2 +1,3 @@
 pub mod MaskLaws
 pub mod NearLaws
+pub mod PairMaskLaws

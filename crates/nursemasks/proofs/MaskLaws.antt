@@ -217,7 +217,7 @@ row-made b p night second h en es x e1 e2 e3 =
 
 -- ---- what the marks allow
 
-row-small : (b : List ℕ) (p d : ℕ) → rowState b p d < 4
+pub row-small : (b : List ℕ) (p d : ℕ) → rowState b p d < 4
 unfolding rowState
 row-small b p zero = go (eqb (duty b 6) 2) (eqb (duty b 6) 3)
   where

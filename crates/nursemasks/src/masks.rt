@@ -18,6 +18,7 @@ ghost use Rattle.fields.specs.CodeRules.{SmallRules};
 ghost use Rattle.nights.specs.Nights.{inCommon};
 ghost use Rattle.nights.specs.Hers.{hersOf};
 ghost use Rattle.fields.specs.declared.rules.Rules.{Rules};
+ghost use Rattle.nursemasks.specs.CodePairs.{BusyDays};
 ghost use Rattle.nursemasks.specs.CodeMasks.{barred, workable, near, barsOf, masksBy, masksOf, Masked, RowOf, AvailableDays};
 
 // The days whose marks bar O, N, n and R.
@@ -206,6 +207,16 @@ pub fn available_days(m: Masks, p: u32) -> u32
     let row = row_of(m, p);
     let available = m.workable & !(row.night | row.second | row.rest);
     (available / 2) as u32
+}
+
+// The N and n days under p, as a pattern.
+pub fn busy_days(m: Masks, p: u32) -> u32
+    requires { ⌜ Masked m ⌝ }
+    ensures { λ q. ⌜ ((r : Rules) (n : ℕ) (b : List ℕ) → n ≤ dayPlaces → m ≡ masksOf r n b → BusyDays b p q) ⌝ }
+{
+    let row = row_of(m, p);
+    // The second day of a night on the 32nd, which no month has, would not fit.
+    ((row.night | row.second) / 2 % 4294967296) as u32
 }
 
 // Whether p of the common list is in the list of the nurse with these masks.

@@ -22,7 +22,7 @@ use Rattle.planner.specs.Answers.{checkSays}
 use Rattle.planner.specs.Left.{listOf, listsOf, nightLeft, dayLeft}
 use Rattle.planner.specs.Demand1.{noInCheck}
 use Rattle.planner.proofs.Demand1Laws.{noIn, nights-answer, days-answer, demand1}
-use Rattle.recordwords.specs.Words.{recordWords, recordOfWords}
+use Rattle.recordwords.specs.Words.{recordWords, recordOfWords, patternsOfWords}
 use Rattle.answerwords.specs.AnswerWords.{countWords, advanceWords, checkWords}
 use Rattle.pantheryl.specs.Answers.{readWords, numbersLeft, wardOf, writeWords, wordsLeft, nightsFrom, daysFrom, rosterLeft}
 use Rattle.recordwords.proofs.WordLaws.{patterns-long, flags-long, removals-long}
@@ -53,7 +53,7 @@ check-no Broken n e = absurd (Option·none-ne-some n e)
 
 words-sized : (words : List ℕ) → length words ≡ recordWords → Sized (recordOfWords words)
 unfolding recordOfWords
-words-sized words l = record { patterns-long = patterns-long words l; placed-long = flags-long words l; removals-long = removals-long words l }
+words-sized words l = record { patterns-long = patterns-long words; placed-long = flags-long words l; removals-long = removals-long words }
 
 pub words-demand1 : WordsDemand1
 unfolding advanceWords wordsLeft rosterLeft nightLeft dayLeft leftBy
@@ -83,7 +83,7 @@ words-demand1 = record {
             );
       };
   days = λ file bytes nights words l k buffer roster.
-      let f = days-answer file bytes (recordOfWords words) (words-sized words l) (callOf k (length buffer)) nights in
+      let f = days-answer file bytes (recordOfWords words) (words-sized words l) (callOf k (length buffer)) (patternsOfWords nights) in
       record {
         only = λ q p e. f .only q p (advance-no (daysFrom file nights words k buffer .0) (numbered q p) e);
         always = λ q p w.
@@ -91,7 +91,7 @@ words-demand1 = record {
               ap (λ (x : Answer × Stored). advanceWords (x .0)) s,
               (
                 ap (λ (x : Answer × Stored). wordsLeft x words) s,
-                ap (λ (x : Answer × Stored). leftBy (x .0) (listsOf (readWard file) nights) buffer) s,
+                ap (λ (x : Answer × Stored). leftBy (x .0) (listsOf (readWard file) (patternsOfWords nights)) buffer) s,
                 ap (λ (x : Answer × Stored). rosterLeft (x .0) roster) s,
               ),
             );

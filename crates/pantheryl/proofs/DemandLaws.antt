@@ -6,6 +6,8 @@ use mathlib.Core.Option.{Option, none, some}
 use native.Mathlib.Omega.{arith}
 use lib.ListN.{length, replicate, length-take}
 use Rattle.fields.specs.Sizes.{removalPlaces, tabuMost}
+use Rattle.numbers.specs.Patterns.{daysOf, pairOf}
+use Rattle.fields.specs.Fields.{bodyOf}
 use Rattle.layout.specs.Grammar.{good, bad}
 use Rattle.ward.specs.Answers.{readWard}
 use Rattle.ward.proofs.ReadingLaws.{read-accepted}
@@ -87,7 +89,7 @@ module _ (P : Phase) (fits : Fits P) where
   fresh-sized = record { patterns-long = refl; placed-long = refl; removals-long = refl }
 
   fresh-words : wordsOfRecord allZero ≡ replicate recordWords 0
-  unfolding wordsOfRecord
+  unfolding wordsOfRecord daysOf pairOf
   fresh-words = refl
 
   -- the claim about stored records is one about their words
@@ -102,15 +104,18 @@ module _ (P : Phase) (fits : Fits P) where
 
 -- ---- from the file's bytes
 
-module _ (phase : List ℕ → Phase) (file w : List ℕ) (reads : readWard file ≡ good w) (fits : Fits (phase w)) where
+module _ (phase : List ℕ → Phase) (file ws : List ℕ) (reads : readWard file ≡ good ws) (fits : Fits (phase (bodyOf ws))) where
+  abbrev searched : Phase
+  searched = phase (bodyOf ws)
+
   abbrev advances : Call → Stored → Answer × Stored
   advances c r = advanceOver phase (readWard file) c r
 
-  from-file : (cs : List Call) → Demand3 (phase w) allZero advances store cs → Demand3 (phase w) (replicate recordWords 0) (byWords advances) asWords cs
+  from-file : (cs : List Call) → Demand3 searched allZero advances store cs → Demand3 searched (replicate recordWords 0) (byWords advances) asWords cs
   from-file cs d =
-      let same = advance-read phase file w reads in
-      subst (λ (adv : Call → Stored → Answer × Stored). Demand3 (phase w) (replicate recordWords 0) (byWords adv) asWords cs) (sym same)
-      (by-words (phase w) fits cs (subst (λ (adv : Call → Stored → Answer × Stored). Demand3 (phase w) allZero adv store cs) same d))
+      let same = advance-read phase file ws reads in
+      subst (λ (adv : Call → Stored → Answer × Stored). Demand3 searched (replicate recordWords 0) (byWords adv) asWords cs) (sym same)
+      (by-words searched fits cs (subst (λ (adv : Call → Stored → Answer × Stored). Demand3 searched allZero adv store cs) same d))
 
 -- a refused advance leaves the words as they were
 refused-words : (advance : Call → Stored → Answer × Stored) (n : Refusal) (c : Call) → advance c allZero ≡ (refused n, allZero)
@@ -118,10 +123,11 @@ refused-words : (advance : Call → Stored → Answer × Stored) (n : Refusal) (
 unfolding wordsLeft
 refused-words advance n c e = rw (read-back .fresh, e)
 
-words-without : (phase : List ℕ → Phase) (file w : List ℕ) → readWard file ≡ good w → Refusing (phase w) (replicate recordWords 0) (byWords (advanceOver phase (readWard file)))
-words-without phase file w e =
-    refusing (phase w) (replicate recordWords 0) (byWords (advanceOver phase (readWard file)))
-    (λ i h c. refused-words (advanceOver phase (readWard file)) (orTen i (refusal (phase w) c 0)) c (advance-without phase file w e i h c))
+words-without : (phase : List ℕ → Phase) (file ws : List ℕ) → readWard file ≡ good ws
+    → Refusing (phase (bodyOf ws)) (replicate recordWords 0) (byWords (advanceOver phase (readWard file)))
+words-without phase file ws e =
+    refusing (phase (bodyOf ws)) (replicate recordWords 0) (byWords (advanceOver phase (readWard file)))
+    (λ i h c. refused-words (advanceOver phase (readWard file)) (orTen i (refusal (phase (bodyOf ws)) c 0)) c (advance-without phase file ws e i h c))
 
 words-unread : (phase : List ℕ → Phase) (file : List ℕ) (n : Refusal) → readWard file ≡ bad n → (cs : List Call)
     → AllRefused (replicate recordWords 0) (byWords (advanceOver phase (readWard file))) (λ c. n) cs
@@ -131,22 +137,23 @@ words-unread phase file n e cs =
 
 pub words-demand : WordsDemanded
 words-demand = record {
-  accepted = λ file w bytes e.
-      let a = read-accepted file w bytes e in
-      let d = demand .accepted file w bytes e in
+  accepted = λ file ws bytes e.
+      let w = bodyOf ws in
+      let a = read-accepted file ws bytes e in
+      let d = demand .accepted file ws bytes e in
       record {
-        nights = λ has cs. from-file nightPhase file w e (night-fits w a) cs (d .nights has cs);
-        no-nights = words-without nightPhase file w e;
+        nights = λ has cs. from-file nightPhase file ws e (night-fits w a) cs (d .nights has cs);
+        no-nights = words-without nightPhase file ws e;
         days = λ nights has cs.
             let b = d .days nights has cs in
-            let c = from-file (λ v. dayPhase v (nightOf nights)) file w e (day-fits w (nightOf nights) a) cs (b .claim) in
+            let c = from-file (λ v. dayPhase v (nightOf nights)) file ws e (day-fits w (nightOf nights) a) cs (b .claim) in
             let same = ap (λ (x : List Answer × Stored). x .0) (b .claim .follows) ∙ sym (ap (λ (x : List Answer × List ℕ). x .0) (c .follows)) in
             record {
               claim = c;
               rosters = subst (Each (Rightly file)) same (b .rosters);
               settled = subst (Each (UnlessRefused (Settled w (nightOf nights)))) same (b .settled);
             };
-        no-days = λ nights. words-without (λ v. dayPhase v (nightOf nights)) file w e;
+        no-days = λ nights. words-without (λ v. dayPhase v (nightOf nights)) file ws e;
       };
   unread = λ file n e. record {
     nights = λ cs. words-unread nightPhase file n e cs;

@@ -11,7 +11,7 @@ use Rattle.search.specs.declared.Record.{Record as Stored}
 use Rattle.history.specs.Phase.{Answer, refused, ended}
 use Rattle.planner.specs.Advances.{advanceNights, advanceDays}
 use Rattle.outcomes.specs.Outcomes.{lettersOf, callOf}
-use Rattle.recordwords.specs.Words.{recordOfWords, wordsOfRecord}
+use Rattle.recordwords.specs.Words.{patternsOfWords, recordOfWords, wordsOfRecord}
 use Rattle.answerwords.specs.AnswerWords.{countWords}
 
 -- ---- the ward
@@ -48,6 +48,6 @@ rosterLeft a before = lettersOf a ++ drop (length (lettersOf a)) before
 abbrev pub nightsFrom : List ℕ → List ℕ → ℕ → List ℕ → Answer × Stored
 nightsFrom file words k buffer = advanceNights file (callOf k (length buffer)) (recordOfWords words)
 
--- and a day advance
+-- and a day advance, whose nights are handed in as words too
 abbrev pub daysFrom : List ℕ → List ℕ → List ℕ → ℕ → List ℕ → Answer × Stored
-daysFrom file nights words k buffer = advanceDays file nights (callOf k (length buffer)) (recordOfWords words)
+daysFrom file nights words k buffer = advanceDays file (patternsOfWords nights) (callOf k (length buffer)) (recordOfWords words)

@@ -17,7 +17,7 @@ use Rattle.planner.specs.Answers.{checkSays}
 use Rattle.planner.specs.Left.{nightLeft, dayLeft}
 use Rattle.planner.specs.Faults.{nightQuestions, dayQuestions, checkQuestions, FileNo, WriterNo}
 use Rattle.planner.specs.Demand1.{Refuses, Bytes}
-use Rattle.recordwords.specs.Words.{recordWords, recordOfWords}
+use Rattle.recordwords.specs.Words.{recordWords, patternsOfWords, recordOfWords}
 use Rattle.answerwords.specs.AnswerWords.{refusalWords, advanceWords, checkWords}
 use Rattle.pantheryl.specs.Answers.{readWords, numbersLeft, wardOf, writeWords, wordsLeft, nightsFrom, daysFrom, rosterLeft}
 
@@ -43,7 +43,7 @@ pub record WordsDemand1 : Type 0 where
   pub days : (file : List ℕ) → Bytes file → (nights words : List ℕ) → length words ≡ recordWords → (k : ℕ) (buffer roster : List ℕ)
       → let a = daysFrom file nights words k buffer in
       let r = recordOfWords words in
-      WordsRefuse (FileNo file (dayQuestions (nightOf nights) (callOf k (length buffer)) r)) (advanceWords (a .0))
-      ((wordsLeft a words ≡ words) × (dayLeft file nights r k buffer ≡ buffer) × (rosterLeft (a .0) roster ≡ roster))
+      WordsRefuse (FileNo file (dayQuestions (nightOf (patternsOfWords nights)) (callOf k (length buffer)) r)) (advanceWords (a .0))
+      ((wordsLeft a words ≡ words) × (dayLeft file (patternsOfWords nights) r k buffer ≡ buffer) × (rosterLeft (a .0) roster ≡ roster))
   pub check : (file : List ℕ) → Bytes file → (roster : List ℕ)
       → WordsRefuse (FileNo file (checkQuestions roster)) (checkWords (checkSays file roster)) Unit

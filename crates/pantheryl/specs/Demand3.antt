@@ -1,4 +1,4 @@
--- Demand 3 through the C interface: the claim about a whole list of advances where the record is kept as words between calls, from 289 zeros.
+-- Demand 3 through the C interface: the claim about a whole list of advances where the record is kept as words between calls, from 401 zeros.
 use Prim.Native.Nat.{ℕ}
 use mathlib.Core.List.{List}
 use lib.ListN.{replicate}

@@ -1,7 +1,7 @@
 // The C interface, over the planner's published calls. include/pantheryl.h says it for C.
 use fields::sizes::LETTERS;
 use fields::sizes::NUMBERS;
-use fields::sizes::NURSES;
+use recordwords::PATTERNS;
 use recordwords::WORDS;
 use refusals::Answer;
 ghost use mathlib.Core.Path.{_≡_};
@@ -9,7 +9,7 @@ ghost use lib.ListN.{length};
 ghost use Rattle.ward.specs.Answers.{readingOf, readWard, counted, checkWard, writingOf, leftOf};
 ghost use Rattle.planner.specs.Answers.{checkSays};
 ghost use Rattle.planner.specs.Left.{nightLeft, dayLeft};
-ghost use Rattle.recordwords.specs.Words.{recordOfWords};
+ghost use Rattle.recordwords.specs.Words.{patternsOfWords, recordOfWords};
 ghost use Rattle.answerwords.specs.AnswerWords.{advanceWords, checkWords};
 ghost use Rattle.pantheryl.specs.Answers.{readWords, numbersLeft, wardOf, writeWords, wordsLeft, nightsFrom, daysFrom, rosterLeft};
 
@@ -89,7 +89,7 @@ pub extern "C" fn pantheryl_advance_nights(
 #[no_mangle]
 pub extern "C" fn pantheryl_advance_days(
     file: &[u8],
-    nights: &[u32; NURSES],
+    nights: &[u32; PATTERNS],
     words: &mut [u32; WORDS],
     k: u32,
     buffer: &mut [u32],
@@ -98,12 +98,13 @@ pub extern "C" fn pantheryl_advance_days(
 )
     ensures says { λ _. ⌜ now (answer .exit) ≡ advanceWords (daysFrom (now (file .entry)) (now (nights .entry)) (now (words .entry)) k (now (buffer .entry)) .0) ⌝ }
     ensures keeps { λ _. ⌜ now (words .exit) ≡ wordsLeft (daysFrom (now (file .entry)) (now (nights .entry)) (now (words .entry)) k (now (buffer .entry))) (now (words .entry)) ⌝ }
-    ensures leaves { λ _. ⌜ now (buffer .exit) ≡ dayLeft (now (file .entry)) (now (nights .entry)) (recordOfWords (now (words .entry))) k (now (buffer .entry)) ⌝ }
+    ensures leaves { λ _. ⌜ now (buffer .exit) ≡ dayLeft (now (file .entry)) (patternsOfWords (now (nights .entry))) (recordOfWords (now (words .entry))) k (now (buffer .entry)) ⌝ }
     ensures gives { λ _. ⌜ now (roster .exit) ≡ rosterLeft (daysFrom (now (file .entry)) (now (nights .entry)) (now (words .entry)) k (now (buffer .entry)) .0) (now (roster .entry)) ⌝ }
 {
     let before = *words;
     let rec = recordwords::record_of(before);
-    let done = planner::advance_days(rec, file, nights, k, buffer);
+    let over = recordwords::patterns_of(nights);
+    let done = planner::advance_days(rec, file, &over, k, buffer);
     let outcome = done.outcome;
     let letters = done.roster.letters;
     let count = done.roster.count;

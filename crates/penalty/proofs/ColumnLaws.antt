@@ -17,12 +17,13 @@ use Rattle.numbers.specs.Sum.{countTo, oneIf}
 use Rattle.numbers.specs.Digits.{has, put}
 use Rattle.numbers.proofs.SumLaws.{sum-ext, sum-cut}
 use Rattle.numbers.proofs.DigitLaws.{bit-of-zero, put-here, put-there}
-use Rattle.fields.specs.Fields.{nurses, days, block}
-use Rattle.rows.specs.Rows.{availableOn}
+use Rattle.numbers.specs.Patterns.{daysOf}
+use Rattle.fields.specs.Fields.{nurses, days}
+use Rattle.rows.specs.Pairs.{freeOn}
 use Rattle.penalty.specs.declared.columns.Columns.{Columns}
 use Rattle.history.specs.Slot.{Slot, exchanged}
 use Rattle.penalty.specs.Penalty.{startsIn, workedIn, atNight, availableIn, atDay}
-use Rattle.penalty.specs.CodeColumns.{Same, ShownNight, ShownDay, Empty, PutAt, NursePut, AvailableUnder}
+use Rattle.penalty.specs.CodeColumns.{Same, ShownNight, ShownDay, Empty, PutAt, NursePut, FreeUnder}
 
 -- ---- who is on, below m
 
@@ -117,19 +118,19 @@ module _ (w : List ℕ) (slots : ℕ → Slot) where
     available-shown = λ d l. same-none _ _ (e .no-days d);
   }
 
-  pub night-more : (i : ℕ) (c r : Columns) {p set : ℕ} → ShownNight w slots i c → p ≡ startsIn w i (slots i) → AvailableUnder w i p set
-      → NursePut c r (days w) i p set → ShownNight w slots (i + 1) r
-  night-more i c r {p} {set} s e g q = record {
+  -- nurse i too, with her starts and the days on which her pattern leaves her available
+  pub night-more : (i : ℕ) (c r : Columns) {starts free : ℕ} → ShownNight w slots i c → starts ≡ daysOf (startsIn w i (slots i)) → FreeUnder w i (startsIn w i (slots i)) free
+      → NursePut c r (days w) i starts free → ShownNight w slots (i + 1) r
+  night-more i c r s e g q = record {
     night-shown = λ d l. same-more i _ _ (atNight w slots d) (s .night-shown d l) (q .night-put d l ∙ ap (λ (x : ℕ). put (has (getD (c .night) d 0)) i (has x d)) e);
-    available-shown = λ d l. same-more i _ _ (availableIn w slots d) (s .available-shown d l)
-        (q .day-put d l ∙ ap (put (has (getD (c .day) d 0)) i) (g d l ∙ ap (λ (x : ℕ). availableOn (block w i) x (suc d)) e));
+    available-shown = λ d l. same-more i _ _ (availableIn w slots d) (s .available-shown d l) (q .day-put d l ∙ ap (put (has (getD (c .day) d 0)) i) (g d l));
   }
 
   pub day-none : (c : Columns) → Empty c → ShownDay w slots 0 c
   day-none c e = record { day-shown = λ d l. same-none _ _ (e .no-days d) }
 
-  pub day-more : (i : ℕ) (c r : Columns) {nights q : ℕ} → ShownDay w slots i c → q ≡ workedIn w i (slots i)
-      → NursePut c r (days w) i nights q → ShownDay w slots (i + 1) r
+  pub day-more : (i : ℕ) (c r : Columns) {nights worked : ℕ} → ShownDay w slots i c → worked ≡ daysOf (workedIn w i (slots i))
+      → NursePut c r (days w) i nights worked → ShownDay w slots (i + 1) r
   day-more i c r s e q = record {
     day-shown = λ d l. same-more i _ _ (atDay w slots d) (s .day-shown d l) (q .day-put d l ∙ ap (λ (x : ℕ). put (has (getD (c .day) d 0)) i (has x d)) e);
   }
@@ -151,12 +152,12 @@ module _ (w : List ℕ) (slots : ℕ → Slot) (i p : ℕ) (h : i < nurses w) wh
       (ap (λ (x : Slot). put f i (on i x)) (sym (exchanged-here slots i p))) h
       (λ j q. sym (ap (on j) (exchanged-there slots i p j q)))
 
-  pub night-after : (d : ℕ) (f : ℕ → Bool) → Same (nurses w) f (atNight w slots d) → Same (nurses w) (put f i (has p d)) (atNight w (exchanged slots i p) d)
-  night-after d = slots-after (λ j x. has (startsIn w j x) d)
+  pub night-after : (d : ℕ) (f : ℕ → Bool) → Same (nurses w) f (atNight w slots d) → Same (nurses w) (put f i (has (daysOf p) d)) (atNight w (exchanged slots i p) d)
+  night-after d = slots-after (λ j x. has (daysOf (startsIn w j x)) d)
 
   pub available-after : (d : ℕ) (f : ℕ → Bool) → Same (nurses w) f (availableIn w slots d)
-      → Same (nurses w) (put f i (availableOn (block w i) p (suc d))) (availableIn w (exchanged slots i p) d)
-  available-after d = slots-after (λ j x. availableOn (block w j) (startsIn w j x) (suc d))
+      → Same (nurses w) (put f i (freeOn w i p (suc d))) (availableIn w (exchanged slots i p) d)
+  available-after d = slots-after (λ j x. freeOn w j (startsIn w j x) (suc d))
 
-  pub day-after : (d : ℕ) (f : ℕ → Bool) → Same (nurses w) f (atDay w slots d) → Same (nurses w) (put f i (has p d)) (atDay w (exchanged slots i p) d)
-  day-after d = slots-after (λ j x. has (workedIn w j x) d)
+  pub day-after : (d : ℕ) (f : ℕ → Bool) → Same (nurses w) f (atDay w slots d) → Same (nurses w) (put f i (has (daysOf p) d)) (atDay w (exchanged slots i p) d)
+  day-after d = slots-after (λ j x. has (daysOf (workedIn w j x)) d)

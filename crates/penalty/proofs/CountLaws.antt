@@ -1,15 +1,16 @@
 -- What is counted on columns is what the ward says: sums over 64 places are counts over the nurses.
 use mathlib.Core.Path.{_≡_, refl, sym, ap, ap₂, _∙_, subst}
-use mathlib.Core.Bool.{Bool}
+use mathlib.Core.Bool.{Bool, true, false}
 use mathlib.Core.List.{List}
 use Prim.Native.Nat.{ℕ, _+_, _-_, _*_, _≤_, _<_}
-use native.Mathlib.Nat.{zero-mul, zero-add}
+use native.Mathlib.Nat.{zero-mul, zero-add, le-refl, add-le-add, mul-le-mul}
 use native.Mathlib.Omega.{arith}
 use lib.ListN.{length, getD}
 use Rattle.fields.specs.Sizes.{nursePlaces, dayPlaces}
 use Rattle.numbers.specs.Sum.{sumTo, Is}
-use Rattle.numbers.specs.Digits.{has}
-use Rattle.numbers.proofs.SumLaws.{sum-ext, sum-add, sum-none, loop-start, loop-turn}
+use Rattle.numbers.specs.Digits.{has, put}
+use Rattle.numbers.proofs.SumLaws.{sum-ext, sum-mono, sum-add, sum-none, loop-start, loop-turn}
+use Rattle.numbers.proofs.DigitLaws.{count-put, count-put-all}
 use Rattle.fields.specs.Fields.{Accepted, nurses, days, groups, weight, memberSets, needs, need, low, high}
 use Rattle.penalty.specs.declared.columns.Columns.{Columns}
 use Rattle.penalty.specs.declared.duty.Weights.{Weights}
@@ -55,6 +56,22 @@ unfolding needTerm lowTerm highTerm
 cost-low wt sets needs k f =
     let z : dutyOver (noHigh wt) sets needs k f ≡ 0 = sum-none (length sets) _ (λ g l. zero-mul (membersIn sets f g - high needs k g)) in
     omega (arith, cost-both (noHigh wt) sets needs k f)
+
+-- with more on duty no more are short
+short-falls : (weight wanted more fewer : ℕ) → fewer ≤ more → weight * (wanted - more) ≤ weight * (wanted - fewer)
+short-falls weight wanted more fewer h =
+    let l : wanted - more ≤ wanted - fewer = omega arith in
+    mul-le-mul (le-refl weight) l
+
+-- so with highs ignored a nurse put in never costs more
+pub cost-falls : (wt : Weights) (sets needs : List ℕ) (k i : ℕ) (f : ℕ → Bool) → i < 64
+    → dutyCost (noHigh wt) sets needs k (put f i true) ≤ dutyCost (noHigh wt) sets needs k (put f i false)
+unfolding needTerm lowTerm
+cost-falls wt sets needs k i f l =
+    rw (cost-low wt sets needs k (put f i true), cost-low wt sets needs k (put f i false))
+    (add-le-add
+    (short-falls (wt .w) (need needs k) _ _ (omega (arith, count-put-all 64 i f l)))
+    (sum-mono (length sets) _ _ (λ g m. short-falls (wt .u) (low needs k g) _ _ (omega (arith, count-put 64 i f (has (getD sets g 0)) l)))))
 
 -- ---- one day, from what the calls gave
 

@@ -5,8 +5,8 @@ use mathlib.Core.List.{List}
 use Prim.Native.Nat.{ℕ, suc, _≤_, _<_}
 use lib.ListN.{getD}
 use Rattle.numbers.specs.Digits.{has, put}
-use Rattle.fields.specs.Fields.{nurses, days, block}
-use Rattle.rows.specs.Rows.{availableOn}
+use Rattle.fields.specs.Fields.{nurses, days}
+use Rattle.rows.specs.Pairs.{freeOn}
 use Rattle.penalty.specs.declared.columns.Columns.{Columns}
 use Rattle.history.specs.declared.Search.{Search}
 use Rattle.history.specs.declared.Search.the-variants.{Nights, Days}
@@ -50,6 +50,6 @@ pub record NursePut (c r : Columns) (n i nights available : ℕ) : Type 0 where
   pub night-put : (d : ℕ) → d < n → PutAt (c .night) (r .night) i nights d
   pub day-put : (d : ℕ) → d < n → PutAt (c .day) (r .day) i available d
 
--- the set of the days on which nurse i is available under the starts p
-abbrev pub AvailableUnder : List ℕ → ℕ → ℕ → ℕ → Type 0
-AvailableUnder w i p set = (d : ℕ) → d < days w → has set d ≡ availableOn (block w i) p (suc d)
+-- the set of the days on which nurse i is available under the pattern p
+abbrev pub FreeUnder : List ℕ → ℕ → ℕ → ℕ → Type 0
+FreeUnder w i p set = (d : ℕ) → d < days w → has set d ≡ freeOn w i p (suc d)

@@ -7,11 +7,13 @@ use Prim.Native.Nat.{ℕ, suc, _+_, _-_, _*_}
 use lib.ListN.{getD}
 use Rattle.numbers.specs.Sum.{sumTo, countTo}
 use Rattle.numbers.specs.Digits.{has, numberOf}
+use Rattle.numbers.specs.Patterns.{pattern, daysOf}
 use Rattle.history.specs.declared.Search.{Search}
 use Rattle.history.specs.declared.Search.the-variants.{Nights, Days}
 use Rattle.history.specs.Slot.{Slot, isNone, unplacedCost}
 use Rattle.fields.specs.Fields.{nurses, days, groups, weight, block, memberSets, needs, need, low, high}
-use Rattle.rows.specs.Rows.{availableOn, fixedNight, fixedDay}
+use Rattle.rows.specs.Rows.{fixedNight, fixedDay}
+use Rattle.rows.specs.Pairs.{freeOn}
 use Rattle.penalty.specs.declared.Penalty.{Penalty}
 
 -- ---- one duty of one day: `on i` says whether nurse i counts
@@ -56,16 +58,16 @@ unplacedIn w slots = countTo (nurses w) (λ i. isNone (slots i))
 
 -- ---- the night search: nights count on N days, day counts are of available nurses, and day highs are ignored
 
--- nurse i's starts: her pattern, or her marks 3 while she is unplaced
+-- the pattern that nurse i counts with: hers, or while she is unplaced her marks 3 as starts, with no pair
 abbrev pub startsIn : List ℕ → ℕ → Slot → ℕ
 startsIn w i (some p) = p
-startsIn w i none = numberOf (fixedNight (block w i)) (days w)
+startsIn w i none = pattern (numberOf (fixedNight (block w i)) (days w)) 0
 
 abbrev pub atNight : List ℕ → (ℕ → Slot) → ℕ → ℕ → Bool
-atNight w slots d i = has (startsIn w i (slots i)) d
+atNight w slots d i = has (daysOf (startsIn w i (slots i))) d
 
 abbrev pub availableIn : List ℕ → (ℕ → Slot) → ℕ → ℕ → Bool
-availableIn w slots d i = availableOn (block w i) (startsIn w i (slots i)) (suc d)
+availableIn w slots d i = freeOn w i (startsIn w i (slots i)) (suc d)
 
 unfoldable pub nightParts : List ℕ → (ℕ → Slot) → Parts
 nightParts w slots = record {
@@ -79,13 +81,13 @@ nightPenalty w slots = total (nightParts w slots)
 
 -- ---- the day search: the night terms are zero
 
--- nurse i's worked days: her pattern, or her marks 2 while she is unplaced
+-- the pattern that nurse i counts with: hers, or while she is unplaced her marks 2 as worked days; it has no pair
 abbrev pub workedIn : List ℕ → ℕ → Slot → ℕ
 workedIn w i (some q) = q
-workedIn w i none = numberOf (fixedDay (block w i)) (days w)
+workedIn w i none = pattern (numberOf (fixedDay (block w i)) (days w)) 0
 
 abbrev pub atDay : List ℕ → (ℕ → Slot) → ℕ → ℕ → Bool
-atDay w slots d i = has (workedIn w i (slots i)) d
+atDay w slots d i = has (daysOf (workedIn w i (slots i))) d
 
 unfoldable pub dayParts : List ℕ → (ℕ → Slot) → Parts
 dayParts w slots = record {

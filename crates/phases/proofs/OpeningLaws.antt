@@ -10,7 +10,7 @@ use lib.ListN.{getD, replicate, getD-replicate}
 use Rattle.fields.specs.Sizes.{nursePlaces}
 use Rattle.numbers.specs.Range.{upFrom, all}
 use Rattle.fields.specs.Fields.{Accepted, nurses}
-use Rattle.nights.specs.Hers.{hersOf}
+use Rattle.nights.specs.Own.{ownPattern}
 use Rattle.penalty.specs.Penalty.{nightPenalty}
 use Rattle.removals.specs.Removals.{slot}
 use Rattle.search.specs.CodeSeek.{Agree}
@@ -22,7 +22,7 @@ unfolding Agree
 everyone-placed w nights r a e q i h =
     sym (ap₂ (λ (b : Bool) (p : ℕ). slot b p) (ap (λ (l : List Bool). getD l i false) e ∙ getD-replicate nursePlaces i true false (omega (arith, a .nurses-most))) (ap (λ (l : List ℕ). getD l i 0) q))
 
-module _ (w nights : List ℕ) {b : Bool} (e : b ≡ all (λ i. hersOf w i (nightOf nights i)) (upFrom 0 (nurses w))) where
+module _ (w nights : List ℕ) {b : Bool} (e : b ≡ all (λ i. ownPattern w i (nightOf nights i)) (upFrom 0 (nurses w))) where
   pub opens-at-zero : {p : ℕ} → b ≡ true → p ≡ nightPenalty w (λ i. some (nightOf nights i)) → eqb p 0 ≡ nightsOpen w (nightOf nights)
   unfolding nightsOpen
   opens-at-zero f q = rw (← e, f, q)

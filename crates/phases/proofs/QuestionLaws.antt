@@ -1,22 +1,23 @@
 -- A nurse's own patterns by the test of one pattern, the three parts of question 11, and question 10 as a loop over the nurses asks it.
-use Prim.Native.Nat.{ℕ, zero, suc, _+_, _-_, _^_, _≤_, _<_, min}
+use Prim.Native.Nat.{ℕ, zero, suc, _+_, _-_, _≤_, _<_, suc-le-suc, min}
 use mathlib.Core.Path.{_≡_, refl, sym, ap, ap₂, _∙_, subst}
-use mathlib.Core.Bool.{Bool, true, false, cond, _&&_}
-use mathlib.Core.List.{List, [], _∷_}
+use mathlib.Core.Bool.{Bool, true, false, _&&_, _||_, false≢true}
+use mathlib.Core.List.{List, [], _∷_, map}
 use mathlib.Core.Option.{Option, none, some}
 use native.Mathlib.Nat.{not-suc-le-zero, le-of-suc-le-suc}
 use native.Mathlib.Numerals.{add-one}
 use native.Mathlib.Omega.{arith}
-use borrow.Author.Tests.{lt-ltb, le-ltb, eq-eqb, ne-eqb}
+use borrow.Author.Tests.{lt-ltb, le-ltb, eq-eqb, ne-eqb, eqb-true, eqb-false}
 use lib.Dec.{ltb, eqb}
 use lib.ListN.{length, getD}
-use Rattle.numbers.specs.Range.{upFrom, filter, all, At}
-use Rattle.numbers.proofs.RangeLaws.{filtered-in}
-use Rattle.fields.specs.Fields.{Accepted, nurses, days, tabu}
-use Rattle.nights.specs.Hers.{hersOf, nightList}
-use Rattle.nights.proofs.ListLaws.{hers-below}
+use Rattle.numbers.specs.Range.{upFrom, all, At, Exactly}
+use Rattle.numbers.specs.Patterns.{pattern, unpaired, daysOf, pairOf}
+use Rattle.numbers.proofs.PatternLaws.{days-of, pair-of, back}
+use Rattle.fields.specs.Fields.{Accepted, nurses, tabu}
+use Rattle.nights.specs.Own.{ownPattern, patternList}
+use Rattle.nights.proofs.OwnLaws.{own-exactly}
 use Rattle.days.specs.Days.{dayRuleOf, dayList}
-use Rattle.days.proofs.SheetLaws.{rule-below}
+use Rattle.days.proofs.SheetLaws.{list-exactly}
 use Rattle.refusals.specs.Refusals.{numbered}
 use Rattle.refusals.specs.Questions as question
 use Rattle.history.specs.declared.Search.{Search}
@@ -42,40 +43,64 @@ among-place [] k p l e = absurd (not-suc-le-zero l)
 among-place (x ∷ xs) zero p l e = rw (eq-eqb x p e)
 among-place (x ∷ xs) (suc k) p l e = or-right (eqb x p) (among xs p) (among-place xs k p (le-of-suc-le-suc l) e)
 
--- a number that fails the test is not among what it keeps
-among-not : (t : ℕ → Bool) (p : ℕ) → t p ≡ false → (xs : List ℕ) → among (filter t xs) p ≡ false
-unfolding filter
-among-not t p e [] = refl
-among-not t p e (x ∷ xs) = go (t x) refl (among-not t p e xs)
+among-at : (xs : List ℕ) (p : ℕ) → among xs p ≡ true → At xs p
+among-at [] p e = absurd (false≢true e)
+among-at (x ∷ xs) p e = go (eqb x p) refl e (among-at xs p)
   where
-    go : (b : Bool) → t x ≡ b → among (filter t xs) p ≡ false → among (cond (t x) (x ∷ filter t xs) (filter t xs)) p ≡ false
-    go true h q = rw (h, ne-eqb x p (λ s. not-both h (ap t s ∙ e))) q
-    go false h q = rw h q
+    go : (b : Bool) → eqb x p ≡ b → (b || among xs p) ≡ true → (among xs p ≡ true → At xs p) → At (x ∷ xs) p
+    go true q e f = record { place = 0; inside = omega arith; there = eqb-true x p q }
+    go false q e f = at-later (f e)
+      where
+        at-later : At xs p → At (x ∷ xs) p
+        at-later a = record { place = suc (a .place); inside = suc-le-suc (a .inside); there = a .there }
 
--- whether p is among what a test keeps of the numbers below n is the test, where it passes no others
-pub among-filter : (t : ℕ → Bool) (n p : ℕ) → (t p ≡ true → p < n) → among (filter t (upFrom 0 n)) p ≡ t p
-among-filter t n p f = go (t p) refl
+-- whether p is in a list that has exactly what a rule passes is the rule
+pub among-exactly : (rule : ℕ → Bool) (xs : List ℕ) (p : ℕ) → Exactly rule xs → among xs p ≡ rule p
+among-exactly rule xs p x = go (rule p) refl (among xs p) refl
   where
-    go : (b : Bool) → t p ≡ b → among (filter t (upFrom 0 n)) p ≡ t p
-    go true e =
-        let a : At (filter t (upFrom 0 n)) p = filtered-in t 0 n p (omega arith) (omega (arith, f e)) e in
-        among-place (filter t (upFrom 0 n)) (a .place) p (a .inside) (a .there) ∙ sym e
-    go false e = among-not t p e (upFrom 0 n) ∙ sym e
+    go : (b : Bool) → rule p ≡ b → (c : Bool) → among xs p ≡ c → c ≡ b
+    go true e true q = refl
+    go true e false q = let a = x .every p e in sym q ∙ among-place xs (a .place) p (a .inside) (a .there)
+    go false e true q = sym (x .only p (among-at xs p q)) ∙ e
+    go false e false q = refl
+
+-- of the patterns with no pair
+unpaired-same : (x q : ℕ) → eqb (unpaired x) (unpaired q) ≡ eqb x q
+unpaired-same x q = go (eqb x q) refl
+  where
+    days : (y : ℕ) → daysOf (unpaired y) ≡ y
+    days y = days-of y 0 (omega arith)
+
+    go : (b : Bool) → eqb x q ≡ b → eqb (unpaired x) (unpaired q) ≡ b
+    go true e = eq-eqb (unpaired x) (unpaired q) (ap unpaired (eqb-true x q e))
+    go false e = ne-eqb (unpaired x) (unpaired q) (λ s. eqb-false x q e (sym (days x) ∙ ap daysOf s ∙ days q))
+
+among-unpaired : (xs : List ℕ) (q : ℕ) → among (map unpaired xs) (unpaired q) ≡ among xs q
+among-unpaired [] q = refl
+among-unpaired (x ∷ xs) q = ap₂ (λ (a b : Bool). a || b) (unpaired-same x q) (among-unpaired xs q)
+
+among-paired : (xs : List ℕ) (p : ℕ) → (pairOf p ≡ 0 → ⊥) → among (map unpaired xs) p ≡ false
+among-paired [] p n = refl
+among-paired (x ∷ xs) p n = rw (ne-eqb (unpaired x) p (λ s. n (sym (ap pairOf s) ∙ pair-of x 0 (omega arith)))) (among-paired xs p n)
+
+module _ (w : List ℕ) (i night p : ℕ) where
+  pub days-own : {q : ℕ} {r : Bool} → pairOf p ≡ 0 → q ≡ daysOf p → r ≡ dayRuleOf w i night q → r ≡ among (map unpaired (dayList w i night)) p
+  days-own {q} e d h =
+      let whole : unpaired q ≡ p = ap₂ (λ (x y : ℕ). pattern x y) d (sym e) ∙ back p in
+      h ∙ sym (among-exactly (dayRuleOf w i night) (dayList w i night) q (list-exactly w i night)) ∙ sym (among-unpaired (dayList w i night) q)
+      ∙ ap (among (map unpaired (dayList w i night))) whole
+
+  pub days-paired : (pairOf p ≡ 0 → ⊥) → false ≡ among (map unpaired (dayList w i night)) p
+  days-paired n = sym (among-paired (dayList w i night) p n)
 
 module _ (w nights : List ℕ) (i p : ℕ) where
-  pub hers-by-night : hersOf w i p ≡ among (phaseOf Nights w nights .patterns i) p
-  unfolding phaseOf nightPhase nightList
-  hers-by-night = sym (among-filter (hersOf w i) (2 ^ days w) p (hers-below w i p))
+  pub own-night : {which : Search} {r : Bool} → Accepted w → which ≡ Nights → r ≡ ownPattern w i p → r ≡ among (phaseOf which w nights .patterns i) p
+  unfolding phaseOf nightPhase
+  own-night a e h = rw e (h ∙ sym (among-exactly (ownPattern w i) (patternList w i) p (own-exactly w i (omega (arith, a .pairs-most)))))
 
-  pub hers-by-day : dayRuleOf w i (getD nights i 0) p ≡ among (phaseOf Days w nights .patterns i) p
-  unfolding phaseOf dayPhase dayList
-  hers-by-day = sym (among-filter (dayRuleOf w i (getD nights i 0)) (2 ^ days w) p (rule-below w i (getD nights i 0) p))
-
-  pub own-night : {which : Search} {r : Bool} → which ≡ Nights → r ≡ hersOf w i p → r ≡ among (phaseOf which w nights .patterns i) p
-  own-night e h = rw e (h ∙ hers-by-night)
-
-  pub own-day : {which : Search} {r : Bool} → which ≡ Days → r ≡ dayRuleOf w i (getD nights i 0) p → r ≡ among (phaseOf which w nights .patterns i) p
-  own-day e h = rw e (h ∙ hers-by-day)
+  pub own-day : {which : Search} {r : Bool} → which ≡ Days → r ≡ among (map unpaired (dayList w i (getD nights i 0))) p → r ≡ among (phaseOf which w nights .patterns i) p
+  unfolding phaseOf dayPhase
+  own-day e h = rw e h
 
 pub slot-placed : (P : Phase) (i p : ℕ) {placed r : Bool} → placed ≡ true → r ≡ among (P .patterns i) p → r ≡ hers P i (slot placed p)
 slot-placed P i p e h = rw e h

@@ -10,19 +10,19 @@ ghost use Rattle.numbers.specs.Range.{upFrom, all};
 ghost use Rattle.refusals.specs.Refusals.{refusalIn, unless};
 ghost use Rattle.refusals.specs.Questions as question;
 ghost use Rattle.fields.specs.Fields.{Accepted, nurses};
-ghost use Rattle.nights.specs.Hers.{hersOf};
+ghost use Rattle.nights.specs.Own.{ownPattern};
 ghost use Rattle.penalty.specs.Penalty.{nightPenalty};
 ghost use Rattle.phases.specs.Phases.{nightsOpen, nightOf};
 
-// Whether each night pattern is hers.
-fn nights_hers(w: &[u64], nights: &[u32; NURSES]) -> bool
+// Whether each night pattern is hers, with its pair.
+fn nights_hers(w: &[u64], nights: &[u64; NURSES]) -> bool
     requires { ⌜ Accepted (now w) ⌝ }
-    ensures { λ r. ⌜ r ≡ all (λ i. hersOf (now (w .entry)) i (nightOf (now (nights .entry)) i)) (upFrom 0 (nurses (now (w .entry)))) ⌝ }
+    ensures { λ r. ⌜ r ≡ all (λ i. ownPattern (now (w .entry)) i (nightOf (now (nights .entry)) i)) (upFrom 0 (nurses (now (w .entry)))) ⌝ }
 {
     let m = fields::nurses(w);
     let mut i: usize = 0;
     while i < m {
-        if nights::is_hers(w, i, nights[i]) {
+        if nights::is_own(w, i, nights[i]) {
             i += 1;
         } else {
             return false;
@@ -32,7 +32,7 @@ fn nights_hers(w: &[u64], nights: &[u32; NURSES]) -> bool
 }
 
 // The night penalty, everyone placed.
-fn night_penalty(w: &[u64], nights: &[u32; NURSES]) -> u64
+fn night_penalty(w: &[u64], nights: &[u64; NURSES]) -> u64
     requires { ⌜ Accepted (now w) ⌝ }
     ensures { λ r. ⌜ r ≡ nightPenalty (now (w .entry)) (λ i. some (nightOf (now (nights .entry)) i)) ⌝ }
 {
@@ -44,7 +44,7 @@ fn night_penalty(w: &[u64], nights: &[u32; NURSES]) -> u64
     search::slots::penalty_of(w, rec, Search::Nights)
 }
 
-fn nights_open(w: &[u64], nights: &[u32; NURSES]) -> bool
+fn nights_open(w: &[u64], nights: &[u64; NURSES]) -> bool
     requires { ⌜ Accepted (now w) ⌝ }
     ensures { λ r. ⌜ r ≡ nightsOpen (now (w .entry)) (nightOf (now (nights .entry))) ⌝ }
 {
@@ -54,7 +54,7 @@ fn nights_open(w: &[u64], nights: &[u32; NURSES]) -> bool
     false
 }
 
-pub fn nights_asked(w: &[u64], nights: &[u32; NURSES]) -> Answer
+pub fn nights_asked(w: &[u64], nights: &[u64; NURSES]) -> Answer
     requires { ⌜ Accepted (now w) ⌝ }
     ensures { λ r. ⌜ refusalIn r ≡ unless (nightsOpen (now (w .entry)) (nightOf (now (nights .entry)))) question.nights 0 ⌝ }
 {

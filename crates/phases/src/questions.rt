@@ -2,15 +2,19 @@
 // by day the questions are asked over those patterns.
 use fields::sizes::NURSES;
 use history::Search;
+use numbers::pattern;
 use refusals::Answer;
 use refusals::question;
 ghost use mathlib.Core.Path.{_≡_};
 ghost use mathlib.Core.Bool.{_&&_};
+ghost use mathlib.Core.List.{map};
 ghost use Prim.Native.Nat.{_+_, _<_, _≤_};
 ghost use lib.Dec.{leb};
 ghost use Rattle.numbers.specs.Range.{upFrom, all};
+ghost use Rattle.numbers.specs.Patterns.{unpaired};
 ghost use Rattle.fields.specs.Fields.{Accepted, nurses};
-ghost use Rattle.nights.specs.Hers.{nightList};
+ghost use Rattle.nights.specs.Own.{patternList};
+ghost use Rattle.days.specs.Days.{dayList};
 ghost use Rattle.history.specs.Record.{among, hers, names, lacking};
 ghost use Rattle.removals.specs.Removals.{slot};
 ghost use Rattle.search.specs.Stored.{slotAt, held, namesAt, soundStored};
@@ -28,25 +32,36 @@ fn steps_allowed(steps: u32, k: u32) -> bool
     steps as u64 + k as u64 <= 1000000
 }
 
+// Whether p is one of nurse i's own by day, over her pattern by night: it has no pair.
+fn is_days_own(w: &[u64], i: usize, night: u64, p: u64) -> bool
+    requires { ⌜ Accepted (now w) × (i < nurses (now w)) ⌝ }
+    ensures { λ r. ⌜ r ≡ among (map unpaired (dayList (now (w .entry)) i night)) p ⌝ }
+{
+    if pattern::pair_of(p) == 0 {
+        return days::is_day_pattern(w, i, night, pattern::days_of(p));
+    }
+    false
+}
+
 // Whether p is one of nurse i's own.
-pub(crate) fn is_hers(w: &[u64], nights: &[u32; NURSES], search: Search, i: usize, p: u32) -> bool
+pub(crate) fn is_hers(w: &[u64], nights: &[u64; NURSES], search: Search, i: usize, p: u64) -> bool
     requires { ⌜ Accepted (now w) × (i < nurses (now w)) ⌝ }
     ensures { λ r. ⌜ r ≡ among (phaseOf search (now (w .entry)) (now (nights .entry)) .patterns i) p ⌝ }
 {
     match search {
-        Search::Nights => nights::is_hers(w, i, p),
-        Search::Days => days::is_day_pattern(w, i, nights[i], p),
+        Search::Nights => nights::is_own(w, i, p),
+        Search::Days => is_days_own(w, i, nights[i], p),
     }
 }
 
 // Whether a slot holds one of nurse i's own, or none.
 pub(crate) fn slot_hers(
     w: &[u64],
-    nights: &[u32; NURSES],
+    nights: &[u64; NURSES],
     search: Search,
     i: usize,
     placed: bool,
-    p: u32,
+    p: u64,
 ) -> bool
     requires { ⌜ Accepted (now w) × (i < nurses (now w)) ⌝ }
     ensures { λ r. ⌜ r ≡ hers (phaseOf search (now (w .entry)) (now (nights .entry))) i (slot placed p) ⌝ }
@@ -60,7 +75,7 @@ pub(crate) fn slot_hers(
 // Whether each placed nurse holds one of her own.
 pub(crate) fn slots_hers(
     w: &[u64],
-    nights: &[u32; NURSES],
+    nights: &[u64; NURSES],
     search: Search,
     rec: search::Record,
 ) -> bool
@@ -82,7 +97,7 @@ pub(crate) fn slots_hers(
 // Whether a removal names a nurse, with one of hers or with none.
 pub(crate) fn removal_names(
     w: &[u64],
-    nights: &[u32; NURSES],
+    nights: &[u64; NURSES],
     search: Search,
     x: removals::Removal,
 ) -> bool
@@ -103,7 +118,7 @@ pub(crate) fn removal_names(
 // Whether each removal held names a nurse, with one of hers or with none.
 pub(crate) fn removals_name(
     w: &[u64],
-    nights: &[u32; NURSES],
+    nights: &[u64; NURSES],
     search: Search,
     rec: search::Record,
 ) -> bool
@@ -127,7 +142,7 @@ pub(crate) fn removals_name(
 // Each placed nurse holds one of her own, each removal held names a nurse, and unused fields are 0.
 pub(crate) fn record_sound(
     w: &[u64],
-    nights: &[u32; NURSES],
+    nights: &[u64; NURSES],
     search: Search,
     rec: search::Record,
 ) -> bool
@@ -155,7 +170,7 @@ pub fn steps_asked(steps: u32, k: u32) -> Answer
 // Question 10 by night.
 pub fn nights_lacking(w: &[u64]) -> Answer
     requires { ⌜ Accepted (now w) ⌝ }
-    ensures { λ r. ⌜ refusalIn r ≡ lacking (nightList (now (w .entry))) (upFrom 0 (nurses (now (w .entry)))) ⌝ }
+    ensures { λ r. ⌜ refusalIn r ≡ lacking (patternList (now (w .entry))) (upFrom 0 (nurses (now (w .entry)))) ⌝ }
 {
     let m = fields::nurses(w);
     let mut i: usize = 0;
@@ -172,7 +187,7 @@ pub fn nights_lacking(w: &[u64]) -> Answer
 // Question 11.
 pub fn record_asked(
     w: &[u64],
-    nights: &[u32; NURSES],
+    nights: &[u64; NURSES],
     search: Search,
     rec: search::Record,
 ) -> Answer

@@ -8,7 +8,7 @@ use mathlib.Core.List.{List}
 use native.Mathlib.Omega.{arith}
 use lib.ListN.{length, take}
 use lib.Seq.{take-at}
-use Rattle.fields.specs.Fields.{nurses, days}
+use Rattle.fields.specs.Fields.{bodyOf, nurses, days}
 use Rattle.layout.specs.Grammar.{Read, good, bad}
 use Rattle.ward.specs.Answers.{refusedOf, readingOf, readWard}
 use Rattle.refusals.specs.declared.Refusal.{Refusal}
@@ -79,6 +79,6 @@ module _ (file roster : List ℕ) (r : Reading) (e : r ≡ readingOf (readWard f
   unfolding checkOver
   check-refused told = sym (ap (λ (x : Read). checkOver x roster) (reading-bad file r e told))
 
-  pub check-says : {s : Checked} → r .answer ≡ Yes → s ≡ checkLetters (take (r .ward .count) (r .ward .numbers)) roster → s ≡ checkSays file roster
+  pub check-says : {s : Checked} {w : List ℕ} → r .answer ≡ Yes → w ≡ bodyOf (take (r .ward .count) (r .ward .numbers)) → s ≡ checkLetters w roster → s ≡ checkSays file roster
   unfolding checkOver
-  check-says told h = h ∙ sym (ap (λ (x : Read). checkOver x roster) (reading-good file r e told))
+  check-says told q h = h ∙ ap (λ (v : List ℕ). checkLetters v roster) q ∙ sym (ap (λ (x : Read). checkOver x roster) (reading-good file r e told))

@@ -10,7 +10,7 @@ use lib.Dec.{leb, ltb, eqb}
 use lib.ListN.{length}
 use Rattle.numbers.specs.Range.{upFrom, all}
 use Rattle.numbers.proofs.AllLaws.{all-stop, all-fails}
-use Rattle.fields.specs.Fields.{Accepted, nurses, days}
+use Rattle.fields.specs.Fields.{Accepted, bodyOf, nurses, days}
 use Rattle.layout.specs.Grammar.{Read, good, bad, bytesOf}
 use Rattle.layout.specs.Layout.{ward}
 use Rattle.layout.specs.Faults.{FileFault, ListFault}
@@ -20,9 +20,9 @@ use Rattle.ward.specs.declared.Ward.{Ward}
 use Rattle.codec.proofs.NumberLaws.{all-bytes}
 use Rattle.ward.proofs.FaultLaws.{file-fault, fault-file, file-good, good-file, list-fault, fault-list, list-good, good-list, good-accepted}
 use Rattle.nights.specs.Nights.{commonOf}
-use Rattle.nights.specs.Hers.{hersOf}
-use Rattle.nights.specs.NightRule.{NightHers}
-use Rattle.nights.proofs.RuleLaws.{hers-when}
+use Rattle.nights.specs.Own.{ownPattern}
+use Rattle.nights.specs.NightRule.{PatternHers}
+use Rattle.nights.proofs.PairRuleLaws.{pattern-rule}
 use Rattle.penalty.specs.Penalty.{nightPenalty}
 use Rattle.letters.specs.Letters.{misplaced}
 use Rattle.rostercheck.specs.CodeCheck.{holds}
@@ -70,13 +70,13 @@ common-when w places = (λ e. leb-false _ _ e, λ l. lt-leb _ _ l)
 
 module _ (w : List ℕ) (a : Accepted w) (nights : ℕ → ℕ) where
   abbrev Shut : Type 0
-  Shut = ((i : ℕ) × (i < nurses w) × (NightHers w i (nights i) → ⊥)) ⊎ (nightPenalty w (λ i. some (nights i)) ≢ 0)
+  Shut = ((i : ℕ) × (i < nurses w) × (PatternHers w i (nights i) → ⊥)) ⊎ (nightPenalty w (λ i. some (nights i)) ≢ 0)
 
   abbrev own : ℕ → Bool
-  own i = hersOf w i (nights i)
+  own i = ownPattern w i (nights i)
 
-  not-hers : (i : ℕ) → (own i ≡ false) ↔ (NightHers w i (nights i) → ⊥)
-  not-hers i = false-when (own i) (hers-when w (nights i) (a .run-some) i)
+  not-hers : (i : ℕ) → (own i ≡ false) ↔ (PatternHers w i (nights i) → ⊥)
+  not-hers i = false-when (own i) (pattern-rule w i (nights i) (a .run-some))
 
   open-when : (nightsOpen w nights ≡ false) ↔ Shut
   unfolding nightsOpen
@@ -189,13 +189,13 @@ module _ (file : List ℕ) (bytes : Bytes file) (questions : List ℕ → Questi
         go (bad m) s x = unread n m s x
         go (good w) s x =
             let g = file-good file w (all-bytes file bytes) s in
-            in-call w g (asks w (good-accepted file w g) n .0 (stored-no w n x))
+            in-call w g (asks (bodyOf w) (good-accepted file w g) n .0 (stored-no (bodyOf w) n x))
 
     advance-always : (q p : ℕ) → FileNo file questions q p → advanceOver phase (readWard file) c r ≡ (refused (numbered q p), r)
     unfolding advanceOver
     advance-always q p (in-file f) = rw (fault-file file q p f)
     advance-always q p (in-call w g f) =
-        rw (good-file file w g) (stored-refused (phase w) c r (numbered q p) (asks w (good-accepted file w g) (numbered q p) .1 f))
+        rw (good-file file w g) (stored-refused (phase (bodyOf w)) c r (numbered q p) (asks (bodyOf w) (good-accepted file w g) (numbered q p) .1 f))
 
     answer-refuses : AnswerRefuses (FileNo file questions) (advanceOver phase (readWard file) c r) r
     answer-refuses = record { only = λ q p. advance-only (numbered q p); always = advance-always }
@@ -263,12 +263,13 @@ check-refuses file bytes roster = record { only = only; always = λ q p f. (alwa
         go : (x : Read) → readWard file ≡ x → noInCheck (checkOver x roster) ≡ some (numbered q p) → FileNo file (checkQuestions roster) q p
         go (bad m) s x = unread file bytes (checkQuestions roster) (numbered q p) m s x
         go (good w) s x =
-            in-call w (file-good file w (all-bytes file bytes) s) (letters-no w (numbered q p) (misplaced (nurses w * days w) roster) refl x)
+            let b = bodyOf w in
+            in-call w (file-good file w (all-bytes file bytes) s) (letters-no b (numbered q p) (misplaced (nurses b * days b) roster) refl x)
 
     always : (q p : ℕ) → FileNo file (checkQuestions roster) q p → checkSays file roster ≡ checks.Refused (numbered q p)
     always q p (in-file f) = ap (λ (x : Read). checkOver x roster) (fault-file file q p f)
     always q p (in-call w g (inl f)) =
-        ap (λ (x : Read). checkOver x roster) (good-file file w g) ∙ rw (fault-misplaced (nurses w * days w) roster p (f .1), checkLetters)
+        ap (λ (x : Read). checkOver x roster) (good-file file w g) ∙ rw (fault-misplaced (nurses (bodyOf w) * days (bodyOf w)) roster p (f .1), checkLetters)
         (ap (λ (k : ℕ). checks.Refused (numbered k p)) (sym (f .0)))
     always q p (in-call w g (inr f)) = absurd (f .1)
 
@@ -324,6 +325,6 @@ demand1 = record {
   nights = nights-refuse;
   days = days-refuse;
   check = check-refuses;
-  longest = λ file w g. subst (λ (l : List ℕ). length l ≤ 4190) (sym (g .bytes)) (longest-file w (g .takes));
+  longest = λ file w g. subst (λ (l : List ℕ). length l ≤ 4203) (sym (g .bytes)) (longest-file w (g .takes));
   longest-there = let l = longest-there in (bytesOf (l .0), l .0, record { bytes = refl; takes = l .1 }, l .2);
 }

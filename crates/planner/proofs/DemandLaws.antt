@@ -3,18 +3,21 @@ use Prim.Native.Nat.{ℕ, _+_, _*_, _<_}
 use mathlib.Core.Path.{_≡_, refl, sym, ap, _∙_, subst}
 use mathlib.Core.Bool.{Bool, true, false, cond, _&&_, true≢false}
 use mathlib.Core.Logic.{_≢_, ⊎-elim}
-use mathlib.Core.List.{List, [], _∷_, List·Memᴰ, List·Memᴰ·not-nil, List·Memᴰ·cases-cons}
+use mathlib.Core.List.{List, [], _∷_, map, List·Memᴰ, List·Memᴰ·head, List·Memᴰ·tail, List·Memᴰ·not-nil, List·Memᴰ·cases-cons}
 use mathlib.Core.Option.{none, some}
 use lib.Dec.{leb, eqb}
 use borrow.Author.Tests.{eqb-true}
 use Rattle.numbers.specs.Range.{filter, upFrom, all}
+use native.Mathlib.Omega.{arith}
 use Rattle.numbers.specs.Digits.{has}
+use Rattle.numbers.specs.Patterns.{unpaired, daysOf}
+use Rattle.numbers.proofs.PatternLaws.{days-of}
 use Rattle.numbers.proofs.AllLaws.{all-each}
-use Rattle.fields.specs.Fields.{Accepted, nurses, days}
+use Rattle.fields.specs.Fields.{Accepted, bodyOf, nurses, days}
 use Rattle.layout.specs.Grammar.{Read, good, bad}
 use Rattle.ward.specs.Answers.{readWard}
 use Rattle.ward.proofs.ReadingLaws.{read-accepted}
-use Rattle.nights.specs.Hers.{hersOf}
+use Rattle.nights.specs.Own.{ownPattern}
 use Rattle.days.specs.Days.{dayRuleOf, dayList}
 use Rattle.history.specs.Slot.{Slot, isNone}
 use Rattle.penalty.specs.Penalty.{workedIn, atDay, nightPenalty, dayPenalty}
@@ -38,7 +41,7 @@ use Rattle.refusals.proofs.OrderLaws.{first-none, unless-none}
 use Rattle.letters.specs.Letters.{misplaced}
 use Rattle.rostercheck.specs.CodeCheck.{holds}
 use Rattle.rostercheck.proofs.GivenLaws.{duty-alike, members-alike, Patterns, placedAll, given-at-zero}
-use Rattle.phases.specs.Phases.{nightPhase, nightsOpen, listsFit, dayListOver, dayPhase, nightOf}
+use Rattle.phases.specs.Phases.{nightPhase, nightsOpen, listsFit, dayListOver, dayPatternsOver, dayPhase, nightOf}
 use Rattle.planner.specs.Advances.{advanceOver, advanceNights, advanceDays}
 use Rattle.outcomes.specs.declared.Checked.the-variants.{Passed}
 use Rattle.planner.specs.Answers.{checkLetters, checkOver, checkSays}
@@ -62,6 +65,12 @@ placed-as : (s : Slot) → isNone s ≡ false → s ≡ some (patternOf s)
 placed-as none e = absurd (true≢false e)
 placed-as (some p) e = refl
 
+-- a pattern with no pair is in a list with no pairs where its days are
+member-days : (xs : List ℕ) (p : ℕ) → List·Memᴰ p (map unpaired xs) → List·Memᴰ (daysOf p) xs
+member-days [] p m = absurd (List·Memᴰ·not-nil m)
+member-days (x ∷ xs) p (List·Memᴰ·head e) = List·Memᴰ·head (ap daysOf e ∙ days-of x 0 (omega arith))
+member-days (x ∷ xs) p (List·Memᴰ·tail m) = List·Memᴰ·tail (member-days xs p m)
+
 module _ (w : List ℕ) (nights : ℕ → ℕ) where
   pub nights-open : (c : Call) (steps : ℕ) → refusal (dayPhase w nights) c steps ≡ none → nightsOpen w nights ≡ true
   unfolding refusal dayPhase
@@ -74,8 +83,8 @@ module _ (w : List ℕ) (nights : ℕ → ℕ) where
   settled : nightsOpen w nights ≡ true → Settled w nights
   unfolding nightsOpen
   settled o =
-      let parts = and-true (all (λ i. hersOf w i (nights i)) (upFrom 0 (nurses w))) (eqb (nightPenalty w (λ i. some (nights i))) 0) o in
-      record { hers = λ i l. all-each (λ j. hersOf w j (nights j)) (nurses w) i (parts .0) l; at-zero = eqb-true _ 0 (parts .1) }
+      let parts = and-true (all (λ i. ownPattern w i (nights i)) (upFrom 0 (nurses w))) (eqb (nightPenalty w (λ i. some (nights i))) 0) o in
+      record { hers = λ i l. all-each (λ j. ownPattern w j (nights j)) (nurses w) i (parts .0) l; at-zero = eqb-true _ 0 (parts .1) }
 
   pub each-settled : {cs : List Call} {l : List Answer} {h h″ : History} → Turns (dayPhase w nights) cs l h h″ → Each (UnlessRefused (Settled w nights)) l
   each-settled done = tt
@@ -95,7 +104,7 @@ module _ (w : List ℕ) (nights : ℕ → ℕ) where
       placed i l = placed-as (slots i) (held .placed i l)
 
       alike : (d i : ℕ) → i < nurses w → atDay w (placedAll patterns) d i ≡ atDay w slots d i
-      alike d i l = ap (λ (s : Slot). has (workedIn w i s) d) (sym (placed i l))
+      alike d i l = ap (λ (s : Slot). has (daysOf (workedIn w i s)) d) (sym (placed i l))
 
       held-alike : DayHeld w (placedAll patterns)
       held-alike = record {
@@ -116,21 +125,22 @@ module _ (w : List ℕ) (nights : ℕ → ℕ) where
 
     -- slots at penalty zero that hold patterns of hers, over nights that question 8 lets through
     pub yes-at-zero : (slots : ℕ → Slot) → nightsOpen w nights ≡ true → dayPenalty w slots ≡ 0
-        → ((i p : ℕ) → slots i ≡ some p → List·Memᴰ p (dayListOver w nights i)) → YesTo (dayPhase w nights .letters slots)
+        → ((i p : ℕ) → slots i ≡ some p → List·Memᴰ p (dayPatternsOver w nights i)) → YesTo (dayPhase w nights .letters slots)
     unfolding dayPhase nightsOpen dayList
     yes-at-zero slots o z own =
-        let parts = and-true (all (λ i. hersOf w i (nights i)) (upFrom 0 (nurses w))) (eqb (nightPenalty w (λ i. some (nights i))) 0) o in
+        let parts = and-true (all (λ i. ownPattern w i (nights i)) (upFrom 0 (nurses w))) (eqb (nightPenalty w (λ i. some (nights i))) 0) o in
         let all-hers : Patterns w nights (patterns slots z) = record {
-          nights-hers = λ i l. all-each (λ j. hersOf w j (nights j)) (nurses w) i (parts .0) l;
-          days-hers = λ i l. member-filtered (dayRuleOf w i (nights i)) _ (patterns slots z i) (own i (patterns slots z i) (placed slots z i l));
+          nights-hers = λ i l. all-each (λ j. ownPattern w j (nights j)) (nurses w) i (parts .0) l;
+          days-hers = λ i l.
+              member-filtered (dayRuleOf w i (nights i)) _ (daysOf (patterns slots z i)) (member-days (dayListOver w nights i) (patterns slots z i) (own i (patterns slots z i) (placed slots z i l)));
         } in
         let g = given-at-zero w nights (patterns slots z) a all-hers (eqb-true _ 0 (parts .1)) (penalty-alike slots z) in
         (g .placed, g .yes-said)
 
-    module _ (file : List ℕ) (reads : readWard file ≡ good w) where
+    module _ (file : List ℕ) (reads : (l : List ℕ) → checkSays file l ≡ checkLetters w l) where
       check-yes : (l : List ℕ) → YesTo l → checkSays file l ≡ Passed
       unfolding checkOver checkLetters
-      check-yes l y = ap (λ (x : Read). checkOver x l) reads ∙ rw (y .0, checkLetters, y .1)
+      check-yes l y = reads l ∙ rw (y .0, checkLetters, y .1)
 
       -- one advance that is not refused
       right-made : (e : End) {k n c : ℕ} {h h′ : History} {l : List ℕ} → nightsOpen w nights ≡ true → Made (dayPhase w nights) k h h′ e n c l
@@ -150,34 +160,42 @@ module _ (w : List ℕ) (nights : ℕ → ℕ) where
 
 -- ---- demand 3
 
--- an advance over a file that reads as w is the search's over w
-pub advance-read : (phase : List ℕ → Phase) (file w : List ℕ) → readWard file ≡ good w → (λ c r. advanceOver phase (readWard file) c r) ≡ advanceStored (phase w)
+-- an advance over a file that reads as ws is the search's over the ward's body
+pub advance-read : (phase : List ℕ → Phase) (file ws : List ℕ) → readWard file ≡ good ws → (λ c r. advanceOver phase (readWard file) c r) ≡ advanceStored (phase (bodyOf ws))
 unfolding advanceOver
-advance-read phase file w e = ap (advanceOver phase) e
+advance-read phase file ws e = ap (advanceOver phase) e
 
-module _ (file w : List ℕ) (reads : readWard file ≡ good w) (a : Accepted w) where
+-- and so is the check
+check-read : (file ws l : List ℕ) → readWard file ≡ good ws → checkSays file l ≡ checkLetters (bodyOf ws) l
+unfolding checkOver
+check-read file ws l e = ap (λ (x : Read). checkOver x l) e
+
+module _ (file ws : List ℕ) (reads : readWard file ≡ good ws) (a : Accepted (bodyOf ws)) where
+  abbrev w : List ℕ
+  w = bodyOf ws
+
   pub night-demand : NightPatterns w → (cs : List Call) → Demand3 (nightPhase w) allZero (advanceNights file) store cs
   night-demand has cs =
-      subst (λ (adv : Call → Stored → Answer × Stored). Demand3 (nightPhase w) allZero adv store cs) (sym (advance-read nightPhase file w reads))
+      subst (λ (adv : Call → Stored → Answer × Stored). Demand3 (nightPhase w) allZero adv store cs) (sym (advance-read nightPhase file ws reads))
       (demand3-stored (nightPhase w) (night-lawful w a has) (night-fits w a) cs)
 
   pub day-demand : (nights : List ℕ) → DayPatterns w (nightOf nights) → (cs : List Call) → DayDemand file w nights allZero (advanceDays file nights) store cs
   day-demand nights has cs =
       let P = dayPhase w (nightOf nights) in
       let d : Demand3 P allZero (advanceDays file nights) store cs
-      = subst (λ (adv : Call → Stored → Answer × Stored). Demand3 P allZero adv store cs) (sym (advance-read (λ v. dayPhase v (nightOf nights)) file w reads))
+      = subst (λ (adv : Call → Stored → Answer × Stored). Demand3 P allZero adv store cs) (sym (advance-read (λ v. dayPhase v (nightOf nights)) file ws reads))
       (demand3-stored P (day-lawful w (nightOf nights) a has) (day-fits w (nightOf nights) a) cs) in
       record {
         claim = d;
-        rosters = rw (d .follows) (each-right w (nightOf nights) a file reads (d .each) (d .steps));
+        rosters = rw (d .follows) (each-right w (nightOf nights) a file (λ l. check-read file ws l reads) (d .each) (d .steps));
         settled = rw (d .follows) (each-settled w (nightOf nights) (d .each));
       }
 
 -- one advance where a nurse has no pattern
-pub advance-without : (phase : List ℕ → Phase) (file w : List ℕ) → readWard file ≡ good w → (i : ℕ) → Without (phase w) i → (c : Call)
-    → advanceOver phase (readWard file) c allZero ≡ (refused (orTen i (refusal (phase w) c 0)), allZero)
-advance-without phase file w reads i h c =
-    ap (λ (adv : Call → Stored → Answer × Stored). adv c allZero) (advance-read phase file w reads) ∙ stored-without (phase w) c allZero i h
+pub advance-without : (phase : List ℕ → Phase) (file ws : List ℕ) → readWard file ≡ good ws → (i : ℕ) → Without (phase (bodyOf ws)) i → (c : Call)
+    → advanceOver phase (readWard file) c allZero ≡ (refused (orTen i (refusal (phase (bodyOf ws)) c 0)), allZero)
+advance-without phase file ws reads i h c =
+    ap (λ (adv : Call → Stored → Answer × Stored). adv c allZero) (advance-read phase file ws reads) ∙ stored-without (phase (bodyOf ws)) c allZero i h
 
 -- a file that is not read
 pub advance-unread : (phase : List ℕ → Phase) (file : List ℕ) (n : Refusal) (c : Call) (r : Stored) → readWard file ≡ bad n
@@ -187,14 +205,14 @@ advance-unread phase file n c r e = rw e
 
 pub demand : Demanded
 demand = record {
-  accepted = λ file w bytes e.
-      let a = read-accepted file w bytes e in
+  accepted = λ file ws bytes e.
+      let a = read-accepted file ws bytes e in
       record {
-        nights = night-demand file w e a;
-        no-nights = refusing (nightPhase w) allZero (advanceNights file) (advance-without nightPhase file w e);
-        days = day-demand file w e a;
+        nights = night-demand file ws e a;
+        no-nights = refusing (nightPhase (bodyOf ws)) allZero (advanceNights file) (advance-without nightPhase file ws e);
+        days = day-demand file ws e a;
         no-days = λ nights.
-            refusing (dayPhase w (nightOf nights)) allZero (advanceDays file nights) (advance-without (λ v. dayPhase v (nightOf nights)) file w e);
+            refusing (dayPhase (bodyOf ws) (nightOf nights)) allZero (advanceDays file nights) (advance-without (λ v. dayPhase v (nightOf nights)) file ws e);
       };
   unread = λ file n e. record {
     nights = λ cs. all-refused allZero (advanceNights file) (λ c. n) (λ c. advance-unread nightPhase file n c allZero e) cs;

@@ -1,9 +1,10 @@
 -- The advances' answers from the file's bytes, by night and by day.
 use Prim.Native.Nat.{ℕ}
-use mathlib.Core.Path.{_≡_, refl}
+use mathlib.Core.Path.{_≡_, refl, ap, _∙_, subst}
 use mathlib.Core.List.{List}
 use lib.ListN.{length}
 use Rattle.refusals.specs.declared.Refusal.{Refusal}
+use Rattle.fields.specs.Fields.{bodyOf}
 use Rattle.layout.specs.Grammar.{Read, good, bad}
 use Rattle.ward.specs.Answers.{readWard}
 use Rattle.history.specs.Phase.{Phase, Answer, refused}
@@ -26,8 +27,11 @@ module _ (phase : List ℕ → Phase) (lists : Read → List ℕ) (file : List �
   unfolding advanceOver leftBy
   file-refused e f = rw e (f, refl)
 
-  pub file-advanced : {w after : List ℕ} {x : Advance} → readWard file ≡ good w
-      → (x ≡ advanceOf (advancedOn w)) × (after ≡ leftBy (advancedOn w .0) (lists (good w)) buffer)
+  -- `on` is what stands there over a ward's body, w
+  pub file-advanced : (on : List ℕ → List ℕ) → ((ws : List ℕ) → on (bodyOf ws) ≡ lists (good ws)) → {ws w after : List ℕ} {x : Advance} → readWard file ≡ good ws
+      → w ≡ bodyOf ws → (x ≡ advanceOf (advancedOn w)) × (after ≡ leftBy (advancedOn w .0) (on w) buffer)
       → (x ≡ advanceOf advanced) × (after ≡ leftBy (advanced .0) (lists (readWard file)) buffer)
   unfolding advanceOver
-  file-advanced e f = rw e f
+  file-advanced on same {ws} {w} {after} {x} e q f =
+      let g = subst (λ (v : List ℕ). (x ≡ advanceOf (advancedOn v)) × (after ≡ leftBy (advancedOn v .0) (on v) buffer)) q f in
+      rw e (g .0, g .1 ∙ ap (λ (l : List ℕ). leftBy (advancedOn (bodyOf ws) .0) l buffer) (same ws))

@@ -5,7 +5,7 @@ use Prim.Native.Nat.{ℕ, _*_}
 use mathlib.Core.Bool.{cond}
 use mathlib.Core.List.{List}
 use mathlib.Core.Option.{none, some}
-use Rattle.fields.specs.Fields.{nurses, days}
+use Rattle.fields.specs.Fields.{bodyOf, nurses, days}
 use Rattle.layout.specs.Grammar.{Read, good, bad}
 use Rattle.ward.specs.Answers.{readWard}
 use Rattle.letters.specs.Letters.{misplaced}
@@ -24,7 +24,7 @@ checkLetters w roster =
 -- over what the reader says of the file: questions 1 to 5 come first
 unfoldable pub checkOver : Read → List ℕ → Checked
 checkOver (bad n) roster = Refused n
-checkOver (good w) roster = checkLetters w roster
+checkOver (good ws) roster = checkLetters (bodyOf ws) roster
 
 abbrev pub checkSays : List ℕ → List ℕ → Checked
 checkSays file roster = checkOver (readWard file) roster

@@ -91,6 +91,6 @@ pub record Demand1 : Type 0 where
   pub nights : (file : List ℕ) → Bytes file → (r : Stored) → Sized r → (k : ℕ) (buffer : List ℕ) → NightsRefuse file r k buffer
   pub days : (file : List ℕ) → Bytes file → (nights : List ℕ) (r : Stored) → Sized r → (k : ℕ) (buffer : List ℕ) → DaysRefuse file nights r k buffer
   pub check : (file : List ℕ) → Bytes file → (roster : List ℕ) → CheckRefuses file roster
-  -- the longest file has 4,190 bytes
-  pub longest : (file w : List ℕ) → FileGood ward file w → length file ≤ 4190
-  pub longest-there : (file w : List ℕ) × FileGood ward file w × (length file ≡ 4190)
+  -- the longest file has 4,203 bytes: 4,190 of edition one's numbers, 2 that lead to edition two, and 11 of its count and ten pairs
+  pub longest : (file ws : List ℕ) → FileGood ward file ws → length file ≤ 4203
+  pub longest-there : (file ws : List ℕ) × FileGood ward file ws × (length file ≡ 4203)

@@ -7,10 +7,10 @@ use mathlib.Core.Logic.{_≢_}
 use mathlib.Core.List.{List, [], _∷_}
 use mathlib.Core.Option.{some}
 use lib.ListN.{getD}
-use Rattle.fields.specs.Fields.{nurses}
+use Rattle.fields.specs.Fields.{bodyOf, nurses}
 use Rattle.layout.specs.Grammar.{good, bad}
 use Rattle.ward.specs.Answers.{readWard}
-use Rattle.nights.specs.Hers.{hersOf, nightList}
+use Rattle.nights.specs.Own.{ownPattern, patternList}
 use Rattle.penalty.specs.Penalty.{nightPenalty}
 use Rattle.history.specs.Phase.{Call, Answer, refused, ended, End·zero, End·asked, End·none, inTurn}
 use Rattle.refusals.specs.declared.Refusal.{Refusal}
@@ -24,7 +24,7 @@ use Rattle.outcomes.specs.declared.Checked.the-variants.{Passed}
 
 -- by night, every nurse has a pattern
 abbrev pub NightPatterns : List ℕ → Type 0
-NightPatterns w = (i : ℕ) → i < nurses w → nightList w i ≢ []
+NightPatterns w = (i : ℕ) → i < nurses w → patternList w i ≢ []
 
 -- by day, every nurse has a day pattern over those nights
 abbrev pub DayPatterns : List ℕ → (ℕ → ℕ) → Type 0
@@ -37,9 +37,9 @@ Rightly file (ended End·zero steps penalty roster) = checkSays file roster ≡ 
 Rightly file (ended End·asked steps penalty roster) = roster ≡ []
 Rightly file (ended End·none steps penalty roster) = roster ≡ []
 
--- nights are settled before days: each night pattern is hers, at night penalty 0
+-- nights are settled before days: each night pattern with its pair is hers, at night penalty 0
 pub record Settled (w : List ℕ) (nights : ℕ → ℕ) : Type 0 where
-  pub hers : (i : ℕ) → i < nurses w → hersOf w i (nights i) ≡ true
+  pub hers : (i : ℕ) → i < nurses w → ownPattern w i (nights i) ≡ true
   pub at-zero : nightPenalty w (λ i. some (nights i)) ≡ 0
 
 abbrev pub UnlessRefused : Type 0 → Answer → Type 0
@@ -54,13 +54,13 @@ Each Q (a ∷ l) = Q a × Each Q l
 -- Below, a search keeps its records as values of type R: `start` is its fresh record, `by-night` and `by-day` are its advances over the file, by day over
 -- a choice of nights, and `image` says how it holds the record of a history: the planner's own calls as `search::Record`, C as words.
 
--- a list of day advances over the file of the ward w and one choice of nights
+-- a list of day advances over the file of the ward whose body is w and one choice of nights
 pub record DayDemand (file w nights : List ℕ) {R : Type 0} (start : R) (advance : Call → R → Answer × R) (image : Record → R) (cs : List Call) : Type 0 where
   pub claim : Demand3 (dayPhase w (nightOf nights)) start advance image cs
   pub rosters : Each (Rightly file) (inTurn advance cs start .0)
   pub settled : Each (UnlessRefused (Settled w (nightOf nights))) (inTurn advance cs start .0)
 
--- both searches over the file of the ward w: where every nurse has a pattern, and where some nurse has none
+-- both searches over the file of the ward whose body is w: where every nurse has a pattern, and where some nurse has none
 pub record Demand (file w : List ℕ) {R : Type 0} (start : R) (by-night : Call → R → Answer × R) (by-day : List ℕ → Call → R → Answer × R)
     (image : Record → R) : Type 0 where
   pub nights : NightPatterns w → (cs : List Call) → Demand3 (nightPhase w) start by-night image cs
@@ -76,7 +76,7 @@ pub record Unread {R : Type 0} (start : R) (by-night : Call → R → Answer × 
 -- For every file of bytes, whether the reader accepts it or not.
 pub record DemandedOf {R : Type 0} (start : R) (by-night : List ℕ → Call → R → Answer × R) (by-day : List ℕ → List ℕ → Call → R → Answer × R)
     (image : Record → R) : Type 0 where
-  pub accepted : (file w : List ℕ) → ((i : ℕ) → getD file i 0 < 256) → readWard file ≡ good w → Demand file w start (by-night file) (by-day file) image
+  pub accepted : (file ws : List ℕ) → ((i : ℕ) → getD file i 0 < 256) → readWard file ≡ good ws → Demand file (bodyOf ws) start (by-night file) (by-day file) image
   pub unread : (file : List ℕ) (n : Refusal) → readWard file ≡ bad n → Unread start (by-night file) (by-day file) n
 
 -- of the published calls; proofs/DemandLaws shows it

@@ -7,12 +7,12 @@ use mathlib.Core.List.{List}
 use mathlib.Core.Option.{some}
 use lib.ListN.{length, getD}
 use Rattle.refusals.specs.Questions as question
-use Rattle.fields.specs.Fields.{nurses, days}
+use Rattle.fields.specs.Fields.{bodyOf, nurses, days}
 use Rattle.layout.specs.Grammar.{done, bytesOf}
 use Rattle.layout.specs.Layout.{ward}
 use Rattle.layout.specs.Faults.{Takes, FileFault, ListFault, FileGood}
 use Rattle.nights.specs.Nights.{commonOf}
-use Rattle.nights.specs.NightRule.{NightHers}
+use Rattle.nights.specs.NightRule.{PatternHers}
 use Rattle.daylists.specs.Lists.{upTo}
 use Rattle.penalty.specs.Penalty.{nightPenalty}
 use Rattle.letters.specs.Letters.{isLetter}
@@ -33,10 +33,10 @@ BufferFault ws places place = (place ≡ 0) × Takes ward ws done × (places < l
 abbrev pub StepsFault : ℕ → ℕ → ℕ → Type 0
 StepsFault steps k place = (place ≡ 0) × ((10000 < k) ⊎ (1000000 < steps + k))
 
--- 8: some night pattern is not hers, or the night penalty is not 0
+-- 8: some night pattern with its pair is not hers, or the night penalty is not 0
 abbrev pub NightsFault : List ℕ → (ℕ → ℕ) → ℕ → Type 0
 NightsFault w nights place =
-    (place ≡ 0) × (((i : ℕ) × (i < nurses w) × (NightHers w i (nights i) → ⊥)) ⊎ (nightPenalty w (λ i. some (nights i)) ≢ 0))
+    (place ≡ 0) × (((i : ℕ) × (i < nurses w) × (PatternHers w i (nights i) → ⊥)) ⊎ (nightPenalty w (λ i. some (nights i)) ≢ 0))
 
 -- 9 by night: the common list has more patterns than the buffer has places
 abbrev pub CommonFault : List ℕ → ℕ → ℕ → Type 0
@@ -81,7 +81,7 @@ checkQuestions roster w = ask question.letters (LettersFault (nurses w * days w)
 -- a call over a ward file asks 1 to 5 of the file, and then the others over the ward that it holds
 pub data FileNo (file : List ℕ) (questions : List ℕ → Questions) (q p : ℕ) : Type 0 where
   in-file : FileFault ward file q p → FileNo file questions q p
-  in-call : (w : List ℕ) → FileGood ward file w → FirstNo (questions w) q p → FileNo file questions q p
+  in-call : (ws : List ℕ) → FileGood ward file ws → FirstNo (questions (bodyOf ws)) q p → FileNo file questions q p
 
 -- the writer asks 1, 3, 4 and 5 of the numbers, and then 6
 pub data WriterNo (ws : List ℕ) (places q p : ℕ) : Type 0 where

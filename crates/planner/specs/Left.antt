@@ -2,7 +2,7 @@
 use Prim.Native.Nat.{ℕ}
 use mathlib.Core.List.{List, []}
 use lib.ListN.{length}
-use Rattle.fields.specs.Fields.{nurses}
+use Rattle.fields.specs.Fields.{bodyOf, nurses}
 use Rattle.layout.specs.Grammar.{Read, good, bad}
 use Rattle.ward.specs.Answers.{readWard}
 use Rattle.nights.specs.Nights.{commonOf}
@@ -16,7 +16,7 @@ use Rattle.planner.specs.Advances.{advanceNights, advanceDays}
 -- the common list of the file's ward
 abbrev pub listOf : Read → List ℕ
 listOf (bad n) = []
-listOf (good w) = commonOf w
+listOf (good ws) = commonOf (bodyOf ws)
 
 unfoldable pub nightLeft : List ℕ → Stored → ℕ → List ℕ → List ℕ
 nightLeft file r k buffer = leftBy (advanceNights file (callOf k (length buffer)) r .0) (listOf (readWard file)) buffer
@@ -25,7 +25,7 @@ nightLeft file r k buffer = leftBy (advanceNights file (callOf k (length buffer)
 
 abbrev pub listsOf : Read → List ℕ → List ℕ
 listsOf (bad n) nights = []
-listsOf (good w) nights = upTo (dayLists w nights) (nurses w)
+listsOf (good ws) nights = let w = bodyOf ws in upTo (dayLists w nights) (nurses w)
 
 unfoldable pub dayLeft : List ℕ → List ℕ → Stored → ℕ → List ℕ → List ℕ
 dayLeft file nights r k buffer = leftBy (advanceDays file nights (callOf k (length buffer)) r .0) (listsOf (readWard file) nights) buffer

@@ -6,4 +6,5 @@ pub mod Demand3
 pub mod Demand2
 pub mod Left
 pub mod Worked
+pub mod PairsWorked
 pub mod Table

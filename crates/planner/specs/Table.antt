@@ -4,17 +4,19 @@ use mathlib.Core.Path.{_≡_, refl}
 use mathlib.Core.List.{List, [], _∷_}
 use mathlib.Core.Option.{none}
 use lib.ListN.{length, getD}
-use Rattle.numbers.specs.Range.{upFrom, filter, all}
+use Rattle.numbers.specs.Range.{upFrom, filter, all, anyOf}
 use Rattle.numbers.specs.Sum.{sumTo, oneIf}
 use Rattle.numbers.specs.Digits.{numberOf}
+use Rattle.numbers.specs.Patterns.{pattern, unpaired, daysOf, pairOf}
 use Rattle.codec.specs.Groups.{encode}
 use Rattle.fields.specs.Worked.{workedWard}
-use Rattle.fields.specs.Fields.{blockAt, block, groupsAt, memberSets, needsAt, needs}
+use Rattle.fields.specs.Fields.{blockAt, block, groupsAt, memberSets, needsAt, needs, tailAt}
 use Rattle.rows.specs.Rows.{rowState, marksAllow, availableOn, dutyOn}
+use Rattle.rows.specs.Pairs.{inPair, freeOn}
 use Rattle.fields.specs.declared.rules.Rules.{Rules}
 use Rattle.nights.specs.Nights.{starts, follow, inCommon, common, commonOf}
 use Rattle.nights.specs.Hers.{shifted, through, lastRun, hers, nightList}
-use Rattle.days.specs.Days.{dayList, dayRule, choice, rowDuty, same, anyOf, freeOf, windowsHold, rests}
+use Rattle.days.specs.Days.{dayList, dayRule, choice, rowDuty, same, freeOf, windowsHold, rests}
 use Rattle.history.specs.Slot.{Slot, exchanged}
 use Rattle.penalty.specs.Penalty.{onDuty, members, shortOn, overOn, unplacedIn, nightParts, nightPenalty, dayParts, dayPenalty}
 use Rattle.letters.specs.Letters.{letters, rowLettersOf, letter}
@@ -62,15 +64,15 @@ table =
     ∷ row (λ u. nightList workedWard 1) (0 ∷ 1 ∷ [])
     -- its penalties by night: fresh; nurse 1 takes 1; nurse 2 takes 0
     ∷ row (λ u. nightPenalty workedWard fresh ∷ []) (20000001 ∷ [])
-    ∷ row (λ u. nightPenalty workedWard (exchanged fresh 0 1) ∷ []) (10000000 ∷ [])
-    ∷ row (λ u. nightPenalty workedWard (exchanged (exchanged fresh 0 1) 1 0) ∷ []) (0 ∷ [])
+    ∷ row (λ u. nightPenalty workedWard (exchanged fresh 0 (unpaired 1)) ∷ []) (10000000 ∷ [])
+    ∷ row (λ u. nightPenalty workedWard (exchanged (exchanged fresh 0 (unpaired 1)) 1 (unpaired 0)) ∷ []) (0 ∷ [])
     -- its day lists over those nights
-    ∷ row (λ u. dayList workedWard 0 (nights 0)) (0 ∷ [])
-    ∷ row (λ u. dayList workedWard 1 (nights 1)) (0 ∷ 1 ∷ 2 ∷ 3 ∷ [])
+    ∷ row (λ u. dayList workedWard 0 (unpaired (nights 0))) (0 ∷ [])
+    ∷ row (λ u. dayList workedWard 1 (unpaired (nights 1))) (0 ∷ 1 ∷ 2 ∷ 3 ∷ [])
     -- its penalties by day: fresh; nurse 2 takes 3; nurse 1 takes 0
     ∷ row (λ u. dayPenalty workedWard fresh ∷ []) (20000002 ∷ [])
-    ∷ row (λ u. dayPenalty workedWard (exchanged fresh 1 3) ∷ []) (10000000 ∷ [])
-    ∷ row (λ u. dayPenalty workedWard (exchanged (exchanged fresh 1 3) 0 0) ∷ []) (0 ∷ [])
+    ∷ row (λ u. dayPenalty workedWard (exchanged fresh 1 (unpaired 3)) ∷ []) (10000000 ∷ [])
+    ∷ row (λ u. dayPenalty workedWard (exchanged (exchanged fresh 1 (unpaired 3)) 0 (unpaired 0)) ∷ []) (0 ∷ [])
     -- its roster, Nn/ and --/
     ∷ row (λ u. letters workedWard nights worked-days 2) (78 ∷ 110 ∷ 47 ∷ 45 ∷ 45 ∷ 47 ∷ [])
     ∷ []
@@ -81,5 +83,5 @@ Holds [] = Unit
 Holds (row comes-to says ∷ rows) = (comes-to 0 ≡ says) × Holds rows
 
 pub examples-hold : Holds table
-unfolding encode workedWard common inCommon starts follow shifted through lastRun marksAllow hers nightList filter all upFrom sumTo numberOf blockAt block groupsAt memberSets needsAt needs rowState availableOn dutyOn onDuty members shortOn overOn unplacedIn nightParts nightPenalty dayParts dayPenalty dayList dayRule choice rowDuty same anyOf freeOf windowsHold rests letters rowLettersOf letter
+unfolding encode workedWard common inCommon starts follow shifted through lastRun marksAllow hers nightList filter all upFrom sumTo numberOf blockAt block groupsAt memberSets needsAt needs tailAt pattern daysOf pairOf inPair freeOn rowState availableOn dutyOn onDuty members shortOn overOn unplacedIn nightParts nightPenalty dayParts dayPenalty dayList dayRule choice rowDuty same anyOf freeOf windowsHold rests letters rowLettersOf letter
 examples-hold = (refl, (refl, (refl, (refl, (refl, (refl, (refl, (refl, (refl, (refl, (refl, (refl, (refl, (refl, (refl, (refl, (refl, (refl, (refl, tt)))))))))))))))))))

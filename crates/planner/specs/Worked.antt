@@ -2,21 +2,24 @@
 use Prim.Native.Nat.{ℕ, zero, suc}
 use mathlib.Core.Path.{_≡_, refl}
 use mathlib.Core.Bool.{true, false}
-use mathlib.Core.List.{List, [], _∷_, _++_}
+use mathlib.Core.List.{List, [], _∷_, _++_, map}
 use mathlib.Core.Option.{some}
 use lib.ListN.{take, set}
-use Rattle.numbers.specs.Range.{upFrom, filter, all}
+use Rattle.numbers.specs.Range.{upFrom, filter, all, anyOf}
 use Rattle.numbers.specs.Sum.{sumTo}
 use Rattle.numbers.specs.Digits.{numberOf}
+use Rattle.numbers.specs.Patterns.{pattern, unpaired, daysOf, pairOf}
 use Rattle.codec.specs.Groups.{encode, decode}
 use Rattle.layout.specs.Grammar.{good, bad, read, check, failedBy, bytesOf}
 use Rattle.ward.specs.Answers.{readWard, checkWard}
-use Rattle.fields.specs.Fields.{blockAt, block, groupsAt, memberSets, needsAt, needs}
+use Rattle.fields.specs.Fields.{blockAt, block, groupsAt, memberSets, needsAt, needs, tailAt, bodyOf}
 use Rattle.fields.specs.Worked.{workedWard, secondWard, redatedWard}
 use Rattle.rows.specs.Rows.{rowState, marksAllow, availableOn, dutyOn}
+use Rattle.rows.specs.Pairs.{pairNumbers, inPair, atRestOn, pairFits, freeOn}
 use Rattle.nights.specs.Nights.{common, commonOf, inCommon, starts, follow}
 use Rattle.nights.specs.Hers.{nightList, hers, shifted, through, lastRun}
-use Rattle.days.specs.Days.{dayList, dayRule, choice, rowDuty, same, anyOf, freeOf, windowsHold, rests}
+use Rattle.nights.specs.Own.{ownPattern, withPairs, patternList}
+use Rattle.days.specs.Days.{dayList, dayRule, choice, rowDuty, same, freeOf, windowsHold, rests}
 use Rattle.daylists.specs.Lists.{upTo, firstOver}
 use Rattle.penalty.specs.Penalty.{onDuty, members, shortOn, overOn, unplacedIn, nightParts, nightPenalty, dayParts, dayPenalty}
 use Rattle.letters.specs.Letters.{letters, rowLettersOf, letter, isLetter, firstBad, misplaced}
@@ -34,22 +37,22 @@ use Rattle.outcomes.specs.declared.Checked.{Checked}
 use Rattle.outcomes.specs.declared.Checked.the-variants.{Refused, Passed, Broken}
 use Rattle.planner.specs.Answers.{checkLetters, checkOver, checkSays}
 
-abbrev call : ℕ → ℕ → Call
+abbrev pub call : ℕ → ℕ → Call
 call k n = record { steps = k; places = n }
 
 abbrev did : ℕ → ℕ → Step
-did i p = record { nurse = i; pattern = p }
+did i p = record { nurse = i; pattern = unpaired p }
 
 -- k advances of one step each, and what one of them answers that goes on, with the penalty after it
-abbrev ones : ℕ → ℕ → List Call
+abbrev pub ones : ℕ → ℕ → List Call
 ones zero n = []
 ones (suc k) n = call 1 n ∷ ones k n
 
-abbrev after : ℕ → Answer
+abbrev pub after : ℕ → Answer
 after penalty = ended End·asked 1 penalty []
 
 -- an advance that is refused, and a roster that the check refuses, with the question's number and place
-abbrev refuses : ℕ → ℕ → Answer
+abbrev pub refuses : ℕ → ℕ → Answer
 refuses q p = refused (numbered q p)
 
 abbrev checkRefuses : ℕ → ℕ → Checked
@@ -59,18 +62,18 @@ checkRefuses q p = Refused (numbered q p)
 
 -- its nights, and its roster: Nn/ and --/
 abbrev nights : List ℕ
-nights = 1 ∷ 0 ∷ []
+nights = unpaired 1 ∷ unpaired 0 ∷ []
 
 abbrev roster : List ℕ
 roster = 78 ∷ 110 ∷ 47 ∷ 45 ∷ 45 ∷ 47 ∷ []
 
 pub record WorkedThrough : Type 0 where
-  -- its file is read, its numbers are checked and written back; an empty file; a file of edition two
+  -- its file is read, its numbers are checked and written back; an empty file; the head of a file of edition two alone
   pub file-read : readWard workedWard ≡ good workedWard
   pub numbers-checked : checkWard workedWard ≡ good workedWard
   pub written-back : bytesOf workedWard ≡ workedWard
   pub empty : readWard [] ≡ bad (numbered 1 0)
-  pub edition-two : readWard (0 ∷ 2 ∷ []) ≡ bad (numbered 3 0)
+  pub edition-two : readWard (0 ∷ 2 ∷ []) ≡ bad (numbered 1 2)
   -- by night: from 20,000,001, nurse 1 takes 1, 10,000,000; nurse 2 takes 0, and the penalty is 0
   pub night-first : next (nightPhase workedWard) [] ≡ some (did 0 1)
   pub night-second : next (nightPhase workedWard) (did 0 1 ∷ []) ≡ some (did 1 0)
@@ -86,7 +89,7 @@ pub record WorkedThrough : Type 0 where
       ≡ record { nurse = 2; has = false; pattern = 0 } ∷ record { nurse = 1; has = false; pattern = 0 } ∷ noRemoval ∷ []
   -- with TL 2, a third step that gives up pattern 1 drops the first placing
   pub stored-given-up : take 3 ((store (recordOf (nightPhase workedWard) (did 0 2 ∷ did 1 0 ∷ did 0 1 ∷ []))) .removals)
-      ≡ record { nurse = 1; has = true; pattern = 1 } ∷ record { nurse = 2; has = false; pattern = 0 } ∷ noRemoval ∷ []
+      ≡ record { nurse = 1; has = true; pattern = unpaired 1 } ∷ record { nurse = 2; has = false; pattern = 0 } ∷ noRemoval ∷ []
   -- by day over those nights: from 20,000,002, nurse 2 takes 3, 10,000,000; nurse 1 takes 0, and the roster is given out
   pub day-answers : answers (dayPhase workedWard (nightOf nights)) (call 0 5 ∷ call 1 5 ∷ call 1 4 ∷ call 9 5 ∷ [])
       ≡ ended End·asked 0 20000002 [] ∷ ended End·asked 1 10000000 [] ∷ refuses 9 2 ∷ ended End·zero 1 0 roster ∷ []
@@ -100,7 +103,7 @@ pub record WorkedThrough : Type 0 where
   pub row-unfollowed : checkSays workedWard (78 ∷ 110 ∷ 43 ∷ 45 ∷ 45 ∷ 47 ∷ []) ≡ Broken
 
 pub worked-through : WorkedThrough
-unfolding workedWard encode decode read check failedBy bytesOf readWard checkWard nightPhase dayPhase nightsOpen commonFits listsFit firstOver upTo answers history advance reply extend run refusal given next penalty allowed advanceOver advanceStored refusalStored replyStored soundStored unusedZero view store recordOf proceed replyOf best total mayTake stepped sound common nightList hers inCommon starts follow shifted through lastRun marksAllow sumTo numberOf filter all upFrom blockAt block groupsAt memberSets needsAt needs rowState availableOn dutyOn onDuty members shortOn overOn unplacedIn nightParts nightPenalty dayParts dayPenalty dayList dayRule choice rowDuty same anyOf freeOf windowsHold rests letters rowLettersOf letter isLetter firstBad misplaced checkLetters checkOver holds rowsHold rowHolds lettersIn sameRow daysHold dayHolds dutyHolds groupHolds lettered
+unfolding workedWard encode decode read check failedBy bytesOf readWard checkWard nightPhase dayPhase nightsOpen commonFits listsFit firstOver upTo answers history advance reply extend run refusal given next penalty allowed advanceOver advanceStored refusalStored replyStored soundStored unusedZero view store recordOf proceed replyOf best total mayTake stepped sound common nightList hers inCommon starts follow shifted through lastRun marksAllow sumTo numberOf filter all upFrom blockAt block groupsAt memberSets needsAt needs tailAt bodyOf pattern daysOf pairOf pairNumbers inPair atRestOn pairFits freeOn ownPattern withPairs patternList rowState availableOn dutyOn onDuty members shortOn overOn unplacedIn nightParts nightPenalty dayParts dayPenalty dayList dayRule choice rowDuty same anyOf freeOf windowsHold rests letters rowLettersOf letter isLetter firstBad misplaced checkLetters checkOver holds rowsHold rowHolds lettersIn sameRow daysHold dayHolds dutyHolds groupHolds lettered
 worked-through = record {
   file-read = refl;
   numbers-checked = refl;
@@ -127,7 +130,7 @@ worked-through = record {
 
 -- the nights that its search finds
 abbrev secondNights : List ℕ
-secondNights = 1 ∷ 8 ∷ 32 ∷ []
+secondNights = map unpaired (1 ∷ 8 ∷ 32 ∷ [])
 
 -- the roster over them where nurse 3 may have 3 rests: Nn/--/, n/-Nn/ and /-/+/N
 abbrev secondRoster : List ℕ
@@ -155,44 +158,44 @@ pub record SecondWorked : Type 0 where
   pub nights-2 : nightList secondWard 1 ≡ 8 ∷ 40 ∷ []
   pub nights-3 : nightList secondWard 2 ≡ 1 ∷ 16 ∷ 32 ∷ []
   -- the weights: nobody has a night, everybody starts one on every day; nobody works by day, everybody does on every day
-  pub no-nights : nightPenalty secondWard (λ i. some 0) ≡ 11
-  pub all-nights : nightPenalty secondWard (λ i. some 63) ≡ 64
-  pub no-days : dayPenalty secondWard (λ i. some 0) ≡ 16
-  pub all-days : dayPenalty secondWard (λ i. some 63) ≡ 4
+  pub no-nights : nightPenalty secondWard (λ i. some (unpaired 0)) ≡ 11
+  pub all-nights : nightPenalty secondWard (λ i. some (unpaired 63)) ≡ 64
+  pub no-days : dayPenalty secondWard (λ i. some (unpaired 0)) ≡ 16
+  pub all-days : dayPenalty secondWard (λ i. some (unpaired 63)) ≡ 4
   -- by night: step by step to zero; then too many asked, no room for the common list, and zero as before
   pub night-answers : answers (nightPhase secondWard) (call 0 14 ∷ ones 9 14 ++ (call 10001 14 ∷ call 1 13 ∷ call 1 14 ∷ []))
       ≡ ended End·asked 0 30000005 [] ∷ after 20000000 ∷ after 10000000 ∷ after 5 ∷ after 5 ∷ after 5 ∷ after 8 ∷ after 11 ∷ after 3
       ∷ ended End·zero 1 0 [] ∷ refuses 7 0 ∷ refuses 9 0 ∷ ended End·zero 0 0 [] ∷ []
   pub night-steps : history (nightPhase secondWard) (call 100 14 ∷ []) ≡ did 0 1 ∷ eightSteps
   -- After six steps nurse 1 may not take pattern 1, which she gave up in the last four, though it would leave the least penalty; after eight she may.
-  pub barred : allowed (nightPhase secondWard) sixSteps 0 1 ≡ false
+  pub barred : allowed (nightPhase secondWard) sixSteps 0 (unpaired 1) ≡ false
   pub barred-penalty : penalty (nightPhase secondWard) (did 0 1 ∷ sixSteps) ≡ 5
   pub taken : next (nightPhase secondWard) sixSteps ≡ some (did 2 32)
   pub taken-penalty : penalty (nightPhase secondWard) (did 2 32 ∷ sixSteps) ≡ 11
-  pub no-longer-barred : allowed (nightPhase secondWard) eightSteps 0 1 ≡ true
+  pub no-longer-barred : allowed (nightPhase secondWard) eightSteps 0 (unpaired 1) ≡ true
   -- by the stored record, from the file's bytes; of its removals, the last four
   pub night-stored : (inTurn (advanceNights secondWard) (call 3 14 ∷ call 5 14 ∷ []) allZero) .1 ≡ store (recordOf (nightPhase secondWard) eightSteps)
   pub stored-removals : take 5 ((store (recordOf (nightPhase secondWard) eightSteps)) .removals)
-      ≡ record { nurse = 2; has = true; pattern = 40 } ∷ record { nurse = 3; has = true; pattern = 1 } ∷ record { nurse = 1; has = true; pattern = 17 }
-      ∷ record { nurse = 1; has = true; pattern = 16 } ∷ noRemoval ∷ []
+      ≡ record { nurse = 2; has = true; pattern = unpaired 40 } ∷ record { nurse = 3; has = true; pattern = unpaired 1 } ∷ record { nurse = 1; has = true; pattern = unpaired 17 }
+      ∷ record { nurse = 1; has = true; pattern = unpaired 16 } ∷ noRemoval ∷ []
   -- by day over these nights: nurse 3 has one row, with too many of the group on day 5; then no room for the last nurse's list, and none for the first one's
-  pub days-1 : dayList secondWard 0 1 ≡ 8 ∷ 16 ∷ 24 ∷ 32 ∷ 40 ∷ 48 ∷ []
-  pub days-2 : dayList secondWard 1 8 ≡ 4 ∷ []
-  pub days-3 : dayList secondWard 2 32 ≡ 18 ∷ []
+  pub days-1 : dayList secondWard 0 (unpaired 1) ≡ 8 ∷ 16 ∷ 24 ∷ 32 ∷ 40 ∷ 48 ∷ []
+  pub days-2 : dayList secondWard 1 (unpaired 8) ≡ 4 ∷ []
+  pub days-3 : dayList secondWard 2 (unpaired 32) ≡ 18 ∷ []
   pub day-answers : answers (dayPhase secondWard (nightOf secondNights)) (call 0 8 ∷ ones 5 8 ++ (call 1 7 ∷ call 1 3 ∷ []))
       ≡ ended End·asked 0 30000011 [] ∷ after 20000004 ∷ after 10000001 ∷ after 1 ∷ after 1 ∷ after 1 ∷ refuses 9 3 ∷ refuses 9 1 ∷ []
   -- over other nights at penalty zero, where nurse 1 starts on day 5: no exchange is left after five steps
-  pub none-days-1 : dayList secondWard 0 16 ≡ 4 ∷ 8 ∷ 12 ∷ []
-  pub none-answers : answers (dayPhase secondWard (nightOf (16 ∷ 8 ∷ 32 ∷ []))) (call 0 5 ∷ ones 4 5 ++ (call 100 5 ∷ call 1 5 ∷ []))
+  pub none-days-1 : dayList secondWard 0 (unpaired 16) ≡ 4 ∷ 8 ∷ 12 ∷ []
+  pub none-answers : answers (dayPhase secondWard (nightOf (map unpaired (16 ∷ 8 ∷ 32 ∷ [])))) (call 0 5 ∷ ones 4 5 ++ (call 100 5 ∷ call 1 5 ∷ []))
       ≡ ended End·asked 0 30000011 [] ∷ after 20000004 ∷ after 10000001 ∷ after 1 ∷ after 1 ∷ ended End·none 1 4 [] ∷ ended End·none 0 4 [] ∷ []
-  pub none-steps : history (dayPhase secondWard (nightOf (16 ∷ 8 ∷ 32 ∷ []))) (call 100 5 ∷ [])
+  pub none-steps : history (dayPhase secondWard (nightOf (map unpaired (16 ∷ 8 ∷ 32 ∷ [])))) (call 100 5 ∷ [])
       ≡ did 0 4 ∷ did 0 12 ∷ did 1 4 ∷ did 0 8 ∷ did 2 18 ∷ []
   -- question 8: nights that are not at penalty zero; nights at zero, but nurse 1 has fewer than her least
-  pub not-at-zero : answers (dayPhase secondWard (nightOf (1 ∷ 40 ∷ 1 ∷ []))) (call 1 10 ∷ call 10001 10 ∷ call 0 0 ∷ []) ≡ refuses 8 0 ∷ refuses 7 0 ∷ refuses 8 0 ∷ []
-  pub not-hers-penalty : nightPenalty secondWard (λ i. some (nightOf (0 ∷ 8 ∷ 32 ∷ []) i)) ≡ 0
-  pub not-hers : answers (dayPhase secondWard (nightOf (0 ∷ 8 ∷ 32 ∷ []))) (call 1 10 ∷ []) ≡ refuses 8 0 ∷ []
+  pub not-at-zero : answers (dayPhase secondWard (nightOf (map unpaired (1 ∷ 40 ∷ 1 ∷ [])))) (call 1 10 ∷ call 10001 10 ∷ call 0 0 ∷ []) ≡ refuses 8 0 ∷ refuses 7 0 ∷ refuses 8 0 ∷ []
+  pub not-hers-penalty : nightPenalty secondWard (λ i. some (nightOf (map unpaired (0 ∷ 8 ∷ 32 ∷ [])) i)) ≡ 0
+  pub not-hers : answers (dayPhase secondWard (nightOf (map unpaired (0 ∷ 8 ∷ 32 ∷ [])))) (call 1 10 ∷ []) ≡ refuses 8 0 ∷ []
   -- re-dated, over the same nights: step by step to the roster
-  pub redated-days-3 : dayList redatedWard 2 32 ≡ 2 ∷ 4 ∷ 16 ∷ 18 ∷ []
+  pub redated-days-3 : dayList redatedWard 2 (unpaired 32) ≡ 2 ∷ 4 ∷ 16 ∷ 18 ∷ []
   pub redated-answers : answers (dayPhase redatedWard (nightOf secondNights)) (call 0 11 ∷ ones 5 11 ++ (call 1 10 ∷ []))
       ≡ ended End·asked 0 30000011 [] ∷ after 20000004 ∷ after 10000001 ∷ after 1 ∷ after 1 ∷ ended End·zero 1 0 secondRoster ∷ refuses 9 3 ∷ []
   pub redated-steps : history (dayPhase redatedWard (nightOf secondNights)) (call 100 11 ∷ []) ≡ did 2 2 ∷ did 0 24 ∷ did 1 4 ∷ did 0 8 ∷ did 2 18 ∷ []
@@ -213,7 +216,7 @@ pub record SecondWorked : Type 0 where
   pub above-high : checkSays redatedWard (set secondRoster 16 45) ≡ Broken
 
 pub second-worked : SecondWorked
-unfolding secondWard encode decode read check failedBy bytesOf readWard checkWard nightPhase dayPhase nightsOpen commonFits listsFit firstOver upTo answers history advance reply extend run refusal given next penalty allowed advanceOver advanceStored refusalStored replyStored soundStored unusedZero view store recordOf proceed replyOf best total mayTake stepped sound common nightList hers inCommon starts follow shifted through lastRun marksAllow sumTo numberOf filter all upFrom blockAt block groupsAt memberSets needsAt needs rowState availableOn dutyOn onDuty members shortOn overOn unplacedIn nightParts nightPenalty dayParts dayPenalty dayList dayRule choice rowDuty same anyOf freeOf windowsHold rests letters rowLettersOf letter isLetter firstBad misplaced checkLetters checkOver holds rowsHold rowHolds lettersIn sameRow daysHold dayHolds dutyHolds groupHolds lettered
+unfolding secondWard encode decode read check failedBy bytesOf readWard checkWard nightPhase dayPhase nightsOpen commonFits listsFit firstOver upTo answers history advance reply extend run refusal given next penalty allowed advanceOver advanceStored refusalStored replyStored soundStored unusedZero view store recordOf proceed replyOf best total mayTake stepped sound common nightList hers inCommon starts follow shifted through lastRun marksAllow sumTo numberOf filter all upFrom blockAt block groupsAt memberSets needsAt needs tailAt bodyOf pattern daysOf pairOf pairNumbers inPair atRestOn pairFits freeOn ownPattern withPairs patternList rowState availableOn dutyOn onDuty members shortOn overOn unplacedIn nightParts nightPenalty dayParts dayPenalty dayList dayRule choice rowDuty same anyOf freeOf windowsHold rests letters rowLettersOf letter isLetter firstBad misplaced checkLetters checkOver holds rowsHold rowHolds lettersIn sameRow daysHold dayHolds dutyHolds groupHolds lettered
 second-worked = record {
   file-read = refl;
   written-back = refl;

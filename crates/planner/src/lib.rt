@@ -63,7 +63,7 @@ pub fn check(file: &[u8], roster: &[u8]) -> Checked
         Answer::Yes => {
             let numbers = reading.ward.numbers;
             let count = reading.ward.count;
-            check_letters(&numbers[..count], roster)
+            check_letters(fields::body(&numbers[..count]), roster)
         }
     }
 }
@@ -81,7 +81,7 @@ pub fn advance_nights(rec: search::Record, file: &[u8], k: u32, buffer: &mut [u3
         Answer::Yes => {
             let numbers = reading.ward.numbers;
             let count = reading.ward.count;
-            nightadvance::advance_on(rec, &numbers[..count], k, buffer)
+            nightadvance::advance_on(rec, fields::body(&numbers[..count]), k, buffer)
         }
     }
 }
@@ -91,7 +91,7 @@ pub fn advance_nights(rec: search::Record, file: &[u8], k: u32, buffer: &mut [u3
 pub fn advance_days(
     rec: search::Record,
     file: &[u8],
-    nights: &[u32; NURSES],
+    nights: &[u64; NURSES],
     k: u32,
     buffer: &mut [u32],
 ) -> Advance
@@ -105,7 +105,7 @@ pub fn advance_days(
         Answer::Yes => {
             let numbers = reading.ward.numbers;
             let count = reading.ward.count;
-            dayadvance::advance_on(rec, &numbers[..count], nights, k, buffer)
+            dayadvance::advance_on(rec, fields::body(&numbers[..count]), nights, k, buffer)
         }
     }
 }

@@ -1,4 +1,4 @@
--- A search may be kept as words between calls: 289 zeros are the fresh record, and a record that is written as words is read back as it was.
+-- A search may be kept as words between calls: 401 zeros are the fresh record, and a record that is written as words is read back as it was.
 use mathlib.Core.Path.{_≡_}
 use lib.ListN.{replicate}
 use Rattle.search.specs.declared.Record.{Record as Stored}

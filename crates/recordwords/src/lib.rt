@@ -1,30 +1,36 @@
 // A search record from its words, and back.
 use fields::sizes::NURSES;
 use fields::sizes::REMOVALS;
+use numbers::pattern;
 use removals::Removal;
 use search::Record;
 ghost use mathlib.Core.Path.{_≡_};
 ghost use mathlib.Core.List.{map};
-ghost use Prim.Native.Nat.{_<_};
-ghost use lib.ListN.{getD, take, drop};
+ghost use Prim.Native.Nat.{_≤_, _<_};
+ghost use lib.ListN.{length, getD, take, drop};
 ghost use Rattle.fields.specs.Sizes.{nursePlaces, removalPlaces};
 ghost use Rattle.numbers.specs.Range.{upFrom};
-ghost use Rattle.recordwords.specs.Words.{recordWords, flagOf, removalAt, recordOfWords, flagWord, wordsOfRecord};
+ghost use Rattle.recordwords.specs.Words.{patternWords, flagsAt, recordWords, patternsOfWords, flagOf, removalAt, recordOfWords, flagWord, wordsOfRecord};
 ghost use Rattle.recordwords.specs.CodeWords.{removalWord};
 
-// Where the removals begin, of three words each; where the steps stand; how many words a record has.
-const REMOVALS_AT: usize = 96;
+// The words of everyone's patterns: 48 sets of days, and 48 pairs.
+pub const PATTERNS: usize = 96;
 
-const STEPS_AT: usize = 288;
+// Where the removals begin, of four words each; where the steps stand; how many words a record has.
+const REMOVALS_AT: usize = 144;
 
-pub const WORDS: usize = 289;
+const STEPS_AT: usize = 400;
 
-fn patterns_of(words: [u32; WORDS]) -> [u32; NURSES]
-    ensures { λ r. ⌜ r ≡ take nursePlaces words ⌝ }
+pub const WORDS: usize = 401;
+
+// Everyone's patterns, from the first words of a record.
+pub fn patterns_of(words: &[u32]) -> [u64; NURSES]
+    requires { ⌜ patternWords ≤ length (now words) ⌝ }
+    ensures { λ r. ⌜ r ≡ patternsOfWords (now (words .entry)) ⌝ }
 {
-    let mut patterns = [0u32; NURSES];
+    let mut patterns = [0u64; NURSES];
     for i in 0..NURSES {
-        patterns[i] = words[i];
+        patterns[i] = pattern::of(words[i], words[NURSES + i]);
     }
     patterns
 }
@@ -36,11 +42,11 @@ fn flag_of(word: u32) -> bool
 }
 
 fn flags_of(words: [u32; WORDS]) -> [bool; NURSES]
-    ensures { λ r. ⌜ r ≡ map flagOf (take nursePlaces (drop nursePlaces words)) ⌝ }
+    ensures { λ r. ⌜ r ≡ map flagOf (take nursePlaces (drop flagsAt words)) ⌝ }
 {
     let mut flags = [false; NURSES];
     for i in 0..NURSES {
-        flags[i] = flag_of(words[NURSES + i]);
+        flags[i] = flag_of(words[PATTERNS + i]);
     }
     flags
 }
@@ -49,10 +55,10 @@ fn removal_at(words: [u32; WORDS], j: usize) -> Removal
     requires { ⌜ j < removalPlaces ⌝ }
     ensures { λ r. ⌜ r ≡ removalAt words j ⌝ }
 {
-    let at = REMOVALS_AT + j * 3;
+    let at = REMOVALS_AT + j * 4;
     let nurse = words[at];
     let has = flag_of(words[at + 1]);
-    let pattern = words[at + 2];
+    let pattern = pattern::of(words[at + 2], words[at + 3]);
     Removal {
         nurse,
         has,
@@ -78,7 +84,7 @@ fn removals_of(words: [u32; WORDS]) -> [Removal; REMOVALS]
 pub fn record_of(words: [u32; WORDS]) -> Record
     ensures { λ r. ⌜ r ≡ recordOfWords words ⌝ }
 {
-    let patterns = patterns_of(words);
+    let patterns = patterns_of(&words);
     let placed = flags_of(words);
     let removals = removals_of(words);
     let steps = words[STEPS_AT];
@@ -96,7 +102,7 @@ fn flag_word(flag: bool) -> u32
     if flag { 1 } else { 0 }
 }
 
-// Word t of a removal's three.
+// Word t of a removal's four.
 fn removal_word(x: Removal, t: usize) -> u32
     ensures { λ r. ⌜ r ≡ removalWord x t ⌝ }
 {
@@ -106,7 +112,10 @@ fn removal_word(x: Removal, t: usize) -> u32
     if t == 1 {
         return flag_word(x.has);
     }
-    x.pattern
+    if t == 2 {
+        return pattern::days_of(x.pattern);
+    }
+    pattern::pair_of(x.pattern)
 }
 
 // Word i of a record.
@@ -115,14 +124,17 @@ fn word_of(rec: Record, i: usize) -> u32
     ensures { λ r. ⌜ r ≡ getD (wordsOfRecord rec) i 0 ⌝ }
 {
     if i < NURSES {
-        return rec.patterns[i];
+        return pattern::days_of(rec.patterns[i]);
+    }
+    if i < PATTERNS {
+        return pattern::pair_of(rec.patterns[i - NURSES]);
     }
     if i < REMOVALS_AT {
-        return flag_word(rec.placed[i - NURSES]);
+        return flag_word(rec.placed[i - PATTERNS]);
     }
     if i < STEPS_AT {
-        let x = rec.removals[(i - REMOVALS_AT) / 3];
-        return removal_word(x, (i - REMOVALS_AT) % 3);
+        let x = rec.removals[(i - REMOVALS_AT) / 4];
+        return removal_word(x, (i - REMOVALS_AT) % 4);
     }
     rec.steps
 }

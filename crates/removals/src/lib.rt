@@ -19,7 +19,7 @@ ghost use Rattle.removals.specs.CodePush.{inFront, pushed};
 pub struct Removal {
     pub nurse: u32,
     pub has: bool,
-    pub pattern: u32,
+    pub pattern: u64,
 }
 
 pub fn lesser(a: usize, b: usize) -> usize
@@ -29,14 +29,14 @@ pub fn lesser(a: usize, b: usize) -> usize
 }
 
 // Whether this nurse gave up this pattern.
-fn bars(x: Removal, nurse: u32, pattern: u32) -> bool
+fn bars(x: Removal, nurse: u32, pattern: u64) -> bool
     ensures { λ r. ⌜ r ≡ (eqb nurse (x .nurse) && holds (slot (x .has) (x .pattern)) pattern) ⌝ }
 {
     nurse == x.nurse && (x.has && x.pattern == pattern)
 }
 
 // Whether one of the first `held` removals is this nurse's, of this pattern.
-pub fn barred(list: [Removal; REMOVALS], held: usize, nurse: u32, pattern: u32) -> bool
+pub fn barred(list: [Removal; REMOVALS], held: usize, nurse: u32, pattern: u64) -> bool
     requires { ⌜ held ≤ removalPlaces ⌝ }
     ensures { λ r. ⌜ r ≡ barred (map removalOf (take held list)) nurse pattern ⌝ }
 {

@@ -10,7 +10,7 @@ ghost use Rattle.numbers.specs.Range.{upFrom, all};
 ghost use Rattle.removals.specs.Removals.{slotZero, removalZero};
 
 // One nurse's pattern and flag; `here` where the ward has her.
-fn slot_zero(here: bool, placed: bool, pattern: u32) -> bool
+fn slot_zero(here: bool, placed: bool, pattern: u64) -> bool
     ensures { λ r. ⌜ r ≡ cond here (placed || eqb pattern 0) (not placed && eqb pattern 0) ⌝ }
 {
     if here {
@@ -20,7 +20,7 @@ fn slot_zero(here: bool, placed: bool, pattern: u32) -> bool
 }
 
 // All 48, of whom the ward has m.
-pub fn slots_zero(placed: [bool; NURSES], patterns: [u32; NURSES], m: usize) -> bool
+pub fn slots_zero(placed: [bool; NURSES], patterns: [u64; NURSES], m: usize) -> bool
     ensures { λ r. ⌜ r ≡ all (slotZero m placed patterns) (upFrom 0 nursePlaces) ⌝ }
 {
     for i in 0..NURSES {

@@ -58,7 +58,7 @@ fn days_of(file: &[u8]) -> usize {
         Answer::Yes => {
             let numbers = reading.ward.numbers;
             let count = reading.ward.count;
-            fields::days(&numbers[..count])
+            fields::days(fields::body(&numbers[..count]))
         }
         Answer::No(_) => 0,
     }
@@ -75,7 +75,7 @@ fn show_roster(file: &[u8], letters: &[u8], count: usize, nights: u32, days: u32
     io::write_all(1, b"\n");
 }
 
-fn plan_days(file: &[u8], nights: &[u32; NURSES], made: u32, buffer: &mut [u32]) {
+fn plan_days(file: &[u8], nights: &[u64; NURSES], made: u32, buffer: &mut [u32]) {
     let x = planner::advance_days(Record::fresh(), file, nights, 1000, buffer);
     let end = x.outcome;
     match end {

@@ -3,46 +3,63 @@ use mathlib.Core.Path.{_≡_, sym, ap, ap₂, _∙_}
 use mathlib.Core.Bool.{Bool, true, false, _&&_}
 use mathlib.Core.List.{List}
 use mathlib.Core.Logic.{_↔_}
-use Prim.Native.Nat.{ℕ, zero, suc, _+_, _*_, _≤_, _<_}
+use Prim.Native.Nat.{ℕ, zero, suc, _+_, _*_, _^_, _≤_, _<_}
 use native.Mathlib.Omega.{arith}
 use borrow.Author.Tests.{leb-true, le-leb}
 use lib.Dec.{leb}
 use lib.ListN.{length}
-use Rattle.numbers.specs.Range.{upFrom, all}
+use Rattle.numbers.specs.Range.{upFrom, all, anyOf}
+use Rattle.numbers.specs.Patterns.{pattern, daysOf, pairOf}
+use Rattle.numbers.proofs.PatternLaws.{days-of, pair-of, back}
 use Rattle.numbers.proofs.RangeLaws.{and-parts, both-true, range-all, range-each}
-use Rattle.fields.specs.Fields.{nurses, days, groups, block, needs, need, low, high}
+use Rattle.fields.specs.Fields.{nurses, days, groups, block, needs, need, low, high, pairCount}
+use Rattle.rows.specs.Pairs.{pairNumbers, pairFits}
+use Rattle.rows.proofs.PairNumberLaws.{pairs-has, pairs-some}
 use Rattle.nights.specs.Hers.{hersOf}
+use Rattle.nights.specs.Own.{ownPattern}
 use Rattle.nights.proofs.ListLaws.{hers-below}
 use Rattle.days.specs.Days.{dayRuleOf}
 use Rattle.days.proofs.SheetLaws.{rule-below}
 use Rattle.penalty.specs.Penalty.{onDuty, members}
-use Rattle.letters.specs.Letters.{letter}
+use Rattle.letters.specs.Letters.{letter, rowLetters}
 use Rattle.rostercheck.specs.Check.{Follows, Holds, atDuty}
-use Rattle.rostercheck.specs.CodeCheck.{lettersIn, lettersAt, sameRow, rowHolds, rowsHold, groupHolds, dutyHolds, dayHolds, daysHold, holds}
+use Rattle.rostercheck.specs.CodeCheck.{lettersIn, lettersAt, sameRow, pairHolds, rowHolds, rowsHold, groupHolds, dutyHolds, dayHolds, daysHold, holds}
 use Rattle.letters.proofs.RowLaws.{row-fits}
 use Rattle.rostercheck.proofs.RowLaws.{worked-available, each-of-row, row-of-each, same-each, each-same, starts-read, worked-read}
 
+-- some pair of the ward is hers under p, with q a day pattern of hers over both
+abbrev pub somePair : List ℕ → ℕ → ℕ → ℕ → Bool
+somePair w i p q = anyOf (pairHolds w i p q) (pairNumbers w)
+
+-- of one pair, as the code asks it
+module _ (w : List ℕ) (i p q k : ℕ) where
+  pub pair-asked : {c : ℕ} {r : Bool} → pairFits w i p k ≡ true → c ≡ pattern p k → r ≡ dayRuleOf w i c q → r ≡ pairHolds w i p q k
+  pair-asked f e h = h ∙ ap (λ (x : ℕ). dayRuleOf w i x q) e ∙ sym (rw f)
+
+  pub pair-unfit : pairFits w i p k ≡ false → false ≡ pairHolds w i p q k
+  pair-unfit f = sym (rw f)
+
 -- a row's test by its patterns
 row-is : (w roster : List ℕ) (i p q : ℕ) → p ≡ lettersAt w roster i (letter 2) → q ≡ lettersAt w roster i (letter 1)
-    → rowHolds w roster i ≡ (hersOf w i p && (dayRuleOf w i p q && sameRow (block w i) (days w) roster (i * days w) p q))
+    → rowHolds w roster i ≡ (hersOf w i p && (somePair w i p q && sameRow (block w i) (days w) roster (i * days w) p q))
 unfolding rowHolds
-row-is w roster i p q ep eq = sym (ap₂ (λ (x y : ℕ). hersOf w i x && (dayRuleOf w i x y && sameRow (block w i) (days w) roster (i * days w) x y)) ep eq)
+row-is w roster i p q ep eq = sym (ap₂ (λ (x y : ℕ). hersOf w i x && (somePair w i x y && sameRow (block w i) (days w) roster (i * days w) x y)) ep eq)
 
 -- as the code asks it, the days and the letters being n, N and `-`
 module _ (w roster : List ℕ) (i n : ℕ) {p q : ℕ} (en : n ≡ days w) (ep : p ≡ lettersIn roster (i * n) 78 n) (eq : q ≡ lettersIn roster (i * n) 45 n) where
-  asked : rowHolds w roster i ≡ (hersOf w i p && (dayRuleOf w i p q && sameRow (block w i) n roster (i * n) p q))
+  asked : rowHolds w roster i ≡ (hersOf w i p && (somePair w i p q && sameRow (block w i) n roster (i * n) p q))
   unfolding letter
   asked =
       row-is w roster i p q (ep ∙ ap (λ (k : ℕ). lettersIn roster (i * k) 78 k) en) (eq ∙ ap (λ (k : ℕ). lettersIn roster (i * k) 45 k) en)
-      ∙ ap (λ (k : ℕ). hersOf w i p && (dayRuleOf w i p q && sameRow (block w i) k roster (i * k) p q)) (sym en)
+      ∙ ap (λ (k : ℕ). hersOf w i p && (somePair w i p q && sameRow (block w i) k roster (i * k) p q)) (sym en)
 
   pub row-not-hers : hersOf w i p ≡ false → false ≡ rowHolds w roster i
   row-not-hers h = sym (asked ∙ rw h)
 
-  pub row-no-days : hersOf w i p ≡ true → dayRuleOf w i p q ≡ false → false ≡ rowHolds w roster i
+  pub row-no-days : hersOf w i p ≡ true → somePair w i p q ≡ false → false ≡ rowHolds w roster i
   row-no-days h d = sym (asked ∙ rw (h, d))
 
-  pub row-compared : {b : List ℕ} {r : Bool} → hersOf w i p ≡ true → dayRuleOf w i p q ≡ true → b ≡ block w i → r ≡ sameRow b n roster (i * n) p q → r ≡ rowHolds w roster i
+  pub row-compared : {b : List ℕ} {r : Bool} → hersOf w i p ≡ true → somePair w i p q ≡ true → b ≡ block w i → r ≡ sameRow b n roster (i * n) p q → r ≡ rowHolds w roster i
   row-compared h d e s = s ∙ ap (λ (y : List ℕ). sameRow y n roster (i * n) p q) e ∙ sym (asked ∙ rw (h, d))
 
 -- what its parts ask: the row ends within the roster, and the block is hers
@@ -58,7 +75,16 @@ pub rows-fail : (w roster : List ℕ) → rowsHold w roster ≡ false → false 
 unfolding holds
 rows-fail w roster e = rw e
 
-module _ (w roster : List ℕ) (long : length roster ≡ nurses w * days w) where
+-- a night pattern of hers with a pair of hers is a pattern of hers
+own-of : (w : List ℕ) (i p k : ℕ) → k < 2 ^ 32 → hersOf w i p ≡ true → pairFits w i p k ≡ true → ownPattern w i (pattern p k) ≡ true
+unfolding ownPattern
+own-of w i p k l h f = rw (days-of p k l, pair-of p k l) (both-true _ _ h f)
+
+own-parts : (w : List ℕ) (i c : ℕ) → ownPattern w i c ≡ true → (hersOf w i (daysOf c) && pairFits w i (daysOf c) (pairOf c)) ≡ true
+unfolding ownPattern
+own-parts w i c e = e
+
+module _ (w roster : List ℕ) (few : pairCount w < 2 ^ 32) (long : length roster ≡ nurses w * days w) where
   -- ---- rows
 
   fits : (i : ℕ) → i < nurses w → i * days w + days w ≤ length roster
@@ -69,31 +95,40 @@ module _ (w roster : List ℕ) (long : length roster ≡ nurses w * days w) wher
   row-sound i h e =
       let p = lettersAt w roster i (letter 2) in
       let q = lettersAt w roster i (letter 1) in
-      let a = and-parts (hersOf w i p) (dayRuleOf w i p q && sameRow (block w i) (days w) roster (i * days w) p q) e in
-      let b = and-parts (dayRuleOf w i p q) (sameRow (block w i) (days w) roster (i * days w) p q) (a .1) in
+      let a = and-parts (hersOf w i p) (somePair w i p q && sameRow (block w i) (days w) roster (i * days w) p q) e in
+      let b = and-parts (somePair w i p q) (sameRow (block w i) (days w) roster (i * days w) p q) (a .1) in
+      let found = pairs-some w (pairHolds w i p q) (b .0) in
+      let k = found .0 in
+      let small : k < 2 ^ 32 = omega (arith, found .1) in
+      let parts = and-parts (pairFits w i p k) (dayRuleOf w i (pattern p k) q) (found .2) in
       record {
-        nights = p;
+        pattern = pattern p k;
         days = q;
-        nights-hers = a .0;
-        days-hers = b .0;
-        row = row-of-each roster (i * days w) (days w) (fits i h) (block w i) p q (same-each roster (i * days w) (days w) (fits i h) (block w i) p q (b .1));
+        pattern-hers = own-of w i p k small (a .0) (parts .0);
+        days-hers = parts .1;
+        row = row-of-each roster (i * days w) (days w) (fits i h) (block w i) p q (same-each roster (i * days w) (days w) (fits i h) (block w i) p q (b .1))
+            ∙ ap (λ (x : ℕ). rowLetters w i x q) (sym (days-of p k small));
       }
 
   -- a row that follows from some patterns follows from those read off its letters
   row-read : (i p q : ℕ) → p ≡ lettersAt w roster i (letter 2) → q ≡ lettersAt w roster i (letter 1)
-      → hersOf w i p ≡ true → dayRuleOf w i p q ≡ true → sameRow (block w i) (days w) roster (i * days w) p q ≡ true → rowHolds w roster i ≡ true
+      → hersOf w i p ≡ true → somePair w i p q ≡ true → sameRow (block w i) (days w) roster (i * days w) p q ≡ true → rowHolds w roster i ≡ true
   row-read i p q ep eq h d s = row-is w roster i p q ep eq ∙ both-true _ _ h (both-true _ _ d s)
 
   pub row-complete : (i : ℕ) → i < nurses w → Follows w roster i → rowHolds w roster i ≡ true
   row-complete i h f =
-      let p = f .nights in
+      let c = f .pattern in
+      let p = daysOf c in
+      let k = pairOf c in
       let q = f .days in
       let n = days w in
+      let hers = and-parts (hersOf w i p) (pairFits w i p k) (own-parts w i c (f .pattern-hers)) in
       let e = each-of-row roster (i * n) n (fits i h) (block w i) p q (f .row) in
+      let day : dayRuleOf w i (pattern p k) q ≡ true = ap (λ (x : ℕ). dayRuleOf w i x q) (back c) ∙ f .days-hers in
       row-read i p q
-      (starts-read roster (i * n) n (fits i h) (block w i) p q e (hers-below w i p (f .nights-hers)))
-      (worked-read roster (i * n) n (fits i h) (block w i) p q e (rule-below w i p q (f .days-hers)) (λ d l. worked-available w i p q d (f .days-hers) l))
-      (f .nights-hers) (f .days-hers) (each-same roster (i * n) n (fits i h) (block w i) p q e)
+      (starts-read roster (i * n) n (fits i h) (block w i) p q e (hers-below w i p (hers .0)))
+      (worked-read roster (i * n) n (fits i h) (block w i) p q e (rule-below w i c q (f .days-hers)) (λ d l. worked-available w i c q d (f .days-hers) l))
+      (hers .0) (pairs-has w (pairHolds w i p q) i p k (hers .1) (both-true _ _ (hers .1) day)) (each-same roster (i * n) n (fits i h) (block w i) p q e)
 
   -- ---- needs, lows and highs
 

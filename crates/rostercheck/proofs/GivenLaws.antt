@@ -4,7 +4,7 @@ use mathlib.Core.Bool.{Bool, true, false, cond, _&&_}
 use mathlib.Core.List.{List, [], _∷_, _++_, map}
 use mathlib.Core.Option.{Option, none, some}
 use mathlib.Core.Logic.{⊎-elim}
-use Prim.Native.Nat.{ℕ, zero, suc, _+_, _*_, _≤_, _<_}
+use Prim.Native.Nat.{ℕ, zero, suc, _+_, _*_, _^_, _≤_, _<_}
 use native.Mathlib.Nat.{not-suc-le-zero, le-of-suc-le-suc, eq-or-lt-of-le}
 use native.Mathlib.Omega.{arith}
 use borrow.Author.Tests.{eq-eqb}
@@ -14,10 +14,11 @@ use lib.Seq.{getD-append-add}
 use Rattle.numbers.specs.Range.{upFrom, all}
 use Rattle.numbers.specs.Sum.{oneIf}
 use Rattle.numbers.specs.Digits.{has}
+use Rattle.numbers.specs.Patterns.{daysOf}
 use Rattle.numbers.proofs.SumLaws.{sum-ext}
-use Rattle.fields.specs.Fields.{Accepted, nurses, days, groups, block, memberSets, needs, need, low, high}
+use Rattle.fields.specs.Fields.{Accepted, nurses, days, groups, block, memberSets, needs, need, low, high, pairCount}
 use Rattle.rows.specs.Rows.{dutyOn}
-use Rattle.nights.specs.Hers.{hersOf}
+use Rattle.nights.specs.Own.{ownPattern}
 use Rattle.days.specs.Days.{dayRuleOf}
 use Rattle.history.specs.Slot.{Slot}
 use Rattle.penalty.specs.Penalty.{onDuty, members, atNight, atDay, nightPenalty, dayPenalty}
@@ -105,43 +106,52 @@ module _ (w : List ℕ) (on on′ : ℕ → Bool) (e : (i : ℕ) → i < nurses 
 
 -- ---- the check's yes
 
--- everyone's patterns are hers
-pub record Patterns (w : List ℕ) (ps qs : ℕ → ℕ) : Type 0 where
-  pub nights-hers : (i : ℕ) → i < nurses w → hersOf w i (ps i) ≡ true
-  pub days-hers : (i : ℕ) → i < nurses w → dayRuleOf w i (ps i) (qs i) ≡ true
+-- everyone's patterns are hers: cs by night, with their pairs, and qs by day
+pub record Patterns (w : List ℕ) (cs qs : ℕ → ℕ) : Type 0 where
+  pub nights-hers : (i : ℕ) → i < nurses w → ownPattern w i (cs i) ≡ true
+  pub days-hers : (i : ℕ) → i < nurses w → dayRuleOf w i (cs i) (daysOf (qs i)) ≡ true
 
 -- everyone placed
 abbrev pub placedAll : (ℕ → ℕ) → ℕ → Slot
-placedAll ps i = some (ps i)
+placedAll cs i = some (cs i)
 
-module _ (w : List ℕ) (ps qs : ℕ → ℕ) (all-hers : Patterns w ps qs) where
+-- the days of everyone's patterns
+abbrev pub daysIn : (ℕ → ℕ) → ℕ → ℕ
+daysIn cs i = daysOf (cs i)
+
+-- the letters that patterns make
+abbrev pub lettersBy : List ℕ → (ℕ → ℕ) → (ℕ → ℕ) → List ℕ
+lettersBy w cs qs = letters w (daysIn cs) (daysIn qs) (nurses w)
+
+module _ (w : List ℕ) (cs qs : ℕ → ℕ) (all-hers : Patterns w cs qs) where
   given : List ℕ
-  given = letters w ps qs (nurses w)
+  given = lettersBy w cs qs
 
   given-long : length given ≡ nurses w * days w
   unfolding given
-  given-long = letters-length w ps qs (nurses w)
+  given-long = letters-length w (daysIn cs) (daysIn qs) (nurses w)
 
   given-follows : (i : ℕ) → i < nurses w → Follows w given i
   unfolding given
   given-follows i h = record {
-    nights = ps i;
-    days = qs i;
-    nights-hers = all-hers .nights-hers i h;
+    pattern = cs i;
+    days = daysOf (qs i);
+    pattern-hers = all-hers .nights-hers i h;
     days-hers = all-hers .days-hers i h;
-    row = row-of-each given (i * days w) (days w) (omega (arith, given-long, row-fits (nurses w) (days w) i h)) (block w i) (ps i) (qs i) (λ d l. letters-at w ps qs (nurses w) i d h l);
+    row = row-of-each given (i * days w) (days w) (omega (arith, given-long, row-fits (nurses w) (days w) i h)) (block w i) (daysOf (cs i)) (daysOf (qs i))
+        (λ d l. letters-at w (daysIn cs) (daysIn qs) (nurses w) i d h l);
   }
 
-  given-night : (d : ℕ) → d < days w → (i : ℕ) → i < nurses w → atDuty w given 0 d i ≡ atNight w (placedAll ps) d i
+  given-night : (d : ℕ) → d < days w → (i : ℕ) → i < nurses w → atDuty w given 0 d i ≡ atNight w (placedAll cs) d i
   unfolding given lettered
   given-night d l i h =
-      ap (λ (c : ℕ). eqb c (letter 2)) (letters-at w ps qs (nurses w) i d h l) ∙ starts-letter (block w i) (ps i) (qs i) d
+      ap (λ (c : ℕ). eqb c (letter 2)) (letters-at w (daysIn cs) (daysIn qs) (nurses w) i d h l) ∙ starts-letter (block w i) (daysOf (cs i)) (daysOf (qs i)) d
 
   given-day : (d : ℕ) → d < days w → (i : ℕ) → i < nurses w → atDuty w given 1 d i ≡ atDay w (placedAll qs) d i
   unfolding given lettered
   given-day d l i h =
-      ap (λ (c : ℕ). eqb c (letter 1)) (letters-at w ps qs (nurses w) i d h l)
-      ∙ worked-letter (block w i) (ps i) (qs i) d (worked-available w i (ps i) (qs i) d (all-hers .days-hers i h) l)
+      ap (λ (c : ℕ). eqb c (letter 1)) (letters-at w (daysIn cs) (daysIn qs) (nurses w) i d h l)
+      ∙ worked-letter (block w i) (daysOf (cs i)) (daysOf (qs i)) d (worked-available w i (cs i) (daysOf (qs i)) d (all-hers .days-hers i h) l)
 
   -- the needs, lows and highs of one duty, from those of the nurses on alike
   module _ (k d : ℕ) (on : ℕ → Bool) (alike : (i : ℕ) → i < nurses w → atDuty w given k d i ≡ on i) (lows : LowsHeld w k on d) (highs : HighsHeld w k on d) where
@@ -154,39 +164,39 @@ module _ (w : List ℕ) (ps qs : ℕ → ℕ) (all-hers : Patterns w ps qs) wher
     alike-high : (g : ℕ) → g < groups w → members w (atDuty w given k d) g ≤ high (needs w d) k g
     alike-high g h = rw (members-alike w (atDuty w given k d) on alike g) (highs g h)
 
-  module _ (night : NightHeld w (placedAll ps)) (day : DayHeld w (placedAll qs)) where
+  module _ (night : NightHeld w (placedAll cs)) (day : DayHeld w (placedAll qs)) where
     given-needs : (k d : ℕ) → k < 2 → d < days w → need (needs w d) k ≤ onDuty w (atDuty w given k d)
-    given-needs zero d h l = alike-need 0 d (atNight w (placedAll ps) d) (given-night d l) (night .nights d l) (night .highs d l)
+    given-needs zero d h l = alike-need 0 d (atNight w (placedAll cs) d) (given-night d l) (night .nights d l) (night .highs d l)
     given-needs (suc zero) d h l = alike-need 1 d (atDay w (placedAll qs) d) (given-day d l) (day .worked d l) (day .highs d l)
     given-needs (suc (suc k)) d h l = absurd (omega arith)
 
     given-lows : (k d g : ℕ) → k < 2 → d < days w → g < groups w → low (needs w d) k g ≤ members w (atDuty w given k d) g
-    given-lows zero d g h l = alike-low 0 d (atNight w (placedAll ps) d) (given-night d l) (night .nights d l) (night .highs d l) g
+    given-lows zero d g h l = alike-low 0 d (atNight w (placedAll cs) d) (given-night d l) (night .nights d l) (night .highs d l) g
     given-lows (suc zero) d g h l = alike-low 1 d (atDay w (placedAll qs) d) (given-day d l) (day .worked d l) (day .highs d l) g
     given-lows (suc (suc k)) d g h l = absurd (omega arith)
 
     given-highs : (k d g : ℕ) → k < 2 → d < days w → g < groups w → members w (atDuty w given k d) g ≤ high (needs w d) k g
-    given-highs zero d g h l = alike-high 0 d (atNight w (placedAll ps) d) (given-night d l) (night .nights d l) (night .highs d l) g
+    given-highs zero d g h l = alike-high 0 d (atNight w (placedAll cs) d) (given-night d l) (night .nights d l) (night .highs d l) g
     given-highs (suc zero) d g h l = alike-high 1 d (atDay w (placedAll qs) d) (given-day d l) (day .worked d l) (day .highs d l) g
     given-highs (suc (suc k)) d g h l = absurd (omega arith)
 
-    pub given-holds : Holds w (letters w ps qs (nurses w))
+    pub given-holds : Holds w (lettersBy w cs qs)
     unfolding given
     given-holds = record { rows = given-follows; needs-met = given-needs; lows-met = given-lows; highs-met = given-highs }
 
-    pub given-yes : holds w (letters w ps qs (nurses w)) ≡ true
-    given-yes = holds-complete w (letters w ps qs (nurses w)) (letters-length w ps qs (nurses w)) given-holds
+    pub given-yes : pairCount w < 2 ^ 32 → holds w (lettersBy w cs qs) ≡ true
+    given-yes few = holds-complete w (lettersBy w cs qs) few (letters-length w (daysIn cs) (daysIn qs) (nurses w)) given-holds
 
 -- A day advance that leaves penalty zero, over nights at penalty zero, gives out a roster of m times n letters of the five, and the check says yes to it.
-pub record Given (w : List ℕ) (ps qs : ℕ → ℕ) : Type 0 where
-  pub long : length (letters w ps qs (nurses w)) ≡ nurses w * days w
-  pub placed : misplaced (nurses w * days w) (letters w ps qs (nurses w)) ≡ none
-  pub yes-said : holds w (letters w ps qs (nurses w)) ≡ true
+pub record Given (w : List ℕ) (cs qs : ℕ → ℕ) : Type 0 where
+  pub long : length (lettersBy w cs qs) ≡ nurses w * days w
+  pub placed : misplaced (nurses w * days w) (lettersBy w cs qs) ≡ none
+  pub yes-said : holds w (lettersBy w cs qs) ≡ true
 
-pub given-at-zero : (w : List ℕ) (ps qs : ℕ → ℕ) → Accepted w → Patterns w ps qs
-    → nightPenalty w (placedAll ps) ≡ 0 → dayPenalty w (placedAll qs) ≡ 0 → Given w ps qs
-given-at-zero w ps qs a h n d = record {
-  long = letters-length w ps qs (nurses w);
-  placed = letters-placed w ps qs;
-  yes-said = given-yes w ps qs h (night-zero w (placedAll ps) a n) (day-zero w (placedAll qs) a d);
+pub given-at-zero : (w : List ℕ) (cs qs : ℕ → ℕ) → Accepted w → Patterns w cs qs
+    → nightPenalty w (placedAll cs) ≡ 0 → dayPenalty w (placedAll qs) ≡ 0 → Given w cs qs
+given-at-zero w cs qs a h n d = record {
+  long = letters-length w (daysIn cs) (daysIn qs) (nurses w);
+  placed = letters-placed w (daysIn cs) (daysIn qs);
+  yes-said = given-yes w cs qs h (night-zero w (placedAll cs) a n) (day-zero w (placedAll qs) a d) (omega (arith, a .pairs-most));
 }

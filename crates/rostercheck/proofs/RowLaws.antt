@@ -13,11 +13,13 @@ use lib.Seq.{length-take-le, getD-take, getD-drop, ext-getD}
 use Rattle.fields.specs.Sizes.{dayPlaces}
 use Rattle.numbers.specs.Range.{upFrom, all}
 use Rattle.numbers.specs.Digits.{has}
+use Rattle.numbers.specs.Patterns.{daysOf, pairOf}
 use Rattle.numbers.proofs.RangeLaws.{and-parts, range-all, range-each, all-more, all-stop, all-end}
 use Rattle.numbers.proofs.DigitLaws.{number-lt, number-zero, number-suc}
 use Rattle.numbers.proofs.SetLaws.{number-is}
 use Rattle.fields.specs.Fields.{days, block, markOn}
 use Rattle.rows.specs.Rows.{started, rowState, availableOn, dutyOn}
+use Rattle.rows.specs.Pairs.{inPair}
 use Rattle.days.specs.Days.{choice, dayRule, dayRuleOf}
 use Rattle.days.proofs.SheetLaws.{choice-available}
 use Rattle.letters.specs.Letters.{letter, rowLettersOf, isLetter}
@@ -41,9 +43,10 @@ worked-letter b p q d h = day-letter (markOn b (suc d)) (rowState b p d) (has p 
 
 -- ---- what a day pattern over her nights is
 
-pub worked-available : (w : List ℕ) (i p q d : ℕ) → dayRuleOf w i p q ≡ true → d < days w → has q d ≡ true → availableOn (block w i) p (suc d) ≡ true
+pub worked-available : (w : List ℕ) (i c q d : ℕ) → dayRuleOf w i c q ≡ true → d < days w → has q d ≡ true → availableOn (block w i) (daysOf c) (suc d) ≡ true
 unfolding dayRule
-worked-available w i p q d e h k = choice-available (block w i) (days w) p q d (and-parts (choice (block w i) (days w) p q) _ e .0) h k
+worked-available w i c q d e h k =
+    choice-available (block w i) (days w) (daysOf c) (inPair w (pairOf c)) q d (and-parts (choice (block w i) (days w) (daysOf c) (inPair w (pairOf c)) q) _ e .0) h k
 
 -- ---- a row of a roster
 

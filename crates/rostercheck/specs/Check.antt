@@ -6,7 +6,8 @@ use Prim.Native.Nat.{ℕ, zero, suc, _+_, _*_, _≤_, _<_}
 use lib.Dec.{eqb}
 use lib.ListN.{getD, take, drop}
 use Rattle.fields.specs.Fields.{nurses, days, groups, needs, need, low, high}
-use Rattle.nights.specs.Hers.{hersOf}
+use Rattle.numbers.specs.Patterns.{daysOf}
+use Rattle.nights.specs.Own.{ownPattern}
 use Rattle.days.specs.Days.{dayRuleOf}
 use Rattle.penalty.specs.Penalty.{onDuty, members}
 use Rattle.letters.specs.Letters.{letter, rowLetters}
@@ -17,13 +18,13 @@ use Rattle.letters.specs.Letters.{letter, rowLetters}
 abbrev pub rowOf : List ℕ → List ℕ → ℕ → List ℕ
 rowOf w roster i = take (days w) (drop (i * days w) roster)
 
--- her row follows from patterns: a night pattern of hers, and a day pattern of hers over it
+-- her row follows from patterns: one of hers, a night pattern and a pair, and a day pattern of hers over it
 pub record Follows (w roster : List ℕ) (i : ℕ) : Type 0 where
-  pub nights : ℕ
+  pub pattern : ℕ
   pub days : ℕ
-  pub nights-hers : hersOf w i nights ≡ true
-  pub days-hers : dayRuleOf w i nights days ≡ true
-  pub row : rowOf w roster i ≡ rowLetters w i nights days
+  pub pattern-hers : ownPattern w i pattern ≡ true
+  pub days-hers : dayRuleOf w i pattern days ≡ true
+  pub row : rowOf w roster i ≡ rowLetters w i (daysOf pattern) days
 
 -- on N days by night (k 0), on `-` days by day (k 1)
 abbrev pub dutyLetter : ℕ → ℕ

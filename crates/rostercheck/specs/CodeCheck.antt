@@ -4,10 +4,12 @@ use mathlib.Core.List.{List}
 use Prim.Native.Nat.{ℕ, suc, _+_, _*_}
 use lib.Dec.{eqb, leb}
 use lib.ListN.{getD}
-use Rattle.numbers.specs.Range.{upFrom, all}
+use Rattle.numbers.specs.Range.{upFrom, all, anyOf}
+use Rattle.numbers.specs.Patterns.{pattern}
 use Rattle.numbers.specs.Digits.{numberOf}
 use Rattle.fields.specs.Fields.{nurses, days, groups, block, needs, need, low, high}
 use Rattle.rows.specs.Rows.{dutyOn}
+use Rattle.rows.specs.Pairs.{pairNumbers, pairFits}
 use Rattle.nights.specs.Hers.{hersOf}
 use Rattle.days.specs.Days.{dayRuleOf}
 use Rattle.penalty.specs.Penalty.{onDuty, members}
@@ -26,11 +28,15 @@ lettersAt w roster i c = lettersIn roster (i * days w) c (days w)
 unfoldable pub sameRow : List ℕ → ℕ → List ℕ → ℕ → ℕ → ℕ → Bool
 sameRow b n roster at p q = all (λ d. eqb (getD roster (at + d) 0) (letter (dutyOn b p q (suc d)))) (upFrom 0 n)
 
+-- with pair k the night pattern p and the day pattern q are hers, as far as the pair goes
+abbrev pub pairHolds : List ℕ → ℕ → ℕ → ℕ → ℕ → Bool
+pairHolds w i p q k = pairFits w i p k && dayRuleOf w i (pattern p k) q
+
 unfoldable pub rowHolds : List ℕ → List ℕ → ℕ → Bool
 rowHolds w roster i =
     let p = lettersAt w roster i (letter 2) in
     let q = lettersAt w roster i (letter 1) in
-    hersOf w i p && (dayRuleOf w i p q && sameRow (block w i) (days w) roster (i * days w) p q)
+    hersOf w i p && (anyOf (pairHolds w i p q) (pairNumbers w) && sameRow (block w i) (days w) roster (i * days w) p q)
 
 unfoldable pub rowsHold : List ℕ → List ℕ → Bool
 rowsHold w roster = all (rowHolds w roster) (upFrom 0 (nurses w))

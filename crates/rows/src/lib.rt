@@ -1,4 +1,6 @@
 // A nurse's row, day by day: its state, what a mark allows, availability, and the duty.
+pub mod pairs;
+
 use fields::nurse;
 use fields::sizes::DAYS;
 ghost use mathlib.Core.Path.{_≡_};

@@ -4,4 +4,5 @@ pub mod StoredLaws
 pub mod AdvanceLaws
 pub mod QuestionLaws
 pub mod SoundLaws
+pub mod TryLaws
 pub mod SeekLaws

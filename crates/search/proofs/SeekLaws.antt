@@ -2,35 +2,37 @@
 use Prim.Native.Nat.{ℕ, suc, _+_, _-_, _*_, _^_, _≤_, _<_}
 use mathlib.Core.Path.{_≡_, refl, sym, ap, ap₂, _∙_, subst, fun-ext}
 use mathlib.Core.Bool.{Bool, true, false, not, _&&_}
-use mathlib.Core.List.{List}
+use mathlib.Core.List.{List, map}
 use native.Mathlib.Omega.{arith}
 use native.Mathlib.Nat.{add-zero}
+use lib.Bits.{bitAnd}
 use lib.Dec.{eqb}
 use lib.Pow.{pow-mono}
-use lib.ListN.{length, getD, take}
+use lib.ListN.{length, getD}
 use borrow.Author.Tests.{lt-ltb}
 use Rattle.fields.specs.Sizes.{nursePlaces, dayPlaces, tabuMost}
 use Rattle.numbers.specs.Sum.{countTo, oneIf, Is}
-use Rattle.numbers.specs.Digits.{numberOf}
+use Rattle.numbers.specs.Digits.{has, numberOf}
+use Rattle.numbers.specs.Patterns.{pattern, unpaired, daysOf, pairOf}
 use Rattle.numbers.proofs.SumLaws.{sum-ext}
 use Rattle.numbers.proofs.DigitLaws.{number-lt, number-suc}
 use Rattle.fields.specs.Fields.{Accepted, Block, nurses, days, tabu, block, markOn}
-use Rattle.nursemasks.specs.declared.masks.Masks.{Masks}
 use Rattle.fields.specs.Rules.{rulesOf}
-use Rattle.nights.specs.Nights.{commonOf, inCommon}
-use Rattle.nights.specs.Hers.{hersOf}
-use Rattle.nursemasks.specs.CodeMasks.{masksOf, Masked, AvailableDays}
 use Rattle.fields.proofs.RuleLaws.{block-as}
-use Rattle.nights.proofs.ListLaws.{common-below, common-keeps}
+use Rattle.rows.specs.Pairs.{inPair}
+use Rattle.nights.specs.Own.{ownPattern, withPairs}
+use Rattle.nursemasks.specs.declared.masks.Masks.{Masks}
+use Rattle.nursemasks.specs.declared.pairs.Pairs.{Pairs}
+use Rattle.nursemasks.specs.CodeMasks.{masksOf, Masked, AvailableDays}
+use Rattle.nursemasks.specs.CodePairs.{PairsOf}
 use Rattle.penalty.specs.declared.Penalty.{Penalty}
 use Rattle.penalty.specs.declared.columns.Columns.{Columns}
-use Rattle.trials.specs.declared.costs.Costs.{Costs}
 use Rattle.history.specs.declared.Search.{Search}
 use Rattle.history.specs.declared.Search.the-variants.{Nights, Days}
 use Rattle.history.specs.Slot.{Slot, isNone, exchanged}
 use Rattle.penalty.specs.Penalty.{partsOf, total, rest, unplacedIn, startsIn, workedIn, partsIn, nightPenalty, dayPenalty}
-use Rattle.penalty.specs.CodeColumns.{Shown, Shows, Empty, NursePut}
-use Rattle.trials.specs.CodeCosts.{SmallCosts, Chunks, ChunksSmall, trialOf}
+use Rattle.penalty.specs.CodeColumns.{Shown, Shows, Empty, NursePut, FreeUnder}
+use Rattle.trials.specs.CodeCosts.{ChunksSmall}
 use Rattle.penalty.proofs.ColumnLaws.{night-none, night-more, day-none, day-more}
 use Rattle.penalty.proofs.BoundLaws.{night-split, day-split, unplaced-after}
 use Rattle.history.specs.Phase.{Phase}
@@ -38,12 +40,13 @@ use Rattle.history.specs.Record.{Record, mayTake}
 use Rattle.removals.specs.Removals.{slot}
 use Rattle.search.specs.Stored.{slotAt, view, viewOf}
 use Rattle.search.proofs.Fits.{Fits}
-use Rattle.best.specs.CodeBest.{overList, costIn, bestOver, considered, improves}
+use Rattle.best.specs.CodeBest.{overList, costIn, bestOver}
 use Rattle.search.specs.CodeSteps.{exchangedIn, steppedOf}
 use Rattle.search.specs.CodeSeek.{costOf, patternFor, Agree, stretch, triedBy, Lists, NurseNeeds, NightsNeeds, Seeks}
-use Rattle.trials.specs.CodeTables.{tableTrial, DayTrials, NightTrials, TableTrials, Tables}
+use Rattle.trials.specs.CodeTables.{DayTrials, NightTrials, TableTrials, Tables}
 use Rattle.search.proofs.AdvanceLaws.{takes-none, takes-some, takes-nurse}
-use Rattle.best.proofs.BestLaws.{turn-barred, turn-worse, turn-considered, over-filter, nurses-none, nurses-turn}
+use Rattle.search.proofs.TryLaws.{free-of}
+use Rattle.best.proofs.BestLaws.{over-filter, nurses-none, nurses-turn}
 use Rattle.search.specs.declared.Record.{Record as Stored}
 use Rattle.best.specs.declared.Best.{Best}
 use Rattle.best.specs.declared.Best.the-variants.{Nothing, Exchange}
@@ -78,32 +81,39 @@ module _ (w : List ℕ) (r : Stored) (i : ℕ) where
   pattern-placed Days e = rw e
   pattern-placed Nights e = rw e
 
-  pub pattern-days : {p n : ℕ} {b : List ℕ} (which : Search) → getD (r .placed) i false ≡ false → which ≡ Days → n ≡ days w → b ≡ block w i
-      → p ≡ numberOf (λ d. eqb (markOn b (suc d)) 2) n → p ≡ patternFor which w i (slotAt r i)
-  pattern-days which e d x y q = rw (d, e) (q ∙ rw (x, y))
+  pub pattern-days : {p s n : ℕ} {b : List ℕ} (which : Search) → getD (r .placed) i false ≡ false → which ≡ Days → n ≡ days w → b ≡ block w i
+      → s ≡ numberOf (λ d. eqb (markOn b (suc d)) 2) n → p ≡ pattern s 0 → p ≡ patternFor which w i (slotAt r i)
+  pattern-days which e d x y q f = rw (d, e) (f ∙ ap unpaired (q ∙ rw (x, y)))
 
-  pub pattern-nights : {p n : ℕ} {b : List ℕ} (which : Search) → getD (r .placed) i false ≡ false → which ≡ Nights → n ≡ days w → b ≡ block w i
-      → p ≡ numberOf (λ d. eqb (markOn b (suc d)) 3) n → p ≡ patternFor which w i (slotAt r i)
-  pattern-nights which e d x y q = rw (d, e) (q ∙ rw (x, y))
+  pub pattern-nights : {p s n : ℕ} {b : List ℕ} (which : Search) → getD (r .placed) i false ≡ false → which ≡ Nights → n ≡ days w → b ≡ block w i
+      → s ≡ numberOf (λ d. eqb (markOn b (suc d)) 3) n → p ≡ pattern s 0 → p ≡ patternFor which w i (slotAt r i)
+  pattern-nights which e d x y q f = rw (d, e) (f ∙ ap unpaired (q ∙ rw (x, y)))
+
+-- the days on which nurse i is available under her pattern, as the masks and the pair's days say
+pub free-under : (w : List ℕ) (i c : ℕ) {m : Masks} {s k free off : ℕ} → Accepted w → m ≡ masksOf (rulesOf w) (days w) (block w i) → s ≡ daysOf c → k ≡ pairOf c
+    → ((n : ℕ) (b : List ℕ) → n ≤ dayPlaces → m ≡ masksOf (rulesOf w) n b → AvailableDays b n s free) → off < 2 ^ 32
+    → ((d : ℕ) → has off d ≡ inPair w k (suc d)) → FreeUnder w i c (bitAnd free ((2 ^ 32 - 1) - off))
+free-under w i c {free = free} ok em es ek av small each =
+    free-of w i c (ok .days-most) (subst (λ (x : ℕ). AvailableDays (block w i) (days w) x free) es (av (days w) (block w i) (ok .days-most) em)) small
+    (λ d. each d ∙ ap (λ (x : ℕ). inPair w x (suc d)) ek)
 
 -- ---- columns
 
 module _ (w : List ℕ) (r : Stored) (i : ℕ) (cols : Columns) (slots : ℕ → Slot) where
-  pub row-day : (which : Search) {p n : ℕ} {c : Columns} → which ≡ Days → n ≡ days w → p ≡ patternFor which w i (slotAt r i) → NursePut cols c n i 0 p
+  pub row-day : (which : Search) {p s n : ℕ} {c : Columns} → which ≡ Days → n ≡ days w → p ≡ patternFor which w i (slotAt r i) → s ≡ daysOf p → NursePut cols c n i 0 s
       → slots i ≡ slotAt r i → Shown which w slots i cols → Shown which w slots (i + 1) c
-  row-day which {p} {n} {c} d e q x a s =
+  row-day which {p} {s} {n} {c} d e q z x a f =
+      let as-slot = q ∙ ap (λ (b : Search). patternFor b w i (slotAt r i)) d ∙ ap (workedIn w i) (sym a) in
       subst (λ (b : Search). Shown b w slots (i + 1) c) (sym d)
-      (day-more w slots i cols c (subst (λ (b : Search). Shown b w slots i cols) d s) (q ∙ ap (λ (b : Search). patternFor b w i (slotAt r i)) d ∙ ap (workedIn w i) (sym a))
-      (subst (λ (k : ℕ). NursePut cols c k i 0 p) e x))
+      (day-more w slots i cols c (subst (λ (b : Search). Shown b w slots i cols) d f) (z ∙ ap daysOf as-slot) (subst (λ (k : ℕ). NursePut cols c k i 0 s) e x))
 
-  pub row-night : (which : Search) {p n f : ℕ} {c : Columns} {m : Masks} → which ≡ Nights → n ≡ days w → days w ≤ dayPlaces → p ≡ patternFor which w i (slotAt r i)
-      → m ≡ masksOf (rulesOf w) (days w) (block w i)
-      → ((k : ℕ) (b : List ℕ) → k ≤ dayPlaces → m ≡ masksOf (rulesOf w) k b → AvailableDays b k p f)
-      → NursePut cols c n i p f → slots i ≡ slotAt r i → Shown which w slots i cols → Shown which w slots (i + 1) c
-  row-night which {p} {n} {f} {c} d e l q em av x a s =
+  pub row-night : (which : Search) {p s n free : ℕ} {c : Columns} → which ≡ Nights → n ≡ days w → p ≡ patternFor which w i (slotAt r i) → s ≡ daysOf p
+      → FreeUnder w i p free → NursePut cols c n i s free → slots i ≡ slotAt r i → Shown which w slots i cols → Shown which w slots (i + 1) c
+  row-night which {p} {s} {n} {free} {c} d e q z g x a f =
+      let as-slot : p ≡ startsIn w i (slots i) = q ∙ ap (λ (b : Search). patternFor b w i (slotAt r i)) d ∙ ap (startsIn w i) (sym a) in
       subst (λ (b : Search). Shown b w slots (i + 1) c) (sym d)
-      (night-more w slots i cols c (subst (λ (b : Search). Shown b w slots i cols) d s) (q ∙ ap (λ (b : Search). patternFor b w i (slotAt r i)) d ∙ ap (startsIn w i) (sym a))
-      (av (days w) (block w i) l em .each) (subst (λ (k : ℕ). NursePut cols c k i p f) e x))
+      (night-more w slots i cols c (subst (λ (b : Search). Shown b w slots i cols) d f) (z ∙ ap daysOf as-slot)
+      (subst (λ (y : ℕ). FreeUnder w i y free) as-slot g) (subst (λ (k : ℕ). NursePut cols c k i s free) e x))
 
 pub columns-end : (which : Search) (w : List ℕ) (slots : ℕ → Slot) (c : Columns) {i m : ℕ} → Shown which w slots i c → i ≤ m → m ≤ i → m ≡ nurses w → Shown which w slots (nurses w) c
 columns-end which w slots c {i} {m} s l h e = let q : i ≡ nurses w = omega arith in subst (λ (k : ℕ). Shown which w slots k c) q s
@@ -142,42 +152,6 @@ module _ (which : Search) (w : List ℕ) (r : Stored) (slots : ℕ → Slot) (co
       → ((l : ℕ → Slot) → Shows which w l cols → u ≡ unplacedIn w l → partsOf y ≡ partsIn which w l) → x ≡ costOf which w slots
   penalty-is f g = f ∙ ap total (g slots (s slots a) counted) ∙ cost-total which w slots
 
--- ---- a nurse's trials
-
--- each pattern of the common list is one of the month's, and keeps the rule
-pub common-at : (w list : List ℕ) (k : ℕ) → list ≡ commonOf w → k < length list
-    → (getD list k 0 < 2 ^ days w) × (inCommon (rulesOf w) (days w) (getD list k 0) ≡ true)
-common-at w list k e l =
-    let h : k < length (commonOf w) = subst (λ (xs : List ℕ). k < length xs) e l in
-    subst (λ (xs : List ℕ). (getD xs k 0 < 2 ^ days w) × (inCommon (rulesOf w) (days w) (getD xs k 0) ≡ true)) (sym e)
-    (common-below (rulesOf w) (days w) k h, common-keeps (rulesOf w) (days w) k h)
-
--- what a trial by her table costs, with the unplaced nurses besides her
-pub trial-costs : {t : List ℕ} (nights available : ℕ) {x r : ℕ} (others : ℕ) → tableTrial t nights available x
-    → ((c : Costs) (n : ℕ) → SmallCosts c n → Chunks c t → r ≡ trialOf c n nights available) → r + 10000000 * others ≡ x + 10000000 * others
-trial-costs nights available others y f = ap (λ (z : ℕ). z + 10000000 * others) (f (y .0) (y .1) (y .2) (y .3) ∙ y .4)
-
-pub night-costs : {w list : List ℕ} {masks : Masks} {t : List ℕ} {others tl i : ℕ} (n : NightsNeeds w list masks t others tl i) (p : ℕ) {cost : ℕ → ℕ} {available r : ℕ}
-    → NightTrials w i t cost → ((k : ℕ) (b : List ℕ) → k ≤ dayPlaces → masks ≡ masksOf (rulesOf w) k b → AvailableDays b k p available)
-    → ((c : Costs) (k : ℕ) → SmallCosts c k → Chunks c t → r ≡ trialOf c k p available) → r + 10000000 * others ≡ cost p + 10000000 * others
-night-costs {w} {others = others} {i = i} n p {available = available} y av f =
-    trial-costs p available others (y .started p available (av (days w) (block w i) (n .ward .days-most) (n .masks-are) .each)) f
-
-module _ (hers may : ℕ → Bool) (cost : ℕ → ℕ) (i : ℕ) (b₀ : Best) (ps : List ℕ) (k : ℕ) {b : Best} (l : k < length ps)
-    (e : b ≡ overList (λ p. hers p && may p) cost i b₀ (take k ps)) where
-  -- a pattern that is not hers
-  pub not-hers : {h : Bool} → h ≡ hers (getD ps k 0) → h ≡ false → b ≡ overList (λ p. hers p && may p) cost i b₀ (take (k + 1) ps)
-  not-hers q f = turn-barred (λ p. hers p && may p) cost i b₀ ps k l e (sym (rw (sym q ∙ f))) refl
-
-  -- one that is, and does not improve
-  pub no-better : {c : ℕ} {t : Bool} → c ≡ cost (getD ps k 0) → t ≡ improves b c → t ≡ false → b ≡ overList (λ p. hers p && may p) cost i b₀ (take (k + 1) ps)
-  no-better q s f = turn-worse (λ p. hers p && may p) cost i b₀ ps k l e q s f
-
-  -- one that is, considered
-  pub hers-considered : {h : Bool} {c : ℕ} {b′ b″ : Best} → h ≡ hers (getD ps k 0) → h ≡ true → c ≡ cost (getD ps k 0)
-      → b″ ≡ b′ → b′ ≡ considered may (λ q. c) i b (getD ps k 0) → b″ ≡ overList (λ p. hers p && may p) cost i b₀ (take (k + 1) ps)
-  hers-considered r y q j s = j ∙ turn-considered (λ p. hers p && may p) cost i b₀ ps k l e q (rw (sym r ∙ y) s)
-
 -- ---- the unplaced besides her
 
 pub others-placed : {b : Bool} (u a : ℕ) → b ≡ true → u ≡ a + oneIf (not b) → u ≡ a
@@ -209,16 +183,17 @@ pub stretch-ends : {which : Search} {w lists ends : List ℕ} {cols : Columns} {
     → which ≡ Days → getD ends (i + 1) 0 ≤ length lists
 stretch-ends {i = i} n d = n .listed .finishes d i (n .nurse)
 
-pub nights-need : {which : Search} {w lists ends : List ℕ} {cols : Columns} {u : ℕ} {r : Stored} {i tl : ℕ} {t : List ℕ} {others : ℕ} {masks : Masks}
+pub nights-need : {which : Search} {w lists ends : List ℕ} {cols : Columns} {u : ℕ} {r : Stored} {i tl : ℕ} {t : List ℕ} {others : ℕ} {masks : Masks} {pairs : Pairs}
     → NurseNeeds which w lists ends cols u r i → NurseTable which w cols u r i tl t others → which ≡ Nights → Masked masks
-    → masks ≡ masksOf (rulesOf w) (days w) (block w i) → NightsNeeds w lists masks t others tl i
-nights-need n y d m e =
+    → masks ≡ masksOf (rulesOf w) (days w) (block w i) → PairsOf w i pairs → NightsNeeds w lists masks pairs t others tl i
+nights-need n y d m e x =
     record {
       ward = n .ward;
       nurse = n .nurse;
       common = n .listed .common-list d;
       masked = m;
       masks-are = e;
+      pairs-are = x;
       small = y .small;
       others-most = y .others-most;
       tabu-most = y .tabu-most;
@@ -280,23 +255,23 @@ module _ {which : Search} {w lists ends : List ℕ} {cols : Columns} {u : ℕ} {
 
   module _ (held : Best) {res : Best} where
     pub nurse-days : which ≡ Days
-        → ((m : ℕ) (cost : ℕ → ℕ) → i < m → DayTrials t cost → res ≡ overList (mayTake (view m tl r) i) (λ p. cost p + 10000000 * others) i held (stretch lists ends i))
+        → ((m : ℕ) (cost : ℕ → ℕ) → i < m → DayTrials t cost → res ≡ overList (mayTake (view m tl r) i) (λ p. cost p + 10000000 * others) i held (map unpaired (stretch lists ends i)))
         → res ≡ overList may (costIn P (viewOf P r) i) i held (P .patterns i)
     nurse-days d g =
         g (P .nurses) trial inside (subst (λ (b : Search). TableTrials b w i t trial) d trials)
-        ∙ ap (λ (v : Record). overList (mayTake v i) (λ p. trial p + 10000000 * others) i held (stretch lists ends i)) same-view
-        ∙ ap (λ (c : ℕ → ℕ). overList may c i held (stretch lists ends i)) costs
+        ∙ ap (λ (v : Record). overList (mayTake v i) (λ p. trial p + 10000000 * others) i held (map unpaired (stretch lists ends i))) same-view
+        ∙ ap (λ (c : ℕ → ℕ). overList may c i held (map unpaired (stretch lists ends i))) costs
         ∙ ap (overList may (costIn P (viewOf P r) i) i held) (sym (s .patterns-are i (n .nurse) ∙ ap (λ (b : Search). triedBy b w lists ends i) d))
 
     pub nurse-nights : which ≡ Nights
         → ((m : ℕ) (cost : ℕ → ℕ) → i < m → NightTrials w i t cost
-        → res ≡ overList (λ p. hersOf w i p && mayTake (view m tl r) i p) (λ p. cost p + 10000000 * others) i held lists)
+        → res ≡ overList (λ c. ownPattern w i c && mayTake (view m tl r) i c) (λ c. cost c + 10000000 * others) i held (withPairs w lists))
         → res ≡ overList may (costIn P (viewOf P r) i) i held (P .patterns i)
     nurse-nights d g =
         g (P .nurses) trial inside (subst (λ (b : Search). TableTrials b w i t trial) d trials)
-        ∙ ap (λ (v : Record). overList (λ p. hersOf w i p && mayTake v i p) (λ p. trial p + 10000000 * others) i held lists) same-view
-        ∙ ap (λ (c : ℕ → ℕ). overList (λ p. hersOf w i p && may p) c i held lists) costs
-        ∙ sym (over-filter (hersOf w i) may (costIn P (viewOf P r) i) i held lists)
+        ∙ ap (λ (v : Record). overList (λ c. ownPattern w i c && mayTake v i c) (λ c. trial c + 10000000 * others) i held (withPairs w lists)) same-view
+        ∙ ap (λ (f : ℕ → ℕ). overList (λ c. ownPattern w i c && may c) f i held (withPairs w lists)) costs
+        ∙ sym (over-filter (ownPattern w i) may (costIn P (viewOf P r) i) i held (withPairs w lists))
         ∙ ap (overList may (costIn P (viewOf P r) i) i held) (sym (s .patterns-are i (n .nurse) ∙ ap (λ (b : Search). triedBy b w lists ends i) d))
 
 -- the loop over the nurses

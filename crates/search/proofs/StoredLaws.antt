@@ -62,7 +62,7 @@ getD-replicate d zero j = refl
 getD-replicate d (suc n) zero = refl
 getD-replicate d (suc n) (suc j) = getD-replicate d n j
 
-getD-map : {A B : Type 0} (f : A → B) (d : A) (e : B) (xs : List A) (j : ℕ) → j < length xs → getD (map f xs) j e ≡ f (getD xs j d)
+pub getD-map : {A B : Type 0} (f : A → B) (d : A) (e : B) (xs : List A) (j : ℕ) → j < length xs → getD (map f xs) j e ≡ f (getD xs j d)
 getD-map f d e [] j l = absurd (not-suc-le-zero l)
 getD-map f d e (x ∷ xs) zero l = refl
 getD-map f d e (x ∷ xs) (suc j) l = getD-map f d e xs j (le-of-suc-le-suc l)

@@ -2,16 +2,20 @@
 use Prim.Native.Nat.{ℕ, _+_, _-_, _≤_, _<_}
 use mathlib.Core.Path.{_≡_}
 use mathlib.Core.Bool.{true, false, not}
-use mathlib.Core.List.{List, []}
+use mathlib.Core.List.{List, [], map}
 use lib.ListN.{length, getD, take, drop}
 use Rattle.fields.specs.Sizes.{nursePlaces, tabuMost}
 use Rattle.numbers.specs.Range.{filter, Ascending}
 use Rattle.numbers.specs.Sum.{countTo, Is}
+use Rattle.numbers.specs.Patterns.{unpaired}
 use Rattle.fields.specs.Fields.{Accepted, nurses, days, tabu, block}
 use Rattle.fields.specs.Rules.{rulesOf}
 use Rattle.nights.specs.Nights.{commonOf}
 use Rattle.nights.specs.Hers.{hersOf}
-use Rattle.nursemasks.specs.CodeMasks.{masksOf, Masked}
+use Rattle.nights.specs.Own.{ownPattern, withPairs}
+use Rattle.nursemasks.specs.CodeMasks.{masksOf, Masked, AvailableDays}
+use Rattle.nursemasks.specs.CodePairs.{PairsOf}
+use Rattle.nursemasks.specs.declared.pairs.Pairs.{Pairs}
 use Rattle.nursemasks.specs.declared.masks.Masks.{Masks}
 use Rattle.history.specs.declared.Search.{Search}
 use Rattle.history.specs.declared.Search.the-variants.{Nights, Days}
@@ -32,7 +36,7 @@ abbrev pub costOf : Search → List ℕ → (ℕ → Slot) → ℕ
 costOf Days w slots = dayPenalty w slots
 costOf Nights w slots = nightPenalty w slots
 
--- the days that a slot counts on: her pattern, or her marks while she is unplaced
+-- the pattern that a slot counts with: hers, or her marks while she is unplaced
 abbrev pub patternFor : Search → List ℕ → ℕ → Slot → ℕ
 patternFor Days w i s = workedIn w i s
 patternFor Nights w i s = startsIn w i s
@@ -45,10 +49,10 @@ Agree w r slots = (i : ℕ) → i < nurses w → slots i ≡ slotAt r i
 abbrev pub stretch : List ℕ → List ℕ → ℕ → List ℕ
 stretch lists ends i = take (getD ends (i + 1) 0 - getD ends i 0) (drop (getD ends i 0) lists)
 
--- what nurse i tries: by day her stretch, by night what is hers of the common list
+-- what nurse i tries: by day her stretch, by night what is hers of the common list with every pair
 abbrev pub triedBy : Search → List ℕ → List ℕ → List ℕ → ℕ → List ℕ
-triedBy Days w lists ends i = stretch lists ends i
-triedBy Nights w lists ends i = filter (hersOf w i) lists
+triedBy Days w lists ends i = map unpaired (stretch lists ends i)
+triedBy Nights w lists ends i = filter (ownPattern w i) (withPairs w lists)
 
 -- the lists as the loops over them need them
 pub record Lists (which : Search) (w lists ends : List ℕ) : Type 0 where
@@ -64,13 +68,22 @@ pub record NurseNeeds (which : Search) (w lists ends : List ℕ) (cols : Columns
   pub counted : Is unplaced (countTo (nurses w) (λ j. not (getD (r .placed) j false))) nursePlaces
   pub shown : (slots : ℕ → Slot) → Agree w r slots → Shows which w slots cols
 
--- what the loop over the common list asks: nurse i's masks and her table
-pub record NightsNeeds (w list : List ℕ) (masks : Masks) (t : List ℕ) (others tl i : ℕ) : Type 0 where
+-- what the loop over pairs asks: nurse i's masks and pairs, and a night pattern of hers with the days on which it leaves her available
+pub record NightPair (w : List ℕ) (i : ℕ) (masks : Masks) (pairs : Pairs) (p free : ℕ) : Type 0 where
+  pub ward : Accepted w
+  pub masks-are : masks ≡ masksOf (rulesOf w) (days w) (block w i)
+  pub pairs-are : PairsOf w i pairs
+  pub hers : hersOf w i p ≡ true
+  pub available : AvailableDays (block w i) (days w) p free
+
+-- what the loop over the common list asks: nurse i's masks, her pairs and her table
+pub record NightsNeeds (w list : List ℕ) (masks : Masks) (pairs : Pairs) (t : List ℕ) (others tl i : ℕ) : Type 0 where
   pub ward : Accepted w
   pub nurse : i < nurses w
   pub common : list ≡ commonOf w
   pub masked : Masked masks
   pub masks-are : masks ≡ masksOf (rulesOf w) (days w) (block w i)
+  pub pairs-are : PairsOf w i pairs
   pub small : ChunksSmall t
   pub others-most : others ≤ nursePlaces
   pub tabu-most : tl ≤ tabuMost

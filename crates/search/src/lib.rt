@@ -21,7 +21,7 @@ ghost use Rattle.search.specs.CodeSteps.{removalBy, exchangedIn, stepped
 // Everyone's pattern or none, the last TL removals, the last one first, and all steps so far.
 // The removals in use are as many as the steps, but not above TL.
 pub struct Record {
-    pub patterns: [u32; NURSES],
+    pub patterns: [u64; NURSES],
     pub placed: [bool; NURSES],
     pub removals: [Removal; REMOVALS],
     pub steps: u32,
@@ -65,7 +65,7 @@ impl Record {
     }
 
     // Whether the pattern is neither in use by the nurse nor given up by her in the last TL steps.
-    pub(crate) fn may_take(self, tl: usize, nurse: usize, pattern: u32) -> bool
+    pub(crate) fn may_take(self, tl: usize, nurse: usize, pattern: u64) -> bool
         requires { ⌜ (tl ≤ tabuMost) × (nurse < nursePlaces) ⌝ }
         ensures { λ r. ⌜ ((m : ℕ) → nurse < m → r ≡ mayTake (view m tl self) nurse pattern) ⌝ }
     {
@@ -101,7 +101,7 @@ impl Record {
     }
 
     // The record after a step that gives the nurse the pattern.
-    pub(crate) fn exchanged(self, tl: usize, nurse: usize, pattern: u32) -> Record
+    pub(crate) fn exchanged(self, tl: usize, nurse: usize, pattern: u64) -> Record
         requires { ⌜ (tl ≤ tabuMost) × (nurse < nursePlaces) × (self .steps < 1000000) ⌝ }
         ensures { λ r. ⌜ r ≡ exchangedIn tl self nurse pattern ⌝ }
     {

@@ -2,6 +2,7 @@
 use crate::Record;
 use fields::nurse;
 use history::Search;
+use numbers::pattern;
 use penalty::columns::Columns;
 ghost use mathlib.Core.Path.{_≡_};
 ghost use mathlib.Core.Bool.{false, not};
@@ -14,7 +15,7 @@ ghost use Rattle.numbers.specs.Digits.{numberOf};
 ghost use Rattle.fields.specs.Fields.{Accepted, Block, nurses, markOn};
 ghost use Rattle.history.specs.Slot.{Slot};
 ghost use Rattle.search.specs.Stored.{slotAt};
-ghost use Rattle.penalty.specs.CodeColumns.{Shown};
+ghost use Rattle.penalty.specs.CodeColumns.{Shown, FreeUnder};
 ghost use Rattle.search.specs.CodeSeek.{costOf, patternFor, Agree};
 
 // The days with this mark, as a set.
@@ -33,8 +34,8 @@ fn marked_days(b: &[u64], n: usize, mark: u64) -> u32
     set
 }
 
-// Nurse i's pattern, or while she is unplaced her marks 3 by night and her marks 2 by day.
-fn pattern_in(w: &[u64], rec: Record, i: usize, search: Search) -> u32
+// The pattern that nurse i counts with: hers, or while she is unplaced her marks 3 by night and her marks 2 by day, with no pair.
+fn pattern_in(w: &[u64], rec: Record, i: usize, search: Search) -> u64
     requires { ⌜ Accepted (now w) × (i < nurses (now w)) ⌝ }
     ensures { λ r. ⌜ r ≡ patternFor search (now (w .entry)) i (slotAt rec i) ⌝ }
 {
@@ -44,9 +45,19 @@ fn pattern_in(w: &[u64], rec: Record, i: usize, search: Search) -> u32
     let n = fields::days(w);
     let b = fields::block(w, i);
     match search {
-        Search::Nights => marked_days(b, n, 3),
-        Search::Days => marked_days(b, n, 2),
+        Search::Nights => pattern::of(marked_days(b, n, 3), 0),
+        Search::Days => pattern::of(marked_days(b, n, 2), 0),
     }
+}
+
+// The days on which nurse i is available under the pattern p.
+fn free_days(w: &[u64], i: usize, p: u64) -> u32
+    requires { ⌜ Accepted (now w) × (i < nurses (now w)) ⌝ }
+    ensures { λ r. ⌜ FreeUnder (now (w .entry)) i p r ⌝ }
+{
+    let masks = nursemasks::masks::masks_of(w, i);
+    let off = rows::pairs::pair_days(w, pattern::pair_of(p) as usize);
+    nursemasks::masks::available_days(masks, pattern::days_of(p)) & !off
 }
 
 // The columns of the nurses before i, with nurse i.
@@ -58,11 +69,10 @@ fn with_row(cols: Columns, w: &[u64], rec: Record, i: usize, search: Search) -> 
     let p = pattern_in(w, rec, i, search);
     match search {
         Search::Nights => {
-            let masks = nursemasks::masks::masks_of(w, i);
-            let available = nursemasks::masks::available_days(masks, p);
-            cols.with_nurse(n, i, p, available)
+            let free = free_days(w, i, p);
+            cols.with_nurse(n, i, pattern::days_of(p), free)
         }
-        Search::Days => cols.with_nurse(n, i, 0, p),
+        Search::Days => cols.with_nurse(n, i, 0, pattern::days_of(p)),
     }
 }
 

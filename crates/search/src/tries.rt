@@ -4,24 +4,31 @@ use crate::slots;
 use best::Best;
 use fields::sizes::ENDS;
 use history::Search;
+use numbers::pattern;
 use nursemasks::masks::Masks;
+use nursemasks::pairs;
+use nursemasks::pairs::Pairs;
 use penalty::Penalty;
 use penalty::columns::Columns;
 ghost use mathlib.Core.Path.{_≡_};
 ghost use mathlib.Core.Bool.{false, not, _&&_};
+ghost use mathlib.Core.List.{List, map};
 ghost use Prim.Native.Nat.{ℕ, _+_, _*_, _≤_, _<_};
 ghost use lib.ListN.{getD};
-ghost use Rattle.fields.specs.Sizes.{nursePlaces, tabuMost};
+ghost use Rattle.fields.specs.Sizes.{nursePlaces, tabuMost, pairMost};
 ghost use Rattle.numbers.specs.Sum.{oneIf};
-ghost use Rattle.fields.specs.Fields.{Accepted};
-ghost use Rattle.nights.specs.Hers.{hersOf};
+ghost use Rattle.fields.specs.Fields.{Accepted, pairCount};
+ghost use Rattle.nursemasks.specs.CodeMasks.{Masked};
+ghost use Rattle.numbers.specs.Patterns.{pattern, unpaired};
+ghost use Rattle.rows.specs.Pairs.{pairNumbers};
+ghost use Rattle.nights.specs.Own.{ownPattern, withPairs};
 ghost use Rattle.trials.specs.CodeCosts.{ChunksSmall};
 ghost use Rattle.trials.specs.CodeTables.{DayTrials, NightTrials};
 ghost use Rattle.history.specs.Phase.{Phase};
 ghost use Rattle.history.specs.Record.{mayTake};
 ghost use Rattle.search.specs.Stored.{view, viewOf};
 ghost use Rattle.best.specs.CodeBest.{considered, overList, costIn, bestOver};
-ghost use Rattle.search.specs.CodeSeek.{Lists, NurseNeeds, NightsNeeds, Seeks};
+ghost use Rattle.search.specs.CodeSeek.{Lists, NurseNeeds, NightPair, NightsNeeds, Seeks};
 
 // Which search it is, and by day where each nurse's stretch of the lists ends.
 pub struct Stretches {
@@ -31,7 +38,7 @@ pub struct Stretches {
 
 // The best with one exchange more, which counts if the nurse may take the pattern.
 // A loop asks `improves` first: few exchanges pass that, and only for those the removals are looked through.
-fn consider(best: Best, rec: Record, tl: usize, nurse: usize, pattern: u32, cost: u64) -> Best
+fn consider(best: Best, rec: Record, tl: usize, nurse: usize, pattern: u64, cost: u64) -> Best
     requires { ⌜ (tl ≤ tabuMost) × (nurse < nursePlaces) ⌝ }
     ensures { λ r. ⌜ ((m : ℕ) → nurse < m → r ≡ considered (mayTake (view m tl rec) nurse) (λ q. cost) nurse best pattern) ⌝ }
 {
@@ -59,24 +66,81 @@ fn over_days(
     held: Best,
 ) -> Best
     requires { ⌜ ChunksSmall (now t) × (others ≤ nursePlaces) × (tl ≤ tabuMost) × (i < nursePlaces) ⌝ }
-    ensures { λ r. ⌜ ((m : ℕ) (cost : ℕ → ℕ) → i < m → DayTrials (now (t .entry)) cost → r ≡ overList (mayTake (view m tl rec) i) (λ q. cost q + 10000000 * others) i held (now (part .entry))) ⌝ }
+    ensures { λ r. ⌜ ((m : ℕ) (cost : ℕ → ℕ) → i < m → DayTrials (now (t .entry)) cost → r ≡ overList (mayTake (view m tl rec) i) (λ q. cost q + 10000000 * others) i held (map unpaired (now (part .entry)))) ⌝ }
 {
     let mut best = held;
     for k in 0..part.len() {
         let q = part[k];
         let c = trials::chunks::chunk_trial(t, 0, q) + Penalty::UNPLACED * others;
         if best::improves(best, c) {
-            best = consider(best, rec, tl, i, q, c);
+            best = consider(best, rec, tl, i, pattern::of(q, 0), c);
         }
     }
     best
 }
 
-// The same by night, over what is hers of the common list.
+// The best of what is held and of the night pattern p with each pair of nurse i's that fits it; `free` are the days on which its nights leave her available.
+fn over_pairs(
+    masks: Masks,
+    pairs: Pairs,
+    t: &[u64; 704],
+    others: u64,
+    rec: Record,
+    tl: usize,
+    i: usize,
+    p: u32,
+    free: u32,
+    held: Best,
+) -> Best
+    requires { ⌜ Masked masks × (pairs .count ≤ pairMost) × ChunksSmall (now t) × (others ≤ nursePlaces) × (tl ≤ tabuMost) × (i < nursePlaces) ⌝ }
+    ensures { λ r. ⌜ ((w : List ℕ) (m : ℕ) (cost : ℕ → ℕ) → i < m → NightPair w i masks pairs p free → 1 ≤ pairCount w → NightTrials w i (now (t .entry)) cost → r ≡ overList (λ c. ownPattern w i c && mayTake (view m tl rec) i c) (λ c. cost c + 10000000 * others) i held (map (pattern p) (pairNumbers w))) ⌝ }
+{
+    let busy = nursemasks::masks::busy_days(masks, p);
+    let mut best = held;
+    for k in 0..pairs.count {
+        let number = k + 1;
+        let off = pairs.days[number];
+        if pairs::fits(off, busy) {
+            let left = free & !off;
+            let c = trials::chunks::chunk_trial(t, p, left) + Penalty::UNPLACED * others;
+            if best::improves(best, c) {
+                best = consider(best, rec, tl, i, pattern::of(p, number as u32), c);
+            }
+        }
+    }
+    best
+}
+
+// The same in every ward: with no pair where there are none. c is what p costs with all those days free.
+// A function of its own, so that the loop over the common list, which seldom comes here, stays small.
+fn over_pattern(
+    masks: Masks,
+    pairs: Pairs,
+    t: &[u64; 704],
+    others: u64,
+    rec: Record,
+    tl: usize,
+    i: usize,
+    p: u32,
+    free: u32,
+    c: u64,
+    held: Best,
+) -> Best
+    requires { ⌜ Masked masks × (pairs .count ≤ pairMost) × ChunksSmall (now t) × (others ≤ nursePlaces) × (tl ≤ tabuMost) × (i < nursePlaces) ⌝ }
+    ensures { λ r. ⌜ ((w : List ℕ) (m : ℕ) (cost : ℕ → ℕ) → i < m → NightPair w i masks pairs p free → NightTrials w i (now (t .entry)) cost → c ≡ cost (unpaired p) + 10000000 * others → r ≡ overList (λ x. ownPattern w i x && mayTake (view m tl rec) i x) (λ x. cost x + 10000000 * others) i held (map (pattern p) (pairNumbers w))) ⌝ }
+{
+    if pairs.count == 0 {
+        return consider(held, rec, tl, i, pattern::of(p, 0), c);
+    }
+    over_pairs(masks, pairs, t, others, rec, tl, i, p, free, held)
+}
+
+// The same by night, over what is hers of the common list, with her pairs.
 fn over_nights(
     w: &[u64],
     list: &[u32],
     masks: Masks,
+    pairs: Pairs,
     t: &[u64; 704],
     others: u64,
     rec: Record,
@@ -84,17 +148,18 @@ fn over_nights(
     i: usize,
     held: Best,
 ) -> Best
-    requires { ⌜ NightsNeeds (now w) (now list) masks (now t) others tl i ⌝ }
-    ensures { λ r. ⌜ ((m : ℕ) (cost : ℕ → ℕ) → i < m → NightTrials (now (w .entry)) i (now (t .entry)) cost → r ≡ overList (λ p. hersOf (now (w .entry)) i p && mayTake (view m tl rec) i p) (λ p. cost p + 10000000 * others) i held (now (list .entry))) ⌝ }
+    requires { ⌜ NightsNeeds (now w) (now list) masks pairs (now t) others tl i ⌝ }
+    ensures { λ r. ⌜ ((m : ℕ) (cost : ℕ → ℕ) → i < m → NightTrials (now (w .entry)) i (now (t .entry)) cost → r ≡ overList (λ c. ownPattern (now (w .entry)) i c && mayTake (view m tl rec) i c) (λ c. cost c + 10000000 * others) i held (withPairs (now (w .entry)) (now (list .entry)))) ⌝ }
 {
     let mut best = held;
     for k in 0..list.len() {
         let p = list[k];
         if nursemasks::masks::passes(w, masks, p) {
-            let available = nursemasks::masks::available_days(masks, p);
-            let c = trials::chunks::chunk_trial(t, p, available) + Penalty::UNPLACED * others;
+            let free = nursemasks::masks::available_days(masks, p);
+            let c = trials::chunks::chunk_trial(t, p, free) + Penalty::UNPLACED * others;
+            // With a pair she is available on fewer days, and by night that never costs less.
             if best::improves(best, c) {
-                best = consider(best, rec, tl, i, p, c);
+                best = over_pattern(masks, pairs, t, others, rec, tl, i, p, free, c, best);
             }
         }
     }
@@ -137,7 +202,8 @@ fn over_nurse(
     match search {
         Search::Nights => {
             let masks = nursemasks::masks::masks_of(w, i);
-            over_nights(w, lists, masks, &t, others, rec, tl, i, held)
+            let pairs = pairs::pairs_of(w, i);
+            over_nights(w, lists, masks, pairs, &t, others, rec, tl, i, held)
         }
         Search::Days => {
             let a = stretches.ends[i];

@@ -4,17 +4,18 @@ use mathlib.Core.Bool.{Bool, true, false, cond}
 use mathlib.Core.List.{List}
 use mathlib.Core.Logic.{⊎-elim}
 use Prim.Native.Nat.{ℕ, zero, suc, _+_, _-_, _*_, _/_, _%_, _^_, _≤_, _<_}
-use native.Mathlib.Nat.{not-suc-le-zero, eq-or-lt-of-le, le-of-suc-le-suc, add-sub-of-le, zero-add, mod-lt, zero-lt-suc}
+use native.Mathlib.Nat.{not-suc-le-zero, eq-or-lt-of-le, le-of-suc-le-suc, add-sub-of-le, mod-lt, zero-lt-suc}
 use native.Mathlib.Numerals.{add-one}
 use native.Mathlib.Omega.{arith}
 use lib.ListN.{length, getD, set, length-set}
 use lib.Seq.{getD-set-same, getD-set-other}
 use Rattle.numbers.specs.Sum.{sumTo, Is}
 use Rattle.numbers.specs.Digits.{has}
-use Rattle.numbers.proofs.SumLaws.{sum-ext, sum-cut, loop-start, loop-turn}
+use Rattle.numbers.proofs.SumLaws.{sum-ext, sum-cut, loop-start, loop-turn, loop-end0}
 use Rattle.numbers.proofs.DigitLaws.{part-digit}
 use Rattle.trials.specs.declared.costs.Costs.{Costs}
 use Rattle.trials.specs.CodeCosts.{SmallCosts, trialAt, trialOf, stateAt, chunkOf, chunkPlace, Chunks, ChunksSmall}
+use Rattle.trials.specs.CodeTables.{readAt, tableTrial}
 
 -- ---- filling
 
@@ -64,10 +65,6 @@ chunks-small c t h = record { small = λ e q. h .chunk e q .most }
 
 -- ---- a trial
 
--- the sum that the trial reads for the days from 3 * b on
-unfoldable pub readAt : List ℕ → ℕ → ℕ → ℕ → ℕ
-readAt t p f b = getD t (chunkPlace b (p / 2 ^ (3 * b) % 8) (f / 2 ^ (3 * b) % 8)) 0
-
 place-in : (b x y : ℕ) → b < 11 → x < 8 → y < 8 → chunkPlace b x y < 704
 place-in b x y h k l = omega arith
 
@@ -114,13 +111,12 @@ sum-threes (suc k) g =
     let b : 3 * k + 2 ≡ suc (suc (3 * k)) = omega arith in
     rw (e, a, b) (omega (arith, sum-threes k g))
 
-pub chunk-end : (t : List ℕ) (p f : ℕ) {r b : ℕ} → Is r (0 + sumTo b (readAt t p f)) (0 + 1113600 * b) → b ≡ 11
-    → (c : Costs) (n : ℕ) → SmallCosts c n → Chunks c t → r ≡ trialOf c n p f
-unfolding trialOf threeDays
-chunk-end t p f h e c n s k =
+-- the sums that a trial reads are its days'
+pub table-trial : (c : Costs) (t : List ℕ) (n p f : ℕ) → SmallCosts c n → Chunks c t → tableTrial t p f ≡ trialOf c n p f
+unfolding tableTrial trialOf threeDays
+table-trial c t n p f s k =
     let l : n ≤ 33 = omega (arith, s .at-most) in
-    h .is ∙ zero-add _ ∙ ap (λ (x : ℕ). sumTo x (readAt t p f)) e
-    ∙ sum-ext 11 (readAt t p f) (threeDays c p f) (λ b q. read-days c t p f b k q)
+    sum-ext 11 (readAt t p f) (threeDays c p f) (λ b q. read-days c t p f b k q)
     ∙ sum-threes 11 (trialAt c p f)
     ∙ ap (λ (x : ℕ). sumTo x (trialAt c p f)) (sym (add-sub-of-le l))
     ∙ sum-cut n (33 - n) (trialAt c p f) (λ d q. s .past p f d q)
@@ -131,3 +127,7 @@ read-start t p f = loop-start 0 0 (readAt t p f) (record { is = refl; most = ome
 pub read-turn : (t : List ℕ) (p f b : ℕ) {r x : ℕ} → Is r (0 + sumTo b (readAt t p f)) (0 + 1113600 * b) → Is x (readAt t p f b) 1113600
     → Is (r + x) (0 + sumTo (b + 1) (readAt t p f)) (0 + 1113600 * (b + 1))
 read-turn t p f b h k = loop-turn 0 0 1113600 (readAt t p f) b h k
+
+pub read-end : (t : List ℕ) (p f : ℕ) {r b : ℕ} → Is r (0 + sumTo b (readAt t p f)) (0 + 1113600 * b) → b ≡ 11 → Is r (tableTrial t p f) 12249600
+unfolding tableTrial
+read-end t p f h e = loop-end0 1113600 (readAt t p f) 11 12249600 h e (omega arith)

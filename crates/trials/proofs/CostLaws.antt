@@ -1,10 +1,10 @@
 -- A nurse's table: how it is filled, and that a trial by it is the penalty counted afresh after the exchange.
 use mathlib.Core.Path.{_≡_, refl, sym, ap, ap₂, _∙_, subst}
-use mathlib.Core.Bool.{Bool, true, false, cond}
+use mathlib.Core.Bool.{Bool, true, false, cond, false≢true}
 use mathlib.Core.List.{List}
 use mathlib.Core.Logic.{⊎-elim}
-use Prim.Native.Nat.{ℕ, suc, _+_, _-_, _≤_, _<_}
-use native.Mathlib.Nat.{not-suc-le-zero, eq-or-lt-of-le, le-of-suc-le-suc}
+use Prim.Native.Nat.{ℕ, suc, _+_, _≤_, _<_}
+use native.Mathlib.Nat.{not-suc-le-zero, eq-or-lt-of-le, le-of-suc-le-suc, le-refl, add-le-add}
 use native.Mathlib.Numerals.{add-one}
 use native.Mathlib.Omega.{arith}
 use lib.ListN.{getD, set, length-set, replicate}
@@ -13,10 +13,11 @@ use lib.Seq.{getD-set-same, getD-set-other}
 use Rattle.fields.specs.Sizes.{dayPlaces}
 use Rattle.numbers.specs.Sum.{Is}
 use Rattle.numbers.specs.Digits.{has, put}
-use Rattle.numbers.proofs.SumLaws.{sum-ext, sum-add}
+use Rattle.numbers.specs.Patterns.{daysOf}
+use Rattle.numbers.proofs.SumLaws.{sum-ext, sum-mono, sum-add}
 use Rattle.numbers.proofs.DigitLaws.{bit-of-zero}
 use Rattle.fields.specs.Fields.{Accepted, nurses, days, memberSets, needs, block}
-use Rattle.rows.specs.Rows.{availableOn}
+use Rattle.rows.specs.Pairs.{freeOn}
 use Rattle.rows.proofs.RowLaws.{started-busy}
 use Rattle.penalty.specs.declared.columns.Columns.{Columns}
 use Rattle.penalty.specs.declared.duty.Weights.{Weights}
@@ -32,7 +33,7 @@ use Rattle.trials.specs.CodeCosts.{trialAt, trialOf, SmallCosts, TrialsN
 use Rattle.penalty.specs.CodeCounts.{weightsOf, noHigh, dutyCost}
 use Rattle.trials.specs.CodeEntries.{Tells, dayWith, Entries, Filled}
 use Rattle.penalty.proofs.ColumnLaws.{zeros, night-after, available-after, day-after}
-use Rattle.penalty.proofs.CountLaws.{short-same, over-same, cost-both, cost-low}
+use Rattle.penalty.proofs.CountLaws.{short-same, over-same, cost-both, cost-low, cost-falls}
 
 -- ---- one day, from what the calls gave
 
@@ -148,15 +149,33 @@ state-is f true b h ex ey ez = ex ∙ ap (f true) (sym (h refl))
 state-is f false true h ex ey ez = ey
 state-is f false false h ex ey ez = ez
 
+-- under a pattern too
+start-not-free : (w : List ℕ) (i p d : ℕ) → has (daysOf p) d ≡ true → freeOn w i p (suc d) ≡ false
+unfolding freeOn
+start-not-free w i p d e = rw (started-busy (block w i) (daysOf p) d e)
+
+-- a day that she loses costs no less; so do several
+state-lost : (a b b′ : Bool) (x : ℕ) {y z : ℕ} → y ≤ z → (b′ ≡ true → b ≡ true) → cond a x (cond b y z) ≤ cond a x (cond b′ y z)
+state-lost true b b′ x h k = le-refl x
+state-lost false true true x h k = le-refl _
+state-lost false true false x h k = h
+state-lost false false true x h k = absurd (false≢true (k refl))
+state-lost false false false x h k = le-refl _
+
+pub trial-lost : (c : Costs) (n nights free fewer : ℕ) → ((d : ℕ) → getD (c .available) d 0 ≤ getD (c .none) d 0)
+    → ((d : ℕ) → has fewer d ≡ true → has free d ≡ true) → trialOf c n nights free ≤ trialOf c n nights fewer
+unfolding trialOf trialAt
+trial-lost c n nights free fewer h k = sum-mono n _ _ (λ d l. state-lost (has nights d) (has free d) (has fewer d) (getD (c .night) d 0) (h d) (k d))
+
 module _ (w : List ℕ) (c : Columns) (i : ℕ) (slots : ℕ → Slot) (a : Accepted w) (l : i < nurses w) where
   -- by night
   night-cost : Shows Nights w slots c → (p d : ℕ) → d < days w
-      → entryAt Nights w c i (has p d) (availableOn (block w i) p (suc d)) d
+      → entryAt Nights w c i (has (daysOf p) d) (freeOn w i p (suc d)) d
       ≡ (shortOn w 0 (atNight w (exchanged slots i p) d) d + shortOn w 1 (availableIn w (exchanged slots i p) d) d) + overOn w 0 (atNight w (exchanged slots i p) d) d
   unfolding entryAt dayWith
   night-cost s p d h =
-      let f = put (has (getD (c .night) d 0)) i (has p d) in
-      let g = put (has (getD (c .day) d 0)) i (availableOn (block w i) p (suc d)) in
+      let f = put (has (getD (c .night) d 0)) i (has (daysOf p) d) in
+      let g = put (has (getD (c .day) d 0)) i (freeOn w i p (suc d)) in
       let x = night-after w slots i p l d _ (s .night-shown d h) in
       let y = available-after w slots i p l d _ (s .available-shown d h) in
       omega (
@@ -168,25 +187,34 @@ module _ (w : List ℕ) (c : Columns) (i : ℕ) (slots : ℕ → Slot) (a : Acce
         short-same w a 1 d g _ y,
       )
 
+  -- a day costs no less with her neither at night nor available, since day highs are ignored
+  night-lost : (t : Costs) {n e : ℕ} → Table Nights w c i n e t → (d : ℕ) → Dec (d < e) → getD (t .available) d 0 ≤ getD (t .none) d 0
+  unfolding entryAt dayWith
+  night-lost t k d (yes h) =
+      rw (k .availables .done d h .is, k .nones .done d h .is)
+      (add-le-add (le-refl _) (cost-falls (weightsOf w 1) (memberSets w) (needs w d) 1 i (has (getD (c .day) d 0)) (omega (arith, a .nurses-most))))
+  night-lost t k d (no h) = omega (arith, k .availables .left d (omega arith), k .nones .left d (omega arith))
+
   night-trials : (t : Costs) {n e : ℕ} → Table Nights w c i n e t → n ≤ e → n ≡ days w → Shows Nights w slots c → TrialsNight w slots i t
   unfolding trialOf trialAt nightParts
   night-trials t {n} {e} k q m s = record {
     afresh = λ p set g.
         sum-ext (days w) _ _ (λ d h.
         let b : d < e = omega arith in
-        ap (λ (x : Bool). cond (has p d) (getD (t .night) d 0) (cond x (getD (t .available) d 0) (getD (t .none) d 0))) (g d h)
-        ∙ state-is (λ x y. entryAt Nights w c i x y d) (has p d) (availableOn (block w i) p (suc d)) (started-busy (block w i) p d)
+        ap (λ (x : Bool). cond (has (daysOf p) d) (getD (t .night) d 0) (cond x (getD (t .available) d 0) (getD (t .none) d 0))) (g d h)
+        ∙ state-is (λ x y. entryAt Nights w c i x y d) (has (daysOf p) d) (freeOn w i p (suc d)) (start-not-free w i p d)
         (k .nights .done d b .is) (k .availables .done d b .is) (k .nones .done d b .is)
         ∙ night-cost s p d h)
         ∙ sum-add (days w) _ _;
+    lost = λ d. night-lost t k d (decLt d e);
   }
 
   -- by day
   day-cost : Shows Days w slots c → (q d : ℕ) → d < days w
-      → entryAt Days w c i false (has q d) d ≡ shortOn w 1 (atDay w (exchanged slots i q) d) d + overOn w 1 (atDay w (exchanged slots i q) d) d
+      → entryAt Days w c i false (has (daysOf q) d) d ≡ shortOn w 1 (atDay w (exchanged slots i q) d) d + overOn w 1 (atDay w (exchanged slots i q) d) d
   unfolding entryAt dayWith
   day-cost s q d h =
-      let f = put (has (getD (c .day) d 0)) i (has q d) in
+      let f = put (has (getD (c .day) d 0)) i (has (daysOf q) d) in
       let x = day-after w slots i q l d _ (s .day-shown d h) in
       omega (arith, cost-both (weightsOf w 1) (memberSets w) (needs w d) 1 f, short-same w a 1 d f _ x, over-same w a 1 d f _ x)
 
@@ -203,7 +231,7 @@ module _ (w : List ℕ) (c : Columns) (i : ℕ) (slots : ℕ → Slot) (a : Acce
     afresh = λ q.
         sum-ext (days w) _ _ (λ d h.
         let b : d < e = omega arith in
-        worked-is (λ x. entryAt Days w c i false x d) (has 0 d) (has q d) (getD (t .night) d 0) (nothing d) (k .availables .done d b .is) (k .nones .done d b .is)
+        worked-is (λ x. entryAt Days w c i false x d) (has 0 d) (has (daysOf q) d) (getD (t .night) d 0) (nothing d) (k .availables .done d b .is) (k .nones .done d b .is)
         ∙ day-cost s q d h)
         ∙ sum-add (days w) _ _;
   }

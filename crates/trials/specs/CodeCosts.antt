@@ -7,13 +7,14 @@ use lib.ListN.{getD}
 use Rattle.fields.specs.Sizes.{dayPlaces}
 use Rattle.numbers.specs.Sum.{sumTo, Is}
 use Rattle.numbers.specs.Digits.{has}
+use Rattle.numbers.specs.Patterns.{daysOf}
 use Rattle.fields.specs.Fields.{days}
 use Rattle.trials.specs.declared.costs.Costs.{Costs}
 use Rattle.history.specs.declared.Search.{Search}
 use Rattle.history.specs.declared.Search.the-variants.{Nights, Days}
 use Rattle.history.specs.Slot.{Slot, exchanged}
 use Rattle.penalty.specs.Penalty.{rest, nightParts, dayParts}
-use Rattle.penalty.specs.CodeColumns.{AvailableUnder}
+use Rattle.penalty.specs.CodeColumns.{FreeUnder}
 
 -- a day of a trial: N if in nights, else available if in available, else neither
 unfoldable pub trialAt : Costs → ℕ → ℕ → ℕ → ℕ
@@ -31,13 +32,15 @@ pub record SmallCosts (c : Costs) (n : ℕ) : Type 0 where
   pub none-small : (d : ℕ) → getD (c .none) d 0 ≤ 371200
   pub past : (nights available d : ℕ) → n ≤ d → trialAt c nights available d ≡ 0
 
--- A trial by the table is the penalty counted afresh over the whole ward after the exchange: by night for the starts p, with the days
--- on which they leave her available; by day for the worked days q.
+-- A trial by the table is the penalty counted afresh over the whole ward after the exchange: by night for the pattern p, with the days
+-- on which it leaves her available; by day for the pattern q.
 pub record TrialsNight (w : List ℕ) (slots : ℕ → Slot) (i : ℕ) (c : Costs) : Type 0 where
-  pub afresh : (p available : ℕ) → AvailableUnder w i p available → trialOf c (days w) p available ≡ rest (nightParts w (exchanged slots i p))
+  pub afresh : (p free : ℕ) → FreeUnder w i p free → trialOf c (days w) (daysOf p) free ≡ rest (nightParts w (exchanged slots i p))
+  -- a day that she loses never costs less, since day highs are ignored
+  pub lost : (d : ℕ) → getD (c .available) d 0 ≤ getD (c .none) d 0
 
 pub record TrialsDay (w : List ℕ) (slots : ℕ → Slot) (i : ℕ) (c : Costs) : Type 0 where
-  pub afresh : (q : ℕ) → trialOf c (days w) 0 q ≡ rest (dayParts w (exchanged slots i q))
+  pub afresh : (q : ℕ) → trialOf c (days w) 0 (daysOf q) ≡ rest (dayParts w (exchanged slots i q))
 
 -- by night or by day
 abbrev pub Trials : Search → List ℕ → (ℕ → Slot) → ℕ → Costs → Type 0

@@ -1,26 +1,36 @@
 -- What a nurse's trials come to, by the sums of her table.
 use mathlib.Core.Path.{_≡_}
 use mathlib.Core.List.{List}
-use Prim.Native.Nat.{ℕ}
+use mathlib.Core.Bool.{true}
+use Prim.Native.Nat.{ℕ, _*_, _/_, _%_, _^_, _≤_}
+use lib.ListN.{getD}
+use Rattle.numbers.specs.Sum.{sumTo}
+use Rattle.numbers.specs.Digits.{has}
+use Rattle.numbers.specs.Patterns.{daysOf}
 use Rattle.history.specs.declared.Search.{Search}
 use Rattle.history.specs.declared.Search.the-variants.{Nights, Days}
 use Rattle.history.specs.Slot.{Slot, exchanged}
 use Rattle.penalty.specs.declared.columns.Columns.{Columns}
 use Rattle.penalty.specs.Penalty.{rest, partsIn}
-use Rattle.penalty.specs.CodeColumns.{Shows, AvailableUnder}
-use Rattle.trials.specs.declared.costs.Costs.{Costs}
-use Rattle.trials.specs.CodeCosts.{SmallCosts, Chunks, trialOf}
+use Rattle.penalty.specs.CodeColumns.{Shows, FreeUnder}
+use Rattle.trials.specs.CodeCosts.{chunkPlace}
 
--- a trial by the sums of a nurse's table comes to x
-abbrev pub tableTrial : List ℕ → ℕ → ℕ → ℕ → Type 0
-tableTrial t nights available x = (c : Costs) × (n : ℕ) × SmallCosts c n × Chunks c t × (trialOf c n nights available ≡ x)
+-- the sum that a trial reads for the days from 3 * b on, by her starts and the days on which she is available
+unfoldable pub readAt : List ℕ → ℕ → ℕ → ℕ → ℕ
+readAt t nights available b = getD t (chunkPlace b (nights / 2 ^ (3 * b) % 8) (available / 2 ^ (3 * b) % 8)) 0
+
+-- a trial by the sums of a nurse's table
+unfoldable pub tableTrial : List ℕ → ℕ → ℕ → ℕ
+tableTrial t nights available = sumTo 11 (readAt t nights available)
 
 -- what a trial by nurse i's table costs, by the pattern that she takes
 pub record DayTrials (t : List ℕ) (cost : ℕ → ℕ) : Type 0 where
-  pub worked : (q : ℕ) → tableTrial t 0 q (cost q)
+  pub worked : (q : ℕ) → tableTrial t 0 (daysOf q) ≡ cost q
 
 pub record NightTrials (w : List ℕ) (i : ℕ) (t : List ℕ) (cost : ℕ → ℕ) : Type 0 where
-  pub started : (p available : ℕ) → AvailableUnder w i p available → tableTrial t p available (cost p)
+  pub started : (p free : ℕ) → FreeUnder w i p free → tableTrial t (daysOf p) free ≡ cost p
+  -- with fewer days available no trial costs less
+  pub lost : (nights free fewer : ℕ) → ((d : ℕ) → has fewer d ≡ true → has free d ≡ true) → tableTrial t nights free ≤ tableTrial t nights fewer
 
 -- by night or by day
 abbrev pub TableTrials : Search → List ℕ → ℕ → List ℕ → (ℕ → ℕ) → Type 0

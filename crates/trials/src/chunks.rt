@@ -2,10 +2,10 @@
 use crate::costs::Costs;
 ghost use mathlib.Core.Path.{_≡_};
 ghost use mathlib.Core.Bool.{cond};
-ghost use Prim.Native.Nat.{ℕ, _<_, _≤_};
-ghost use Rattle.trials.specs.declared.costs.Costs.{Costs};
+ghost use Prim.Native.Nat.{_<_, _≤_};
 ghost use Rattle.numbers.specs.Digits.{has};
-ghost use Rattle.trials.specs.CodeCosts.{SmallCosts, trialOf, Chunks, ChunksSmall};
+ghost use Rattle.trials.specs.CodeCosts.{SmallCosts, Chunks, ChunksSmall};
+ghost use Rattle.trials.specs.CodeTables.{tableTrial};
 
 // A day's cost in the state that bit j of the two sets says.
 fn by_bit(nights: u32, spare: u32, j: u64, night: u64, available: u64, none: u64) -> u64
@@ -53,11 +53,11 @@ pub(crate) fn chunks(c: Costs, n: usize) -> [u64; 704]
     t
 }
 
-// What the ward's days cost after an exchange, from the sums of the nurse's table: nights are her starts, available the days that they leave
-// her available.
+// What the ward's days cost after an exchange, from the sums of the nurse's table: nights are her starts, available the days that her pattern
+// leaves her available.
 pub fn chunk_trial(t: &[u64; 704], nights: u32, available: u32) -> u64
     requires { ⌜ ChunksSmall (now t) ⌝ }
-    ensures is { λ r. ⌜ ((c : Costs) (n : ℕ) → SmallCosts c n → Chunks c (now (t .entry)) → r ≡ trialOf c n nights available) ⌝ }
+    ensures is { λ r. ⌜ r ≡ tableTrial (now (t .entry)) nights available ⌝ }
     ensures most { λ r. ⌜ r ≤ 12249600 ⌝ }
 {
     let mut total = 0;

@@ -1,24 +1,29 @@
--- The reader's yes says that the ward is `Accepted`.
-use Prim.Native.Nat.{ℕ, suc, _+_, _-_, _*_, _^_, _≤_, _<_}
+-- The reader's yes says that the ward's body is `Accepted`.
+use Prim.Native.Nat.{ℕ, zero, suc, _+_, _-_, _*_, _^_, _≤_, _<_}
 use mathlib.Core.Path.{_≡_, refl, sym, ap, _∙_, subst}
+use mathlib.Core.Bool.{Bool, true, false, cond}
 use mathlib.Core.List.{List, [], _∷_}
 use mathlib.Core.Logic.{_⊎_, inl, inr, ⊎-elim}
 use native.Mathlib.Omega.{arith}
-use native.Mathlib.Nat.{mul-le-mul, mul-le-mul-right, suc-mul}
+use native.Mathlib.Nat.{mul-le-mul-right, suc-mul}
 use native.Mathlib.Decide.{decLt}
 use lib.ListN.{length, getD, take, drop, List·getD-eq-default, length-take, length-drop}
 use lib.Seq.{length-take-le, getD-take, getD-drop}
 use lib.Pow.{pow-pos}
+use lib.Dec.{eqb}
 use Rattle.layout.specs.declared.Head.{Head}
 use Rattle.layout.specs.declared.Field.{Field}
-use Rattle.layout.specs.Grammar.{Grammar, done, number, failedBy, good, check}
-use Rattle.layout.specs.Layout.{range, one, repeat, day, days, group, groups, nurse, nurses, weights, limits, gaps, rules, sizes, ward}
+use Rattle.layout.specs.Grammar.{Grammar, number, failedBy, good, check}
+use Rattle.layout.specs.Layout.{range, one, repeat, two, day, days, group, groups, nurse, nurses, weights, limits, gaps, rules, sizes, body, lastEdition, later, first, ward}
 use Rattle.ward.specs.Answers.{checkWard}
-use Rattle.fields.specs.Fields as fields
-use Rattle.fields.specs.Fields.{Accepted, Block, blockAt, block, groupsAt, memberSets, needsAt, needs}
+use Rattle.fields.specs.Sizes.{numberPlaces}
+use Rattle.fields.specs.Fields.{bodyOf, Accepted, Block, blockAt, block, groupsAt, memberSets, needsAt, needs, tailAt, pairCount}
+use Rattle.fields.proofs.FieldLaws.{body-one}
 use Rattle.layout.proofs.GrammarLaws.{in-range}
-use Rattle.layout.proofs.AcceptLaws.{let-through}
-use Rattle.layout.proofs.AccessLaws.{After, First, Both, Most, Takes, number-has, numbers-have, numbers-all, after-at, past, takes-one, takes-both, takes-repeat, in-repeat, takes-day, takes-group, takes-nurse, nurse-duty, nurse-least-nights, nurse-most-nights, nurse-least-rests, nurse-most-rests, nurse-mark, day-in, day-pair}
+use Rattle.layout.proofs.AcceptLaws.{let-through, accepted}
+use Rattle.layout.proofs.PairLaws.{FirstDay, Paired, paired}
+use Rattle.ward.proofs.FitsLaws.{ward-fits}
+use Rattle.layout.proofs.AccessLaws.{After, First, Both, Most, Takes, reached, number-has, numbers-have, after-at, past, takes-one, takes-both, takes-repeat, in-repeat, takes-day, takes-group, takes-nurse, nurse-duty, nurse-least-nights, nurse-most-nights, nurse-least-rests, nurse-most-rests, nurse-mark, day-in, day-pair}
 
 split : (a b : ℕ) → (a < b) ⊎ (b ≤ a)
 split a b = go (decLt a b)
@@ -100,15 +105,16 @@ module _ (h : Head) where
   in-days : (d j : ℕ) → d < h .n → j < 2 + h .r * 4 → After (rules h) (13 + (h .m * (11 + h .n) + (h .r * 1 + (d * (2 + h .r * 4) + j)))) (First (Most 48))
   in-days d j l k =
       days-past (First (Most 48)) (d * (2 + h .r * 4) + j)
-      (in-repeat (day (h .r)) (2 + h .r * 4) (takes-day (h .r)) (h .n) d done j (First (Most 48)) l (λ g. day-in (h .r) j g k))
+      (in-repeat (day (h .r)) (2 + h .r * 4) (takes-day (h .r)) (h .n) d (two h) j (First (Most 48)) l (λ g. day-in (h .r) j g k))
 
-  in-pairs : (d k g : ℕ) → d < h .n → k < 2 → g < h .r → After (rules h) (13 + (h .m * (11 + h .n) + (h .r * 1 + (d * (2 + h .r * 4) + (2 + (g * 4 + 2 * k)))))) (Both _≤_)
-  in-pairs d k g l q p =
+  in-bounds : (d k g : ℕ) → d < h .n → k < 2 → g < h .r → After (rules h) (13 + (h .m * (11 + h .n) + (h .r * 1 + (d * (2 + h .r * 4) + (2 + (g * 4 + 2 * k)))))) (Both _≤_)
+  in-bounds d k g l q p =
       days-past (Both _≤_) (d * (2 + h .r * 4) + (2 + (g * 4 + 2 * k)))
-      (in-repeat (day (h .r)) (2 + h .r * 4) (takes-day (h .r)) (h .n) d done (2 + (g * 4 + 2 * k)) (Both _≤_) l (λ x. day-pair (h .r) k g x q p))
+      (in-repeat (day (h .r)) (2 + h .r * 4) (takes-day (h .r)) (h .n) d (two h) (2 + (g * 4 + 2 * k)) (Both _≤_) l (λ x. day-pair (h .r) k g x q p))
 
-  all-past : After (rules h) (13 + (h .m * (11 + h .n) + (h .r * 1 + h .n * (2 + h .r * 4)))) (λ g. g ≡ done)
-  all-past = days-past (λ g. g ≡ done) (h .n * (2 + h .r * 4)) (takes-repeat (day (h .r)) (2 + h .r * 4) (takes-day (h .r)) (h .n) done)
+  -- what is left after the days
+  tail-past : After (rules h) (13 + (h .m * (11 + h .n) + (h .r * 1 + h .n * (2 + h .r * 4)))) (λ g. g ≡ two h)
+  tail-past = days-past (λ g. g ≡ two h) (h .n * (2 + h .r * 4)) (takes-repeat (day (h .r)) (2 + h .r * 4) (takes-day (h .r)) (h .n) (two h))
 
 number-in :
     (f : Field) (k : ℕ → Grammar) (i w : ℕ) (ws vs : List ℕ) → check (number f k) i (w ∷ ws) ≡ good vs →
@@ -122,37 +128,55 @@ none-in : (f : Field) (k : ℕ → Grammar) (i : ℕ) (vs : List ℕ) → check 
 unfolding check
 none-in f k i vs e = let z : _≡_ {A = ℕ} 0 1 = cc in omega arith
 
--- ---- a ward by its three numbers and the others
+-- ---- a ward's body by its three numbers and the others
 
-module _ (m n r : ℕ) (ws us : List ℕ) (hm : Between 1 48 m) (hn : Between 1 31 n) (hr : Between 0 16 r) (at : ℕ)
-    (e : check (rules (record { m = m; n = n; r = r; edition = 1 })) at ws ≡ good us) where
+module _ (m n r : ℕ) (ws us : List ℕ) (hm : Between 1 48 m) (hn : Between 1 31 n) (hr : Between 0 16 r) (few : length (m ∷ n ∷ r ∷ ws) ≤ numberPlaces)
+    (edition at : ℕ) (e : check (rules (record { m = m; n = n; r = r; edition = edition })) at ws ≡ good us) where
   h : Head
-  h = record { m = m; n = n; r = r; edition = 1 }
+  h = record { m = m; n = n; r = r; edition = edition }
 
   w : List ℕ
   w = m ∷ n ∷ r ∷ ws
 
   -- the number at an index has P
-  at-index : (P : ℕ → Type 0) (j k : ℕ) → k ≡ suc (suc (suc j)) → After (rules (record { m = m; n = n; r = r; edition = 1 })) j (First P) → P (getD w k 0)
+  at-index : (P : ℕ → Type 0) (j k : ℕ) → k ≡ suc (suc (suc j)) → After (rules (record { m = m; n = n; r = r; edition = edition })) j (First P) → P (getD w k 0)
   unfolding w
-  at-index P j k q a = subst (λ (x : ℕ). P (getD (m ∷ n ∷ r ∷ ws) x 0)) (sym q) (number-has (rules (record { m = m; n = n; r = r; edition = 1 })) j at ws us P a e)
+  at-index P j k q a = subst (λ (x : ℕ). P (getD (m ∷ n ∷ r ∷ ws) x 0)) (sym q) (number-has (rules (record { m = m; n = n; r = r; edition = edition })) j at ws us P a e)
 
-  long : length w ≡ 16 + m * (11 + n) + r + n * (4 * r + 2)
-  unfolding w h
-  long =
-      let q = numbers-all (rules h) (13 + (m * (11 + n) + (r * 1 + n * (2 + r * 4)))) at ws us (all-past h) e in
+  -- how many of `ws` stand before what later editions add
+  abbrev J : ℕ
+  J = 13 + (m * (11 + n) + (r * 1 + n * (2 + r * 4)))
+
+  tail : (J ≤ length ws) × Paired n (drop J ws)
+  unfolding h
+  tail =
+      let t = reached (rules h) J at ws us (λ g. g ≡ two h) (tail-past h) e in
+      (t .1 .inside, paired h (t .0) (drop J ws) (t .1 .rest) (ap (λ (g : Grammar). check g (t .0) (drop J ws)) (sym (t .1 .holds)) ∙ t .1 .left))
+
+  tail-is : tailAt w ≡ 3 + J
+  unfolding w tailAt needsAt groupsAt
+  tail-is =
       let s : n * (2 + r * 4) ≡ n * (4 * r + 2) = ap (λ (x : ℕ). n * x) (omega arith) in
       omega arith
 
-  long-is : length w ≡ needsAt w n
-  unfolding w h needsAt
-  long-is = long
+  long : 16 + m * (11 + n) + r + n * (4 * r + 2) ≤ length w
+  unfolding w
+  long =
+      let s : n * (2 + r * 4) ≡ n * (4 * r + 2) = ap (λ (x : ℕ). n * x) (omega arith) in
+      omega (arith, tail .0)
 
-  product : m * (11 + n) ≤ 2016
-  product = let q : 11 + n ≤ 42 = omega arith in mul-le-mul (hm .1) q
+  -- the number at k of those that later editions add
+  tail-at : (k : ℕ) → getD w (tailAt w + k) 0 ≡ getD (drop J ws) k 0
+  unfolding w
+  tail-at k =
+      let o : tailAt w + k ≡ suc (suc (suc (J + k))) = omega (arith, tail-is) in
+      ap (λ (x : ℕ). getD (m ∷ n ∷ r ∷ ws) x 0) o ∙ sym (getD-drop J ws k 0)
 
-  product-days : n * (4 * r + 2) ≤ 2046
-  product-days = let q : 4 * r + 2 ≤ 66 = omega arith in mul-le-mul (hn .1) q
+  count-is : pairCount w ≡ getD (drop J ws) 0 0
+  count-is = let o : tailAt w ≡ tailAt w + 0 = omega arith in ap (λ (x : ℕ). getD w x 0) o ∙ tail-at 0
+
+  first-day : (k : ℕ) → 1 ≤ k → k ≤ pairCount w → FirstDay n 0 k (drop J ws)
+  first-day k l q = tail .1 .each k l (omega (arith, count-is))
 
   block-ends : (i : ℕ) → i < m → blockAt w i + (11 + n) ≤ length w
   unfolding w blockAt
@@ -239,7 +263,7 @@ module _ (m n r : ℕ) (ws us : List ℕ) (hm : Between 1 48 m) (hn : Between 1 
   low-under-high d k g l q p =
       let j = 2 + (g * 4 + 2 * k) in
       let J = 13 + (m * (11 + n) + (r * 1 + (d * (2 + r * 4) + j))) in
-      let both = numbers-have (rules h) J at ws us _≤_ (in-pairs h d k g l q p) e in
+      let both = numbers-have (rules h) J at ws us _≤_ (in-bounds h d k g l q p) e in
       let a : 16 + (m * (11 + n) + (r * 1 + (d * (2 + r * 4) + (4 * g + 2 * k + 2)))) ≡ suc (suc (suc J)) = omega arith in
       let b : 16 + (m * (11 + n) + (r * 1 + (d * (2 + r * 4) + (4 * g + 2 * k + 3)))) ≡ suc (suc (suc (suc J))) = omega arith in
       let x : getD (needs w d) (4 * g + 2 * k + 2) 0 ≡ getD ws J 0 = need-at d (4 * g + 2 * k + 2) (omega arith) ∙ ap (λ (y : ℕ). getD w y 0) a in
@@ -270,30 +294,65 @@ module _ (m n r : ℕ) (ws us : List ℕ) (hm : Between 1 48 m) (hn : Between 1 
     weight-some = λ k l. at-index (Between 1 100) (5 + (2 + (k * 1 + 0))) (10 + k) (omega arith) (rule-weight h k l) .0;
     weight-most = λ k l. at-index (Between 1 100) (5 + (2 + (k * 1 + 0))) (10 + k) (omega arith) (rule-weight h k l) .1;
     header = omega (arith, long);
-    bound = omega (arith, long, product, product-days);
+    bound = few;
     block-fits = block-ends;
     groups-fit = groups-end;
     needs-fit = needs-end;
-    size = long-is;
+    tail-fits = omega (arith, tail-is, tail .0);
+    pairs-most = omega (arith, count-is, tail .1 .few);
+    pair-fits = λ k l q. omega (arith, tail-is, length-drop J ws, first-day k l q .there);
+    pair-day-some = λ k l q. omega (arith, tail-at k, first-day k l q .above);
+    pair-day-most = λ k l q. omega (arith, tail-at k, first-day k l q .inside, hn .0);
     blocks = block-is;
     member-sets-most = λ g. ⊎-elim (set-in g) (set-out g) (split g r);
     needs-most = λ d j l. ⊎-elim (need-in d j l) (need-out d j) (split j (4 * r + 2));
     low-high = low-under-high;
   }
 
+-- from the number after m on
+sizes-accepted : (edition m at : ℕ) (ws vs : List ℕ) → Between 1 48 m → length (m ∷ ws) ≤ numberPlaces → check (sizes edition m) at ws ≡ good vs → Accepted (m ∷ ws)
+sizes-accepted edition m at [] vs hm few e =
+    absurd (none-in (range 1 31) (λ n. number (range 0 16) (λ r. rules (record { m = m; n = n; r = r; edition = edition }))) at vs e)
+sizes-accepted edition m at (n ∷ []) vs hm few e =
+    let a = number-in (range 1 31) (λ y. number (range 0 16) (λ r. rules (record { m = m; n = y; r = r; edition = edition }))) at n [] vs e in
+    absurd (none-in (range 0 16) (λ r. rules (record { m = m; n = n; r = r; edition = edition })) (at + 1) (a .0) (a .2))
+sizes-accepted edition m at (n ∷ r ∷ ws) vs hm few e =
+    let a = number-in (range 1 31) (λ y. number (range 0 16) (λ z. rules (record { m = m; n = y; r = z; edition = edition }))) at n (r ∷ ws) vs e in
+    let b = number-in (range 0 16) (λ z. rules (record { m = m; n = n; r = z; edition = edition })) (at + 1) r ws (a .0) (a .2) in
+    by-parts m n r ws (b .0) hm (in-range (range 1 31) n (a .1)) (in-range (range 0 16) r (b .1)) few edition (at + 1 + 1) (b .2)
+
+-- from m on, after 0 and the edition
+later-accepted : (at : ℕ) (ws vs : List ℕ) → length ws ≤ numberPlaces → check later at ws ≡ good vs → Accepted (drop 1 ws)
+later-accepted at [] vs few e = absurd (none-in (range 2 lastEdition) (λ x. body x) at vs e)
+later-accepted at (x ∷ []) vs few e =
+    let a = number-in (range 2 lastEdition) (λ y. body y) at x [] vs e in
+    absurd (none-in (range 1 48) (λ m. sizes x m) (at + 1) (a .0) (a .2))
+later-accepted at (x ∷ m ∷ ws) vs few e =
+    let a = number-in (range 2 lastEdition) (λ y. body y) at x (m ∷ ws) vs e in
+    let b = number-in (range 1 48) (λ y. sizes x y) (at + 1) m ws (a .0) (a .2) in
+    sizes-accepted x m (at + 1 + 1) ws (b .0) (in-range (range 1 48) m (b .1)) (omega (arith, few)) (b .2)
+
+few-numbers : (ws vs : List ℕ) → checkWard ws ≡ good vs → length ws ≤ numberPlaces
+unfolding checkWard
+few-numbers ws vs e = accepted ward numberPlaces 0 ws vs ward-fits e .few
+
 -- the questions' yes to a list of numbers
-pub accepted-ward : (w vs : List ℕ) → checkWard w ≡ good vs → Accepted w
-unfolding checkWard ward
-accepted-ward [] vs e = absurd (none-in (range 1 48) (λ m. sizes 1 m) 0 vs e)
-accepted-ward (m ∷ []) vs e =
-    let a = number-in (range 1 48) (λ x. sizes 1 x) 0 m [] vs e in
-    absurd (none-in (range 1 31) (λ n. number (range 0 16) (λ r. rules (record { m = m; n = n; r = r; edition = 1 }))) (0 + 1) (a .0) (a .2))
-accepted-ward (m ∷ n ∷ []) vs e =
-    let a = number-in (range 1 48) (λ x. sizes 1 x) 0 m (n ∷ []) vs e in
-    let b = number-in (range 1 31) (λ y. number (range 0 16) (λ r. rules (record { m = m; n = y; r = r; edition = 1 }))) (0 + 1) n [] (a .0) (a .2) in
-    absurd (none-in (range 0 16) (λ r. rules (record { m = m; n = n; r = r; edition = 1 })) (0 + 1 + 1) (b .0) (b .2))
-accepted-ward (m ∷ n ∷ r ∷ ws) vs e =
-    let a = number-in (range 1 48) (λ x. sizes 1 x) 0 m (n ∷ r ∷ ws) vs e in
-    let b = number-in (range 1 31) (λ y. number (range 0 16) (λ z. rules (record { m = m; n = y; r = z; edition = 1 }))) (0 + 1) n (r ∷ ws) (a .0) (a .2) in
-    let c = number-in (range 0 16) (λ z. rules (record { m = m; n = n; r = z; edition = 1 })) (0 + 1 + 1) r ws (b .0) (b .2) in
-    by-parts m n r ws (c .0) (in-range (range 1 48) m (a .1)) (in-range (range 1 31) n (b .1)) (in-range (range 0 16) r (c .1)) (0 + 1 + 1 + 1) (c .2)
+pub accepted-ward : (ws vs : List ℕ) → checkWard ws ≡ good vs → Accepted (bodyOf ws)
+unfolding checkWard ward bodyOf
+accepted-ward [] vs e = absurd (none-in (range 0 48) (λ m. first m) 0 vs e)
+accepted-ward (zero ∷ ws) vs e =
+    let a = number-in (range 0 48) (λ m. first m) 0 0 ws vs e in
+    later-accepted (0 + 1) ws (a .0) (omega (arith, few-numbers (0 ∷ ws) vs e)) (a .2)
+accepted-ward (suc m ∷ ws) vs e =
+    let a = number-in (range 0 48) (λ x. first x) 0 (suc m) ws vs e in
+    subst Accepted (body-one (suc m ∷ ws) (λ z. absurd (omega arith)))
+    (sizes-accepted 1 (suc m) (0 + 1) ws (a .0) (omega arith, in-range (range 0 48) (suc m) (a .1) .1) (few-numbers (suc m ∷ ws) vs e) (a .2))
+
+-- so m and n are there, or 0 and the edition
+pub long-ward : (ws vs : List ℕ) → checkWard ws ≡ good vs → 2 ≤ length ws
+unfolding bodyOf
+long-ward ws vs e = go (eqb (getD ws 0 0) 0) (accepted-ward ws vs e .header)
+  where
+    go : (b : Bool) → 16 ≤ length (cond b (drop 2 ws) ws) → 2 ≤ length ws
+    go true l = omega (arith, length-drop 2 ws)
+    go false l = omega arith

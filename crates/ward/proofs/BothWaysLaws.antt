@@ -20,7 +20,7 @@ use Rattle.ward.specs.Answers.{readWard, readingOf, refusedOf, counted, 
 use Rattle.ward.specs.BothWays.{BothWays}
 use Rattle.codec.proofs.NumberLaws.{AllBytes, all-bytes}
 use Rattle.layout.proofs.AcceptLaws.{accepted}
-use Rattle.layout.proofs.WithinLaws.{within-ward}
+use Rattle.ward.proofs.FitsLaws.{ward-fits}
 use Rattle.ward.proofs.RoundTrip.{ward-out, ward-back}
 
 pub counted-read : (ws : List ℕ) → counted (readingOf (good ws) .ward) ≡ ws
@@ -33,7 +33,7 @@ no-yes n e = let z : _≡_ {A = ℕ} 0 1 = cc in omega arith
 -- the numbers that are let through are those that were asked
 same-numbers : (ws vs : List ℕ) → checkWard ws ≡ good vs → vs ≡ ws
 unfolding checkWard
-same-numbers ws vs e = accepted ward numberPlaces 0 ws vs within-ward e .same
+same-numbers ws vs e = accepted ward numberPlaces 0 ws vs ward-fits e .same
 
 fits-in : (m : ℕ) (w : List ℕ) → writingOf m (good w) .answer ≡ Yes → (writingOf m (good w) .bytes ≡ length (bytesOf w)) × (ltb m (length (bytesOf w)) ≡ false)
 unfolding writingOf

@@ -6,11 +6,11 @@ use native.Mathlib.Omega.{arith}
 use Rattle.fields.specs.Sizes.{numberPlaces}
 use Rattle.refusals.specs.Refusals.{numbered}
 use Rattle.codec.proofs.NumberLaws.{AllBytes}
-use Rattle.fields.specs.Fields.{Accepted}
+use Rattle.fields.specs.Fields.{bodyOf, Accepted}
 use Rattle.layout.specs.Grammar.{good, bad, done}
 use Rattle.layout.specs.Layout.{ward}
 use Rattle.layout.specs.Faults.{Takes, FileFault, ListFault, FileGood}
-use Rattle.layout.proofs.WithinLaws.{within-ward}
+use Rattle.ward.proofs.FitsLaws.{ward-fits}
 use Rattle.layout.proofs.ReadFaultLaws.{read-fault, fault-read, read-takes, takes-read}
 use Rattle.layout.proofs.ListFaultLaws.{check-fault, fault-check, check-takes, takes-check}
 use Rattle.ward.specs.Answers.{readWard, checkWard}
@@ -28,7 +28,7 @@ module _ (file : List ℕ) where
 
   pub fault-file : (q p : ℕ) → FileFault ward file q p → readWard file ≡ bad (numbered q p)
   unfolding readWard
-  fault-file q p f = fault-read numberPlaces ward within-ward 0 file q p f ∙ let z : 0 + p ≡ p = omega arith in ap (λ (x : ℕ). bad (numbered q x)) z
+  fault-file q p f = fault-read numberPlaces ward ward-fits 0 file q p f ∙ let z : 0 + p ≡ p = omega arith in ap (λ (x : ℕ). bad (numbered q x)) z
 
   pub file-good : (w : List ℕ) → AllBytes file → readWard file ≡ good w → FileGood ward file w
   unfolding readWard
@@ -36,7 +36,7 @@ module _ (file : List ℕ) where
 
   pub good-file : (w : List ℕ) → FileGood ward file w → readWard file ≡ good w
   unfolding readWard
-  good-file w g = takes-read numberPlaces ward within-ward 0 file w g
+  good-file w g = takes-read numberPlaces ward ward-fits 0 file w g
 
 -- ---- a list of numbers
 
@@ -60,5 +60,5 @@ module _ (ws : List ℕ) where
   unfolding checkWard
   good-list t = takes-check ward 0 ws t
 
-pub good-accepted : (file w : List ℕ) → FileGood ward file w → Accepted w
-good-accepted file w g = accepted-ward w w (good-list w (g .takes))
+pub good-accepted : (file ws : List ℕ) → FileGood ward file ws → Accepted (bodyOf ws)
+good-accepted file ws g = accepted-ward ws ws (good-list ws (g .takes))

@@ -6,3 +6,4 @@ pub mod RoundTrip
 pub mod AcceptedLaws
 pub mod BothWaysLaws
 pub mod ReadingLaws
+pub mod FitsLaws

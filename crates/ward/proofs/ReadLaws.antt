@@ -20,7 +20,7 @@ use Rattle.layout.specs.CodeWant.{wanted, after, Within}
 use Rattle.layout.specs.Layout.{ward}
 use Rattle.ward.specs.Answers.{readWard, readingOf, refusedOf}
 use Rattle.layout.proofs.GrammarLaws.{within-step, prepend-nil, prepend-more, read-good, read-ended, read-long, read-failed, read-over, read-extra, inside}
-use Rattle.layout.proofs.WithinLaws.{within-ward}
+use Rattle.ward.proofs.FitsLaws.{ward-fits}
 
 -- `count` numbers are read and stand at the array's front, zeros after them; the grammar g is left to read at the offset `at`
 pub record So (file numbers : List ℕ) (count at : ℕ) (g : Grammar) : Type 0 where
@@ -37,7 +37,7 @@ begin file = record {
   long = length-replicate {A = ℕ} numberPlaces 0;
   counted = omega arith;
   zeros = refl;
-  room = within-ward;
+  room = ward-fits;
   inFile = omega arith;
   same = prepend-nil (read ward 0 file);
 }

@@ -22,7 +22,7 @@ use Rattle.layout.specs.Layout.{ward}
 use Rattle.ward.specs.Answers.{counted, checkWard, unwritten}
 use Rattle.ward.specs.CodeChecked.{checkedOf}
 use Rattle.layout.proofs.GrammarLaws.{in-range, small, within-some, within-step, prepend-nil, prepend-more, check-good, check-failed, check-missing, check-over, check-extra}
-use Rattle.layout.proofs.WithinLaws.{within-ward}
+use Rattle.ward.proofs.FitsLaws.{ward-fits}
 use Rattle.codec.proofs.EncodeLaws.{encode-most}
 
 -- ---- the counted numbers
@@ -82,7 +82,7 @@ begin w l = record {
   counts = omega arith;
   most = omega arith;
   few = omega arith;
-  room = within-ward;
+  room = ward-fits;
   sum = refl;
   same = prepend-nil (check ward 0 (counted w));
 }
@@ -109,8 +109,8 @@ module _ (w : Ward) (i bytes : ℕ) (g : Grammar) (so : Walked w i bytes g) wher
         pub below : getD (w .numbers) i 0 < 2 ^ 49
         below =
             let r = in-range f _ a in
-            let s : f .most < 2 ^ 49 = subst SmallField e (small (numberPlaces - i) g (so .room)) in
-            omega arith
+            let s = subst SmallField e (small (numberPlaces - i) g (so .room)) in
+            omega (arith, s .1)
 
         pub turn : Walked w (i + 1) (bytes + length (encode (getD (w .numbers) i 0))) (after g (getD (w .numbers) i 0))
         turn = record {

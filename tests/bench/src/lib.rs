@@ -2,5 +2,6 @@
 
 pub mod baseline;
 pub mod measure;
+pub mod pairs;
 pub mod sides;
 pub mod subjects;

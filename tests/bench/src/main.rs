@@ -1,7 +1,7 @@
 //! Prints a Markdown table of times. It asserts that the baseline agrees with the planner, and no
 //! time.
 
-use bench::{measure, subjects};
+use bench::{measure, pairs, subjects};
 
 fn main() {
     let Some(planner) = compare::library() else {
@@ -11,5 +11,9 @@ fn main() {
     measure::head();
     for subject in subjects::all() {
         measure::subject(&*planner, &subject);
+    }
+    pairs::head();
+    for twin in pairs::all() {
+        pairs::measure(&*planner, &twin);
     }
 }

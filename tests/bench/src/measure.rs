@@ -11,7 +11,7 @@ const ENOUGH: Duration = Duration::from_millis(400);
 const FEWEST: usize = 5;
 
 /// The least time of a call on each side, in microseconds.
-fn least(call: impl Fn() -> Times) -> Vec<f64> {
+pub fn least(call: impl Fn() -> Times) -> Vec<f64> {
     let mut least = call();
     let (mut sum, mut calls) = (Duration::ZERO, 1);
     while sum < ENOUGH || calls < FEWEST {

@@ -59,7 +59,7 @@ impl Sides<'_> {
 
     pub fn days(&self, nights: &[u32], k: u32) -> Times {
         let file = self.subject.file;
-        let mut lent = [0; NURSES];
+        let mut lent = [0; NIGHTS];
         lent[..nights.len()].copy_from_slice(nights);
         let case =
             Case::Days { file: file.to_vec(), nights: lent, record: FRESH, k, places: PLACES };

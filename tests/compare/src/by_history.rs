@@ -2,6 +2,7 @@
 
 use crate::calls::*;
 use crate::naive::{hand_back, Advanced, Reference};
+use crate::words::patterns_of_nights;
 use reference::history::{self, Call, History};
 use reference::phase::{DayPhase, NightPhase, Phase};
 use reference::record::{self, record_of};
@@ -53,10 +54,11 @@ impl Calls for ByHistory {
     fn advance_days(&self, file: &[u8], nights: &Nights, k: u32, mut handed: Handed) {
         let mut history = self.0.lock().expect("no other advance failed");
         let call = Call { k: k.into(), places: handed.buffer.len() };
+        let nights = patterns_of_nights(nights);
         let advanced = parse(file).and_then(|ward| {
-            let answered = history::advance_day(&ward, nights, &mut history, call);
+            let answered = history::advance_day(&ward, &nights, &mut history, call);
             let lists =
-                || DayPhase::open(&ward, nights, call.places).map_or(vec![], |p| p.buffer());
+                || DayPhase::open(&ward, &nights, call.places).map_or(vec![], |p| p.buffer());
             advanced(&ward, &history, answered, &lists)
         });
         hand_back(advanced, &mut handed);

@@ -1,16 +1,18 @@
 //! The five calls of the C interface, as safe Rust.
 
-/// Most numbers of a ward.
-pub const NUMBERS: usize = 4094;
-/// Words of a record: patterns, placed flags, removals of three words, steps.
-pub const RECORD: usize = 289;
+/// Places for a ward's numbers.
+pub const NUMBERS: usize = 4441;
 pub const NURSES: usize = 48;
+/// Words of a record: patterns, pairs, placed flags, removals of four words, steps.
+pub const RECORD: usize = 401;
+/// Words of a choice of nights, the first of a night record: patterns and pairs.
+pub const NIGHTS: usize = 2 * NURSES;
 /// Most letters of a roster.
 pub const ROSTER: usize = 1488;
 
 pub type Numbers = [u64; NUMBERS];
 pub type Words = [u32; RECORD];
-pub type Nights = [u32; NURSES];
+pub type Nights = [u32; NIGHTS];
 pub type Letters = [u8; ROSTER];
 /// Question, place, outcome, steps made, penalty, count.
 pub type Answer = [u64; 6];

@@ -1,13 +1,13 @@
 //! Ward files that are damaged, each in one way.
 
-use reference::samples::{file_of, Dice};
-use reference::ward::encode;
+use reference::samples::{file_of, random_pairs, with_pairs, Dice};
+use reference::ward::{encode, old_numbers, pairs_part};
 
 /// A file that is not the one these numbers make, and how it was damaged.
 pub fn damaged(dice: &mut Dice, numbers: &[u64]) -> (&'static str, Vec<u8>) {
     let mut file = file_of(numbers);
     let at = dice.index(file.len());
-    match dice.upto(9) {
+    match dice.upto(12) {
         0 => {
             file.truncate(at);
             ("cut", file)
@@ -33,7 +33,11 @@ pub fn damaged(dice: &mut Dice, numbers: &[u64]) -> (&'static str, Vec<u8>) {
             ("cut, then top bits", file)
         }
         8 => ("one duty changed", file_of(&with_duty(dice, numbers))),
-        _ => ("random bytes", random_bytes(dice, 60)),
+        9 => ("random bytes", random_bytes(dice, 60)),
+        _ => {
+            let (kind, numbers) = other_edition(dice, numbers);
+            (kind, file_of(&numbers))
+        }
     }
 }
 
@@ -56,10 +60,13 @@ fn with_bytes(
     file
 }
 
-/// The head is short: every third time a number of it.
+/// Head and pairs are short: every third time a number of the head, every sixth of the last ones.
 pub fn number_index(dice: &mut Dice, numbers: &[u64]) -> usize {
-    let length = if dice.one_in(3) { 16 } else { numbers.len() };
-    dice.index(length)
+    match dice.upto(5) {
+        0..=1 => dice.index(18),
+        2 => numbers.len() - 1 - dice.index(12),
+        _ => dice.index(numbers.len()),
+    }
 }
 
 /// The same number with one or more empty groups after it.
@@ -89,8 +96,76 @@ pub fn changed(dice: &mut Dice, old: u64) -> u64 {
 
 /// One of the seven duties of a nurse replaced by any duty.
 pub fn with_duty(dice: &mut Dice, numbers: &[u64]) -> Vec<u64> {
-    let (m, per_nurse) = (numbers[0] as usize, 11 + numbers[1] as usize);
+    let old = old_numbers(numbers);
+    let (m, per_nurse) = (old[0] as usize, 11 + old[1] as usize);
+    let duty = 16 + dice.index(m) * per_nurse + dice.index(7);
     let mut changed = numbers.to_vec();
-    changed[16 + dice.index(m) * per_nurse + dice.index(7)] = dice.upto(5);
+    changed[numbers.len() - old.len() + duty] = dice.upto(5);
     changed
+}
+
+/// The numbers of edition one, and the first days of the pairs; any for a ward of edition one.
+fn parts(dice: &mut Dice, numbers: &[u64]) -> (Vec<u64>, Vec<u64>) {
+    let old = old_numbers(numbers);
+    let pairs = pairs_part(old);
+    let first_days = pairs.get(1..).map_or_else(|| random_pairs(dice, old[1]), <[u64]>::to_vec);
+    (old[..old.len() - pairs.len()].to_vec(), first_days)
+}
+
+/// A ward of edition two whose head or pairs are changed in one way, and the way.
+pub fn other_edition(dice: &mut Dice, numbers: &[u64]) -> (&'static str, Vec<u64>) {
+    let (old, first_days) = parts(dice, numbers);
+    let good = with_pairs(&old, &first_days);
+    let count = old.len() + 2;
+    let mut changed = good.clone();
+    let kind = match dice.upto(9) {
+        0 => {
+            changed[1] = dice.pick(&[0, 1, 3, 4, 5, 48, 128, 1 << 40]);
+            "another edition"
+        }
+        1 => {
+            changed.drain(..dice.from(1, 2) as usize);
+            "edition two without its head"
+        }
+        2 => {
+            changed.splice(..0, [0, 2]);
+            "head twice"
+        }
+        3 => {
+            changed.truncate(count + dice.index(first_days.len() + 1));
+            "pairs cut"
+        }
+        4 => {
+            changed.extend((0..dice.from(1, 3)).map(|_| dice.upto(31)));
+            "numbers after the pairs"
+        }
+        5 => {
+            changed[count] = other_count(dice, first_days.len() as u64, old[1]);
+            "another count of pairs"
+        }
+        6..=8 => {
+            let days = other_days(dice, &first_days, old[1]);
+            changed.splice(count.., [vec![days.len() as u64], days].concat());
+            "another first day"
+        }
+        _ => "edition two",
+    };
+    (kind, changed)
+}
+
+/// Beside the count, or at a limit.
+fn other_count(dice: &mut Dice, count: u64, n: u64) -> u64 {
+    dice.pick(&[count + 1, count.saturating_sub(1), 0, 1, n - 1, n, 10, 11, 127])
+}
+
+/// One first day replaced, added or moved: beside the one before it, or at a limit.
+fn other_days(dice: &mut Dice, first_days: &[u64], n: u64) -> Vec<u64> {
+    let mut days = first_days.to_vec();
+    if days.is_empty() || dice.one_in(4) && days.len() < 10 {
+        days.push(n - 1);
+    }
+    let at = dice.index(days.len());
+    let before = if at == 0 { 0 } else { days[at - 1] };
+    days[at] = dice.pick(&[before, before + 1, before.saturating_sub(1), n - 1, n, n + 1, 0, 31]);
+    days
 }

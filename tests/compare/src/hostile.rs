@@ -4,7 +4,9 @@ use crate::calls::*;
 use crate::case::Case;
 use crate::rounds::FRESH;
 use crate::trial::Trial;
-use reference::samples::{file_of, DEAD_ENDS, LARGE, OLD_ROSTER, REDATED, STUCK, SURGICAL};
+use crate::words::{nights_of_record, PAIRS};
+use reference::samples::*;
+use reference::ward::parse;
 
 /// Patterns of the longest common list: 31 days, V 15, L 3, gaps 1.
 const LONGEST_LIST: usize = 2_679_533;
@@ -14,6 +16,9 @@ const LARGE_LIST: usize = 16_362;
 /// Where the first nurse's mark of day 1 stands.
 const FIRST_MARK: usize = 16 + 11;
 
+/// No night for anybody, and no pair.
+const NO_NIGHTS: Nights = [0; NIGHTS];
+
 fn nights(file: &[u8], k: u32, places: usize) -> Case {
     Case::Nights { file: file.to_vec(), record: FRESH, k, places }
 }
@@ -21,6 +26,22 @@ fn nights(file: &[u8], k: u32, places: usize) -> Case {
 fn days(file: &[u8], nights: Nights, k: u32, places: usize) -> Case {
     Case::Days { file: file.to_vec(), nights, record: FRESH, k, places }
 }
+
+/// The same night for everybody.
+fn every_night(pattern: u32, pair: u32) -> Nights {
+    let mut nights = NO_NIGHTS;
+    nights[..PAIRS].fill(pattern);
+    nights[PAIRS..].fill(pair);
+    nights
+}
+
+/// A ward of edition one with these pairs.
+fn of_edition_two(file: &[u8], first_days: &[u64]) -> Vec<u8> {
+    file_of(&with_pairs(&parse(file).expect("a ward").numbers, first_days))
+}
+
+/// Ten pairs of a month of 31 days, at its ends and one upon the other.
+const TEN_PAIRS: [u64; 10] = [1, 2, 3, 8, 9, 15, 22, 28, 29, 30];
 
 /// Nurses free for the whole month, no needs, with the longest lists there are.
 fn free_month(nurses: u64) -> Vec<u8> {
@@ -52,6 +73,7 @@ pub fn all(trial: &mut Trial) {
     dead_ends(trial);
     long_lists(trial);
     large_wards(trial);
+    large_wards_with_pairs(trial);
     whole_searches(trial);
 }
 
@@ -60,7 +82,7 @@ fn long_files(trial: &mut Trial) {
         let file = vec![byte; 1 << 20];
         trial.compare("a long file", &Case::Read { file: file.clone() });
         trial.compare("a long file", &nights(&file, 10_000, 16_384));
-        trial.compare("a long file", &days(&file, [0; 48], 10_000, 16_384));
+        trial.compare("a long file", &days(&file, NO_NIGHTS, 10_000, 16_384));
         trial.compare("a long file", &Case::Check { file: file.clone(), roster: file });
     }
     for letter in [b'/', b'-', b'N'] {
@@ -78,7 +100,7 @@ fn long_files(trial: &mut Trial) {
 fn dead_ends(trial: &mut Trial) {
     trial.compare("dead ends", &nights(DEAD_ENDS, 1_000, 16_384));
     for places in [0, 1, 16_384] {
-        trial.compare("dead ends", &days(DEAD_ENDS, [0; 48], 1_000, places));
+        trial.compare("dead ends", &days(DEAD_ENDS, NO_NIGHTS, 1_000, places));
     }
 }
 
@@ -86,8 +108,8 @@ fn long_lists(trial: &mut Trial) {
     let (one, full) = (free_month(1), free_month(48));
     for places in [0, 1, 16_384, 1_000_000] {
         trial.compare("the longest common list", &nights(&full, 10_000, places));
-        trial.compare("the longest day lists", &days(&full, [0; 48], 10_000, places));
-        trial.compare("the longest day lists", &days(&full, [1 << 15; 48], 1, places));
+        trial.compare("the longest day lists", &days(&full, NO_NIGHTS, 10_000, places));
+        trial.compare("the longest day lists", &days(&full, every_night(1 << 15, 0), 1, places));
     }
     for places in [LONGEST_LIST - 1, LONGEST_LIST] {
         trial.compare("the longest common list, all of it", &nights(&one, 1, places));
@@ -97,31 +119,60 @@ fn long_lists(trial: &mut Trial) {
 fn large_wards(trial: &mut Trial) {
     for places in [0, LARGE_LIST - 1, LARGE_LIST, LARGE_LIST + 1] {
         trial.compare("the large ward", &nights(LARGE, 2, places));
-        trial.compare("the large ward", &days(LARGE, [0; 48], 2, places));
+        trial.compare("the large ward", &days(LARGE, NO_NIGHTS, 2, places));
     }
 }
 
-/// Both searches of the re-dated ward to zero, the surgical ward's first, the stuck ward to none,
-/// and 10,000 steps.
+/// Ten times as many patterns, the longest file of edition two, and the longest lists under pairs.
+fn large_wards_with_pairs(trial: &mut Trial) {
+    let large = of_edition_two(LARGE, &TEN_PAIRS);
+    assert_eq!(large.len(), 4_203);
+    trial.compare("the large ward with pairs", &Case::Read { file: large.clone() });
+    for places in [LARGE_LIST - 1, LARGE_LIST] {
+        trial.compare("the large ward with pairs", &nights(&large, 2, places));
+    }
+    for pair in [0, 10, 11] {
+        trial.compare("the large ward with pairs", &days(&large, every_night(0, pair), 2, 9));
+    }
+    let full = of_edition_two(&free_month(48), &TEN_PAIRS);
+    for places in [1, 16_384, 1_000_000] {
+        trial.compare("the longest common list", &nights(&full, 10_000, places));
+        trial.compare("the longest day lists", &days(&full, every_night(0, 5), 1, places));
+    }
+    let extended = [&large[..], &[0; 1 << 20]].concat();
+    trial.compare("a long file", &Case::Read { file: extended });
+}
+
+/// Both searches of the re-dated ward and of months with pairs to zero, the surgical ward's first,
+/// the stuck ward to none, and 10,000 steps.
 fn whole_searches(trial: &mut Trial) {
     trial.compare("the stuck ward", &nights(STUCK, 1_000, 16_384));
     trial.compare("ten thousand steps", &nights(&never_at_zero(), 10_000, 16_384));
-    let by_day = |trial: &mut Trial, kind, file: &[u8]| {
+    let never_with_pairs = of_edition_two(&never_at_zero(), &[2, 4, 5, 8]);
+    trial.compare("ten thousand steps", &nights(&never_with_pairs, 10_000, 16_384));
+    let left = trial.compare("the weekends", &nights(WEEKENDS, 1_000, 16_384));
+    assert_eq!(left.answer()[OUTCOME..=PENALTY], [ASKED, 1_000, 1]);
+    let by_day = |trial: &mut Trial, kind, file: &[u8], night_steps: u64| {
         let left = trial.compare(kind, &nights(file, 1_000, 16_384));
-        assert_eq!(left.answer()[OUTCOME..=STEPS], [ZERO, 371]);
-        let mut chosen = [0; NURSES];
-        chosen.copy_from_slice(&left.record()[..NURSES]);
+        assert_eq!(left.answer()[OUTCOME..=STEPS], [ZERO, night_steps]);
+        let chosen = nights_of_record(&left.record());
         trial.compare(kind, &days(file, chosen, 1_000, 16_384))
     };
-    let left = by_day(trial, "the surgical ward", SURGICAL);
+    let left = by_day(trial, "the surgical ward", SURGICAL, 371);
     assert_eq!(left.answer()[..=PLACE], [10, 27]);
     let roster = OLD_ROSTER.lines().collect::<String>().into_bytes();
     let left =
         trial.compare("the old rule's roster", &Case::Check { file: SURGICAL.to_vec(), roster });
     assert_eq!(left.answer()[OUTCOME], NO);
-    let left = by_day(trial, "the re-dated ward", REDATED);
-    assert_eq!(left.answer()[OUTCOME..=STEPS], [ZERO, 39]);
-    let roster = left.roster().to_vec();
-    let left = trial.compare("the re-dated ward", &Case::Check { file: REDATED.to_vec(), roster });
-    assert_eq!(left.answer()[OUTCOME], YES);
+    for (kind, file, night_steps, day_steps) in [
+        ("the re-dated ward", REDATED, 371, 39),
+        ("a month with weekends", PAIRS_MONTH, 300, 22),
+        ("a month with ten pairs", PAIRS_TEN, 15, 687),
+    ] {
+        let left = by_day(trial, kind, file, night_steps);
+        assert_eq!(left.answer()[OUTCOME..=STEPS], [ZERO, day_steps]);
+        let roster = left.roster().to_vec();
+        let left = trial.compare(kind, &Case::Check { file: file.to_vec(), roster });
+        assert_eq!(left.answer()[OUTCOME], YES);
+    }
 }

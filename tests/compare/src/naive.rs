@@ -1,7 +1,7 @@
 //! The naive reference behind the signatures of the C interface.
 
 use crate::calls::*;
-use crate::words::{record_of_words, words_of_record};
+use crate::words::{patterns_of_nights, record_of_words, words_of_record};
 use reference::check::check_in;
 use reference::phase::End;
 use reference::record::{self, advance_day_in, advance_night_in, Record};
@@ -51,6 +51,17 @@ pub fn give_reading(read: Result<Ward, Refusal>, numbers: &mut Numbers, answer: 
     }
 }
 
+/// The bytes of a ward, as the C interface writes them.
+pub fn give_file(written: Result<Vec<u8>, Refusal>, buffer: &mut [u8], answer: &mut Answer) {
+    match written {
+        Err(no) => *answer = refused(no),
+        Ok(bytes) => {
+            buffer[..bytes.len()].copy_from_slice(&bytes);
+            *answer = [0, 0, 0, 0, 0, bytes.len() as u64];
+        }
+    }
+}
+
 pub fn give_check(checked: Result<bool, Refusal>) -> Answer {
     match checked {
         Err(no) => refused(no),
@@ -66,7 +77,7 @@ pub fn nights(ward: &Ward, words: &Words, k: u32, places: usize) -> Advanced {
 /// A day advance on the words of a record.
 pub fn days(ward: &Ward, nights: &Nights, words: &Words, k: u32, places: usize) -> Advanced {
     let record: Record = record_of_words(words);
-    advance_day_in(ward, nights, &record, u64::from(k), places)
+    advance_day_in(ward, &patterns_of_nights(nights), &record, u64::from(k), places)
 }
 
 impl Calls for Reference {
@@ -75,13 +86,7 @@ impl Calls for Reference {
     }
 
     fn write(&self, numbers: &Numbers, count: u64, buffer: &mut [u8], answer: &mut Answer) {
-        match write(numbers, count, buffer.len()) {
-            Err(no) => *answer = refused(no),
-            Ok(bytes) => {
-                buffer[..bytes.len()].copy_from_slice(&bytes);
-                *answer = [0, 0, 0, 0, 0, bytes.len() as u64];
-            }
-        }
+        give_file(write(numbers, count, buffer.len()), buffer, answer);
     }
 
     fn advance_nights(&self, file: &[u8], k: u32, mut handed: Handed) {

@@ -2,7 +2,8 @@
 //! must let through.
 
 use crate::calls::{Words, NURSES};
-use crate::words::{FLAGS, REMOVALS, STEPS_AT};
+use crate::words::{removal_at, FLAGS, PAIRS, REMOVAL, REMOVALS, STEPS_AT};
+use reference::pairs::{self, Pattern};
 use reference::record::MOST_REMOVALS;
 use reference::samples::Dice;
 use reference::ward::Ward;
@@ -13,8 +14,8 @@ pub fn changed(dice: &mut Dice, ward: &Ward, good: &Words) -> (&'static str, Wor
     let held = ward.tabu_length.min(good[STEPS_AT] as usize);
     let mut words = *good;
     let nurse = dice.index(m);
-    let place = REMOVALS + 3 * dice.index(held.max(1));
-    let kind = match dice.upto(14) {
+    let place = removal_at(dice.index(held.max(1)));
+    let kind = match dice.upto(20) {
         0 => {
             (words[nurse], words[FLAGS + nurse]) = (any_pattern(dice, good[nurse]), 1);
             "record: another pattern in use"
@@ -50,8 +51,8 @@ pub fn changed(dice: &mut Dice, ward: &Ward, good: &Words) -> (&'static str, Wor
         }
         8 => {
             let unused = held + dice.index((MOST_REMOVALS - held).max(1));
-            let at = REMOVALS + 3 * unused.min(MOST_REMOVALS - 1);
-            words[at + dice.index(3)] = dice.from(1, m as u64) as u32;
+            let at = removal_at(unused.min(MOST_REMOVALS - 1));
+            words[at + dice.index(REMOVAL)] = dice.from(1, m as u64) as u32;
             "record: a removal too many"
         }
         9 => {
@@ -72,13 +73,42 @@ pub fn changed(dice: &mut Dice, ward: &Ward, good: &Words) -> (&'static str, Wor
         }
         13 => {
             let other = dice.index(m);
-            words.swap(nurse, other);
-            words.swap(FLAGS + nurse, FLAGS + other);
+            for part in [0, PAIRS, FLAGS] {
+                words.swap(part + nurse, part + other);
+            }
             "record: two nurses' patterns exchanged"
         }
-        _ => {
-            words[place..place + 3].copy_from_slice(&[nurse as u32 + 1, 1, good[nurse]]);
+        14 => {
+            let removal = [nurse as u32 + 1, 1, good[nurse], good[PAIRS + nurse]];
+            words[place..][..REMOVAL].copy_from_slice(&removal);
             "record: the pattern in use given up"
+        }
+        15 => {
+            let pair = any_pair(dice, ward, good[PAIRS + nurse]);
+            (words[PAIRS + nurse], words[FLAGS + nurse]) = (pair, 1);
+            "record: another pair in use"
+        }
+        16 => {
+            let pair = dice.from(1, 10) as u32;
+            (words[nurse], words[PAIRS + nurse], words[FLAGS + nurse]) = (0, pair, 0);
+            "record: unplaced with a pair"
+        }
+        17 => {
+            words[PAIRS + past_last(dice, m)] = dice.from(1, 10) as u32;
+            "record: a pair past the last nurse"
+        }
+        18 => {
+            (words[place + 1], words[place + 3]) = (1, any_pair(dice, ward, good[place + 3]));
+            "record: a removal with another pair"
+        }
+        19 => {
+            words[place + 1..place + 4].copy_from_slice(&[0, 0, dice.from(1, 10) as u32]);
+            "record: a removal with no pattern but a pair"
+        }
+        _ => {
+            let pair = another_of_hers(dice, ward, nurse, good);
+            words[place..][..REMOVAL].copy_from_slice(&[nurse as u32 + 1, 1, good[nurse], pair]);
+            "record: the night in use given up with another pair"
         }
     };
     (kind, words)
@@ -87,7 +117,7 @@ pub fn changed(dice: &mut Dice, ward: &Ward, good: &Words) -> (&'static str, Wor
 /// The same record with other flags for placed and given up.
 pub fn other_flags(dice: &mut Dice, good: &Words) -> Words {
     let mut words = *good;
-    let removals = (0..MOST_REMOVALS).map(|at| REMOVALS + 3 * at + 1);
+    let removals = (0..MOST_REMOVALS).map(|at| removal_at(at) + 1);
     for at in (FLAGS..REMOVALS).chain(removals) {
         words[at] *= dice.pick(&[1, 2, 7, 1 << 31, u32::MAX]);
     }
@@ -97,6 +127,30 @@ pub fn other_flags(dice: &mut Dice, good: &Words) -> Words {
 /// An unused nurse; the last one of a full ward.
 fn past_last(dice: &mut Dice, m: usize) -> usize {
     dice.from(m as u64, NURSES as u64).min(NURSES as u64 - 1) as usize
+}
+
+/// Another pair that she may have off with the night that she has in use; else the same.
+fn another_of_hers(dice: &mut Dice, ward: &Ward, nurse: usize, good: &Words) -> u32 {
+    let held = good[PAIRS + nurse];
+    let hers = |&pair: &u32| pairs::hers(ward, nurse, Pattern { days: good[nurse], pair });
+    let numbers = ward.pairs.iter().map(|pair| pair.number);
+    let others: Vec<u32> = numbers.filter(|&pair| pair != held).filter(hers).collect();
+    if others.is_empty() {
+        held
+    } else {
+        dice.pick(&others)
+    }
+}
+
+/// None, one of the ward's, just past them, or anything.
+pub fn any_pair(dice: &mut Dice, ward: &Ward, old: u32) -> u32 {
+    let last = ward.pairs[ward.pairs.len() - 1].number;
+    match dice.upto(3) {
+        0 => 0,
+        1 => dice.upto(u64::from(last)) as u32,
+        2 => dice.pick(&[last + 1, old ^ 1, 11, u32::MAX, 1 << 31]),
+        _ => dice.from(1, 12) as u32,
+    }
 }
 
 /// Beside the old one, within a small month, or anything.

@@ -5,7 +5,7 @@ use crate::calls::*;
 use crate::case::{Case, Left};
 use crate::trial::Trial;
 use crate::wards::{planned, spoiled, Planned, Size};
-use crate::words::STEPS_AT;
+use crate::words::{nights_of_record, patterns_of_nights, words_of_nights, PAIRS, STEPS_AT};
 use crate::{files, records, rosters};
 use reference::phase::{DayPhase, NightPhase, Phase};
 use reference::samples::Dice;
@@ -50,7 +50,7 @@ pub fn writing(trial: &mut Trial, dice: &mut Dice, size: &Size) {
     let less = dice.upto(count);
     trial.compare("room too short", &write(dice, numbers, count, less as usize));
     trial.compare("numbers missing", &write(dice, numbers, less, needed));
-    for more in [count + dice.from(1, 9), 4_094, 4_095, u64::MAX, 1 << 32] {
+    for more in [count + dice.from(1, 9), 4_107, 4_108, 4_441, 4_442, u64::MAX, 1 << 32] {
         trial.compare("numbers too many", &write(dice, numbers, more, needed));
     }
     for _ in 0..4 {
@@ -62,6 +62,9 @@ pub fn writing(trial: &mut Trial, dice: &mut Dice, size: &Size) {
         trial.compare("one number of any size", &write(dice, &changed, count, needed + 7));
         let changed = files::with_duty(dice, numbers);
         trial.compare("one duty changed", &write(dice, &changed, count, needed));
+        let (kind, changed) = files::other_edition(dice, numbers);
+        let count = changed.len() as u64;
+        trial.compare(kind, &write(dice, &changed, count, needed + 20));
     }
 }
 
@@ -107,17 +110,19 @@ fn by_night(planned: &Planned) -> Search<'_> {
 }
 
 fn by_day<'a>(planned: &'a Planned, nights: &Nights) -> Search<'a> {
-    let hers = |nurse: usize| days::count(&planned.ward, nurse, nights[nurse]) as usize;
+    let patterns = patterns_of_nights(nights);
+    let hers = |nurse: usize| days::count(&planned.ward, nurse, patterns[nurse]) as usize;
     let needed = (0..planned.ward.nurse_count).map(hers).sum();
     Search { planned, nights: Some(*nights), needed }
 }
 
 /// A choice of nights; what stands after nurse m is not to be looked at.
-fn nights_of(dice: &mut Dice, planned: &Planned, patterns: &[u32]) -> Nights {
-    let (mut nights, m) = ([0; NURSES], planned.ward.nurse_count);
-    nights[..m].copy_from_slice(&patterns[..m]);
+fn nights_of(dice: &mut Dice, planned: &Planned, mut nights: Nights) -> Nights {
+    let m = planned.ward.nurse_count;
     if dice.one_in(2) {
-        nights[m..].fill_with(|| dice.upto(u64::from(u32::MAX)) as u32);
+        for at in (m..NURSES).chain(PAIRS + m..NIGHTS) {
+            nights[at] = dice.upto(u64::from(u32::MAX)) as u32;
+        }
     }
     nights
 }
@@ -135,13 +140,13 @@ pub fn by_nights(trial: &mut Trial, dice: &mut Dice, size: &Size) {
 /// that are not hers or not at zero.
 pub fn by_days(trial: &mut Trial, dice: &mut Dice, size: &Size) {
     let planned = any_ward(dice, size);
-    let mut nights = nights_of(dice, &planned, &planned.nights);
+    let mut nights = nights_of(dice, &planned, words_of_nights(&planned.nights));
     if dice.one_in(2) {
         let search = by_night(&planned);
         let places = search.needed;
         let left = trial.compare("from fresh, for the days", &search.case(&FRESH, 60, places));
         if left.answer()[OUTCOME] == ZERO {
-            nights = nights_of(dice, &planned, &left.record());
+            nights = nights_of(dice, &planned, nights_of_record(&left.record()));
         }
     }
     let search = by_day(&planned, &nights);
@@ -154,7 +159,7 @@ pub fn by_days(trial: &mut Trial, dice: &mut Dice, size: &Size) {
     }
 }
 
-/// One nurse's nights changed.
+/// One nurse's nights or her pair changed.
 fn other_nights(
     trial: &mut Trial,
     dice: &mut Dice,
@@ -165,7 +170,11 @@ fn other_nights(
     for _ in 0..3 {
         let mut other = *nights;
         let nurse = dice.index(planned.ward.nurse_count);
-        other[nurse] = records::any_pattern(dice, nights[nurse]);
+        if dice.one_in(2) {
+            other[nurse] = records::any_pattern(dice, nights[nurse]);
+        } else {
+            other[PAIRS + nurse] = records::any_pair(dice, &planned.ward, nights[PAIRS + nurse]);
+        }
         let search = Search { planned, nights: Some(other), needed: LONGEST };
         let record = if dice.one_in(2) { &FRESH } else { record };
         trial.compare("other nights", &search.case(record, 2, LONGEST));
@@ -248,7 +257,7 @@ pub fn long_nights(trial: &mut Trial, dice: &mut Dice, size: &Size) {
 /// Many steps by day over the planned nights, to the end if there is one.
 pub fn long_days(trial: &mut Trial, dice: &mut Dice, size: &Size) {
     let planned = any_ward(dice, size);
-    let nights = nights_of(dice, &planned, &planned.nights);
+    let nights = nights_of(dice, &planned, words_of_nights(&planned.nights));
     many_steps(trial, dice, &by_day(&planned, &nights));
 }
 
@@ -269,12 +278,12 @@ pub fn chains(trial: &mut Trial, dice: &mut Dice, size: &Size) {
     }
     let left = chain(trial, dice, &by_night(&planned));
     let nights = match left {
-        Some(left) if left.answer()[OUTCOME] == ZERO => left.record()[..NURSES].to_vec(),
-        _ => planned.nights.clone(),
+        Some(left) if left.answer()[OUTCOME] == ZERO => nights_of_record(&left.record()),
+        _ => words_of_nights(&planned.nights),
     };
-    let search = by_day(&planned, &nights_of(dice, &planned, &nights));
+    let search = by_day(&planned, &nights_of(dice, &planned, nights));
     let short = search.needed <= 3_000;
-    let phase = DayPhase::open(&planned.ward, &nights, LONGEST);
+    let phase = DayPhase::open(&planned.ward, &patterns_of_nights(&nights), LONGEST);
     if short && phase.is_ok_and(|phase| everyone_has_a_pattern(&phase)) {
         chain(trial, dice, &search);
     }
@@ -307,6 +316,11 @@ pub fn checking(trial: &mut Trial, dice: &mut Dice, size: &Size) {
     let planned = any_ward(dice, size);
     let plan = rosters::of_plan(&planned);
     check_around(trial, dice, &planned, "planned roster", &plan);
+    for _ in 0..4 {
+        let roster = rosters::without_a_pair(dice, &planned);
+        let case = Case::Check { file: planned.file.clone(), roster };
+        trial.compare("a row without its pair", &case);
+    }
     if let Some(roster) = searched(trial, dice, &planned) {
         check_around(trial, dice, &planned, "roster given out", &roster);
     }
@@ -337,7 +351,8 @@ fn searched(trial: &mut Trial, dice: &mut Dice, planned: &Planned) -> Option<Vec
     if left.answer()[OUTCOME] != ZERO {
         return None;
     }
-    let search = by_day(planned, &nights_of(dice, planned, &left.record()));
+    let nights = nights_of(dice, planned, nights_of_record(&left.record()));
+    let search = by_day(planned, &nights);
     if search.needed > LONGEST {
         return None;
     }

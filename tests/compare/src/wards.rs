@@ -1,10 +1,11 @@
 //! Random wards. Each is made around a planned roster, so that most have patterns for everyone
 //! and a roster at penalty zero; some are then spoiled.
 
+use reference::days;
+use reference::pairs::{self, days_off, Pattern};
 use reference::rows::{day_bit, duties, has_day, states, Duty, State};
-use reference::samples::{file_of, random_before, ward_of, Dice};
-use reference::ward::Ward;
-use reference::{days, nights};
+use reference::samples::{file_of, random_before, random_pairs, ward_of, with_pairs, Dice};
+use reference::ward::{old_numbers, Ward};
 
 /// Where D stands among the head's numbers.
 const LONGEST_DAY_RUN: usize = 9;
@@ -113,11 +114,18 @@ pub struct Draft {
     nurses: Vec<Vec<u64>>,
     groups: Vec<u64>,
     days: Vec<Vec<u64>>,
+    /// first days of the pairs, in edition two
+    pairs: Option<Vec<u64>>,
 }
 
 impl Draft {
     pub fn numbers(&self) -> Vec<u64> {
-        [self.head.clone(), self.nurses.concat(), self.groups.clone(), self.days.concat()].concat()
+        let parts = [&self.head, &self.nurses.concat(), &self.groups, &self.days.concat()];
+        let old = parts.map(Vec::as_slice).concat();
+        match &self.pairs {
+            None => old,
+            Some(first_days) => with_pairs(&old, first_days),
+        }
     }
 
     fn ward(&self) -> Ward {
@@ -130,7 +138,7 @@ impl Draft {
 pub struct Planned {
     pub file: Vec<u8>,
     pub ward: Ward,
-    pub nights: Vec<u32>,
+    pub nights: Vec<Pattern>,
     /// none where some nurse has no day pattern over those nights
     pub days: Option<Vec<u32>>,
 }
@@ -138,8 +146,9 @@ pub struct Planned {
 /// A ward around a plan.
 pub fn planned(dice: &mut Dice, size: &Size) -> Planned {
     let mut draft = unbound(dice, size);
+    give_pairs(dice, &mut draft);
     let open = draft.ward();
-    let nights: Vec<u32> = (0..open.nurse_count).map(|i| plan_nights(dice, &open, i)).collect();
+    let nights: Vec<Pattern> = (0..open.nurse_count).map(|i| plan_nights(dice, &open, i)).collect();
     for (nurse, &night) in nights.iter().enumerate() {
         mark_days_off(dice, size, &open, &mut draft, nurse, night);
     }
@@ -148,15 +157,36 @@ pub fn planned(dice: &mut Dice, size: &Size) -> Planned {
     let days: Option<Vec<u32>> =
         (0..open.nurse_count).map(|i| plan_days(dice, &open, i, nights[i])).collect();
     let worked = days.clone().unwrap_or(vec![0; open.nurse_count]);
-    for (nurse, row) in nights.iter().copied().zip(worked.iter().copied()).enumerate() {
-        bind_nurse(dice, size, &open, &mut draft, nurse, row);
+    for (nurse, (night, worked)) in nights.iter().zip(&worked).enumerate() {
+        bind_nurse(dice, size, &open, &mut draft, nurse, (night.days, *worked));
     }
-    bind_days(dice, &open, &mut draft, &nights, &worked);
+    let starts: Vec<u32> = nights.iter().map(|night| night.days).collect();
+    bind_days(dice, &open, &mut draft, &starts, &worked);
     finish(draft, nights, days)
 }
 
+/// A pair without a night before it, where she may have one off.
+fn pair_of_hers(dice: &mut Dice, ward: &Ward, nurse: usize) -> Option<u32> {
+    let fits = |&pair: &u32| pairs::fits(ward, nurse, Pattern { days: 0, pair });
+    let hers: Vec<u32> = ward.pairs.iter().map(|pair| pair.number).filter(fits).collect();
+    (!hers.is_empty()).then(|| dice.pick(&hers))
+}
+
+/// In most wards everyone whom last month's night leaves no pair had rests before the month.
+fn give_pairs(dice: &mut Dice, draft: &mut Draft) {
+    if dice.one_in(6) {
+        return;
+    }
+    let open = draft.ward();
+    for nurse in 0..open.nurse_count {
+        if pair_of_hers(dice, &open, nurse).is_none() {
+            draft.nurses[nurse][..7].fill(0);
+        }
+    }
+}
+
 /// In most wards everyone who has no day pattern loses what stands in its way.
-fn give_days(dice: &mut Dice, draft: &mut Draft, nights: &[u32]) {
+fn give_days(dice: &mut Dice, draft: &mut Draft, nights: &[Pattern]) {
     if dice.one_in(6) {
         return;
     }
@@ -173,10 +203,10 @@ fn give_days(dice: &mut Dice, draft: &mut Draft, nights: &[u32]) {
 pub fn spoiled(dice: &mut Dice, size: &Size) -> Planned {
     let planned = planned(dice, size);
     let mut draft = draft_of(&planned.ward);
-    if dice.one_in(2) {
-        spoil_nurse(dice, &mut draft);
-    } else {
-        spoil_days(dice, &mut draft);
+    match dice.upto(5) {
+        0..=1 => spoil_nurse(dice, &mut draft),
+        2..=3 => spoil_days(dice, &mut draft),
+        _ => spoil_pairs(dice, &mut draft),
     }
     finish(draft, planned.nights, planned.days)
 }
@@ -210,6 +240,29 @@ fn spoil_days(dice: &mut Dice, draft: &mut Draft) {
     }
 }
 
+/// Nobody may have a pair off, or one nurse may not; or the ward has other pairs.
+fn spoil_pairs(dice: &mut Dice, draft: &mut Draft) {
+    let n = draft.days.len() as u64;
+    match (dice.upto(3), draft.pairs.clone()) {
+        (0, Some(first_days)) => {
+            draft.nurses.iter_mut().for_each(|her| bar_pairs(dice, her, &first_days));
+        }
+        (1, Some(first_days)) => {
+            let nurse = dice.index(draft.nurses.len());
+            bar_pairs(dice, &mut draft.nurses[nurse], &first_days);
+        }
+        (2, Some(_)) => draft.pairs = None,
+        _ => draft.pairs = Some(random_pairs(dice, n)),
+    }
+}
+
+/// A mark on one of each pair's days under which it is no day off.
+fn bar_pairs(dice: &mut Dice, her: &mut [u64], first_days: &[u64]) {
+    for &day in first_days {
+        her[MARKS + day as usize - 1 + dice.index(2)] = dice.pick(&[2, 4]);
+    }
+}
+
 /// Marks 3 on two days next to each other: no pattern allows them.
 fn two_starts_together(dice: &mut Dice, her: &mut [u64]) {
     let n = her.len() - MARKS;
@@ -218,22 +271,24 @@ fn two_starts_together(dice: &mut Dice, her: &mut [u64]) {
     her[MARKS + (first + 1).min(n - 1)] = 3;
 }
 
-fn finish(draft: Draft, nights: Vec<u32>, days: Option<Vec<u32>>) -> Planned {
+fn finish(draft: Draft, nights: Vec<Pattern>, days: Option<Vec<u32>>) -> Planned {
     let numbers = draft.numbers();
     Planned { file: file_of(&numbers), ward: ward_of(&numbers), nights, days }
 }
 
 /// The parts of a ward already read.
 pub fn draft_of(ward: &Ward) -> Draft {
-    let numbers = &ward.numbers;
+    let numbers = old_numbers(&ward.numbers);
     let (per_nurse, per_day) = (MARKS + ward.day_count, 2 + 4 * ward.group_count);
     let groups = 16 + ward.nurse_count * per_nurse;
     let days = groups + ward.group_count;
+    let end = days + ward.day_count * per_day;
     Draft {
         head: numbers[..16].to_vec(),
         nurses: numbers[16..groups].chunks(per_nurse).map(<[u64]>::to_vec).collect(),
         groups: numbers[groups..days].to_vec(),
-        days: numbers[days..].chunks(per_day).map(<[u64]>::to_vec).collect(),
+        days: numbers[days..end].chunks(per_day).map(<[u64]>::to_vec).collect(),
+        pairs: numbers[end..].get(1..).map(<[u64]>::to_vec),
     }
 }
 
@@ -244,10 +299,13 @@ fn draw(dice: &mut Dice, span: Span) -> u64 {
 /// Seven days that end in a run of four nights, longer than any of one month.
 const LONGEST_RUN: [u64; 7] = [2, 3, 2, 3, 2, 3, 2];
 
-/// Seven days that end in a run of day and other duty.
+/// Seven days that end in a run of day and other duty, after rests or a night.
 fn run_before(dice: &mut Dice) -> Vec<u64> {
-    let rests = dice.from(1, 5) as usize;
-    let mut before = vec![0; rests];
+    let first = dice.from(2, 5) as usize;
+    let mut before = vec![0; first];
+    if dice.one_in(3) {
+        before[first - 2..].copy_from_slice(&[2, 3]);
+    }
     before.resize_with(7, || dice.pick(&[1, 4]));
     before
 }
@@ -264,7 +322,7 @@ fn unbound(dice: &mut Dice, size: &Size) -> Draft {
         let before = match dice.upto(11) {
             0..=3 => vec![0; 7],
             4 => LONGEST_RUN.to_vec(),
-            5 => run_before(dice),
+            5..=6 => run_before(dice),
             _ => random_before(dice),
         };
         [before, vec![0, 15, 0, 31], vec![0; n as usize]].concat()
@@ -276,16 +334,27 @@ fn unbound(dice: &mut Dice, size: &Size) -> Draft {
         nurses: (0..m).map(|_| nurse(dice)).collect(),
         groups: (0..r).map(|_| dice.from(1, (1 << m) - 1)).collect(),
         days: vec![any_day; n as usize],
+        pairs: pairs_drawn(dice, n),
     }
 }
 
-/// Starts put in from day 1 on wherever they keep the rule.
-fn plan_nights(dice: &mut Dice, ward: &Ward, nurse: usize) -> u32 {
+/// One ward in three is of edition one; one in six has weekends a week apart, the others any pairs.
+fn pairs_drawn(dice: &mut Dice, n: u64) -> Option<Vec<u64>> {
+    match dice.upto(5) {
+        0..=1 => None,
+        2 => Some((dice.from(1, 7)..n).step_by(7).collect()),
+        _ => Some(random_pairs(dice, n)),
+    }
+}
+
+/// A pair, and starts put in from day 1 on wherever both keep the rules.
+fn plan_nights(dice: &mut Dice, ward: &Ward, nurse: usize) -> Pattern {
     let rarely = dice.from(1, 4);
-    let mut pattern = 0;
+    let pair = pair_of_hers(dice, ward, nurse).unwrap_or(ward.pairs[0].number);
+    let mut pattern = Pattern { days: 0, pair };
     for day in 1..=ward.day_count {
-        let longer = pattern | day_bit(day);
-        if dice.one_in(rarely) && nights::hers(ward, nurse, longer) {
+        let longer = Pattern { days: pattern.days | day_bit(day), pair };
+        if dice.one_in(rarely) && pairs::hers(ward, nurse, longer) {
             pattern = longer;
         }
     }
@@ -293,23 +362,25 @@ fn plan_nights(dice: &mut Dice, ward: &Ward, nurse: usize) -> u32 {
 }
 
 /// Any of her day patterns, each as likely.
-fn plan_days(dice: &mut Dice, ward: &Ward, nurse: usize, night: u32) -> Option<u32> {
+fn plan_days(dice: &mut Dice, ward: &Ward, nurse: usize, night: Pattern) -> Option<u32> {
     let count = days::count(ward, nurse, night);
     (count > 0).then(|| days::nth(ward, nurse, night, dice.upto(count - 1)))
 }
 
-/// Some open days get a mark under which she is not available.
+/// Some open days get a mark under which she is not available, but no other duty on her pair.
 fn mark_days_off(
     dice: &mut Dice,
     size: &Size,
     ward: &Ward,
     draft: &mut Draft,
     nurse: usize,
-    night: u32,
+    night: Pattern,
 ) {
-    for (at, state) in states(ward, nurse, night).into_iter().enumerate() {
+    let pair = days_off(ward, night.pair);
+    for (at, state) in states(ward, nurse, night.days).into_iter().enumerate() {
         if state == State::Open && dice.one_in(6) && !dice.one_in(size.free) {
-            draft.nurses[nurse][MARKS + at] = dice.pick(&[1, 4, 6]);
+            let off = has_day(pair, at + 1);
+            draft.nurses[nurse][MARKS + at] = dice.pick(if off { &[1, 6] } else { &[1, 4, 6] });
         }
     }
     if dice.one_in(5) {
@@ -317,11 +388,12 @@ fn mark_days_off(
     }
 }
 
-/// Other duty on the open ones of some days running, at most one more than D.
-fn mark_other_duty(dice: &mut Dice, ward: &Ward, draft: &mut Draft, nurse: usize, night: u32) {
+/// Other duty on the open ones of some days running, at most one more than D, without her pair.
+fn mark_other_duty(dice: &mut Dice, ward: &Ward, draft: &mut Draft, nurse: usize, night: Pattern) {
     let (first, days) = (dice.index(ward.day_count), dice.from(1, draft.head[LONGEST_DAY_RUN] + 1));
-    let states = states(ward, nurse, night).into_iter().enumerate();
-    for (at, _) in states.skip(first).take(days as usize).filter(|day| day.1 == State::Open) {
+    let states = states(ward, nurse, night.days).into_iter().enumerate();
+    let open = states.skip(first).take(days as usize).filter(|day| day.1 == State::Open);
+    for (at, _) in open.filter(|day| !has_day(days_off(ward, night.pair), day.0 + 1)) {
         draft.nurses[nurse][MARKS + at] = 4;
     }
 }

@@ -1,9 +1,10 @@
-//! The roster check ("Roster check and writer", question 12).
+//! The roster check ("Roster check and writer", question 12; pairs by document 02, job 2).
 
+use crate::days;
+use crate::pairs::{self, Pattern};
 use crate::penalty::{columns, OnDuty};
 use crate::rows::{day_bit, letters};
 use crate::ward::{parse, refusal, Demand, Refusal, Ward};
-use crate::{days, nights};
 
 /// The days of a row with one letter, as a number.
 fn days_with(row: &[u8], letter: u8) -> u32 {
@@ -21,12 +22,15 @@ fn ask_letters(ward: &Ward, roster: &[u8]) -> Result<(), Refusal> {
     Ok(())
 }
 
-/// A row follows from a night and a day pattern of hers.
+/// A row follows from a night pattern of hers, with some pair, and a day pattern of hers.
 pub fn row_follows(ward: &Ward, nurse: usize, row: &[u8]) -> bool {
     let (night, day) = (days_with(row, b'N'), days_with(row, b'-'));
-    nights::hers(ward, nurse, night)
-        && days::hers(ward, nurse, night, day)
-        && letters(ward, nurse, night, day) == row
+    ward.pairs.iter().any(|pair| {
+        let night = Pattern { days: night, pair: pair.number };
+        pairs::hers(ward, nurse, night)
+            && days::hers(ward, nurse, night, day)
+            && letters(ward, nurse, night.days, day) == row
+    })
 }
 
 fn shift_holds(demand: &Demand, groups: &[u64], on: u64) -> bool {

@@ -1,7 +1,8 @@
-//! Day patterns of one nurse over one night pattern ("Day search").
+//! Day patterns of one nurse over one night pattern and its pair ("Day search").
 
-use crate::rows::{available_days, day_bit, duties, duties_before, marked_days, states};
-use crate::rows::{duty, is_available, Duty, State};
+use crate::pairs::Pattern;
+use crate::rows::{available_days, day_bit, duties, duties_before, has_day, marked_days, states};
+use crate::rows::{duty, Duty, State};
 use crate::ward::Ward;
 use std::collections::HashMap;
 
@@ -28,26 +29,26 @@ fn window_kept(ward: &Ward, until: &[Duty]) -> bool {
 }
 
 /// "A set of available days with every mark 2 in it".
-fn is_set_of_her_days(ward: &Ward, nurse: usize, night: u32, pattern: u32) -> bool {
-    let available = available_days(ward, nurse, &states(ward, nurse, night));
+fn is_set_of_her_days(ward: &Ward, nurse: usize, night: Pattern, pattern: u32) -> bool {
+    let available = available_days(ward, nurse, night);
     let forced = marked_days(ward, nurse, 2);
     pattern & !available == 0 && forced & !pattern == 0
 }
 
 /// Is the day pattern hers over this night pattern? Any number may be asked.
-pub fn hers(ward: &Ward, nurse: usize, night: u32, pattern: u32) -> bool {
+pub fn hers(ward: &Ward, nurse: usize, night: Pattern, pattern: u32) -> bool {
     let mut all = duties_before(&ward.nurses[nurse]);
-    all.extend(duties(ward, nurse, night, pattern));
+    all.extend(duties(ward, nurse, night.days, pattern));
     is_set_of_her_days(ward, nurse, night, pattern) && keeps_rules(ward, nurse, &all)
 }
 
 /// Available days that are not marked 2.
-fn free_days(ward: &Ward, nurse: usize, night: u32) -> u32 {
-    available_days(ward, nurse, &states(ward, nurse, night)) & !marked_days(ward, nurse, 2)
+fn free_days(ward: &Ward, nurse: usize, night: Pattern) -> u32 {
+    available_days(ward, nurse, night) & !marked_days(ward, nurse, 2)
 }
 
 /// All subsets of the free days, with the marks 2, that are hers.
-pub fn list_by_filter(ward: &Ward, nurse: usize, night: u32) -> Vec<u32> {
+pub fn list_by_filter(ward: &Ward, nurse: usize, night: Pattern) -> Vec<u32> {
     let free_set = free_days(ward, nurse, night);
     let free: Vec<u32> = (0..32).map(|at| 1 << at).filter(|bit| free_set & bit != 0).collect();
     let forced = marked_days(ward, nurse, 2);
@@ -72,19 +73,21 @@ struct Walk<'a> {
     ward: &'a Ward,
     nurse: usize,
     row: Vec<State>,
+    available: u32,
     ways: HashMap<Stand, u64>,
 }
 
 impl<'a> Walk<'a> {
-    fn new(ward: &'a Ward, nurse: usize, night: u32) -> Self {
-        Walk { ward, nurse, row: states(ward, nurse, night), ways: HashMap::new() }
+    fn new(ward: &'a Ward, nurse: usize, night: Pattern) -> Self {
+        let row = states(ward, nurse, night.days);
+        let available = available_days(ward, nurse, night);
+        Walk { ward, nurse, row, available, ways: HashMap::new() }
     }
 
-    /// Worked or not, as the day's state and mark leave open.
+    /// Worked or not, as availability and mark leave open.
     fn choices(&self, day: usize) -> Vec<bool> {
         let mark = self.ward.nurses[self.nurse].marks[day - 1];
-        let state = self.row[day - 1];
-        match (mark, is_available(mark, state)) {
+        match (mark, has_day(self.available, day)) {
             (2, true) => vec![true],
             (2, false) => vec![],
             (_, true) => vec![false, true],
@@ -152,13 +155,13 @@ fn last_six(all: &[Duty]) -> [Duty; 6] {
 }
 
 /// The exact length of her list, without the list.
-pub fn count(ward: &Ward, nurse: usize, night: u32) -> u64 {
+pub fn count(ward: &Ward, nurse: usize, night: Pattern) -> u64 {
     let mut before = duties_before(&ward.nurses[nurse]);
     Walk::new(ward, nurse, night).ways(&mut before, 0)
 }
 
 /// The pattern at an index below the count, in the order of the walk, without the list.
-pub fn nth(ward: &Ward, nurse: usize, night: u32, index: u64) -> u32 {
+pub fn nth(ward: &Ward, nurse: usize, night: Pattern, index: u64) -> u32 {
     let mut walk = Walk::new(ward, nurse, night);
     let mut all = duties_before(&ward.nurses[nurse]);
     let (mut rests, mut left, mut pattern) = (0, index, 0);
@@ -181,7 +184,7 @@ pub fn nth(ward: &Ward, nurse: usize, night: u32, index: u64) -> u32 {
 }
 
 /// Her list by depth-first generation, sorted.
-pub fn list_by_walk(ward: &Ward, nurse: usize, night: u32) -> Vec<u32> {
+pub fn list_by_walk(ward: &Ward, nurse: usize, night: Pattern) -> Vec<u32> {
     let mut list = Vec::new();
     let mut before = duties_before(&ward.nurses[nurse]);
     Walk::new(ward, nurse, night).generate(&mut before, 0, 0, &mut list);
@@ -190,7 +193,7 @@ pub fn list_by_walk(ward: &Ward, nurse: usize, night: u32) -> Vec<u32> {
 }
 
 /// Her list, ascending, where it has at most `cap` patterns.
-pub fn list_capped(ward: &Ward, nurse: usize, night: u32, cap: usize) -> Option<Vec<u32>> {
+pub fn list_capped(ward: &Ward, nurse: usize, night: Pattern, cap: usize) -> Option<Vec<u32>> {
     if free_days(ward, nurse, night).count_ones() <= FILTER_FREE_DAYS {
         let list = list_by_filter(ward, nurse, night);
         return if list.len() > cap { None } else { Some(list) };
@@ -202,6 +205,6 @@ pub fn list_capped(ward: &Ward, nurse: usize, night: u32, cap: usize) -> Option<
 }
 
 /// Days worked by an unplaced nurse: her marks 2, where she is available.
-pub fn worked_unplaced(ward: &Ward, nurse: usize, night: u32) -> u32 {
-    available_days(ward, nurse, &states(ward, nurse, night)) & marked_days(ward, nurse, 2)
+pub fn worked_unplaced(ward: &Ward, nurse: usize, night: Pattern) -> u32 {
+    available_days(ward, nurse, night) & marked_days(ward, nurse, 2)
 }

@@ -1,12 +1,13 @@
 //! "The history", literally: a list of steps that follows from the calls alone. No record.
 
+use crate::pairs::Pattern;
 use crate::penalty::Penalty;
 use crate::phase::{ask_steps, DayPhase, End, NightPhase, Phase};
 use crate::tally::Exchange;
 use crate::ward::{Refusal, Ward};
 
 /// One step: a nurse (from 0) and a pattern of hers.
-pub type Step = (usize, u32);
+pub type Step = (usize, Pattern);
 pub type History = Vec<Step>;
 
 /// What an advance is handed: k and the number of its buffer's places.
@@ -25,21 +26,21 @@ pub struct Answer {
 }
 
 /// The pattern of her last step, none before her first.
-pub fn in_use(nurse: usize, history: &[Step]) -> Option<u32> {
+pub fn in_use(nurse: usize, history: &[Step]) -> Option<Pattern> {
     history.iter().rev().find(|step| step.0 == nurse).map(|step| step.1)
 }
 
-pub fn all_in_use(ward: &Ward, history: &[Step]) -> Vec<Option<u32>> {
+pub fn all_in_use(ward: &Ward, history: &[Step]) -> Vec<Option<Pattern>> {
     (0..ward.nurse_count).map(|nurse| in_use(nurse, history)).collect()
 }
 
 /// What the step at an index gives up: the pattern of the same nurse's step before.
-pub fn given_up_by_step(at: usize, history: &[Step]) -> Option<u32> {
+pub fn given_up_by_step(at: usize, history: &[Step]) -> Option<Pattern> {
     in_use(history[at].0, &history[..at])
 }
 
 /// Patterns given up by her in the history's last TL steps, or in all while there are fewer.
-pub fn given_up_in_last(tabu_length: usize, nurse: usize, history: &[Step]) -> Vec<u32> {
+pub fn given_up_in_last(tabu_length: usize, nurse: usize, history: &[Step]) -> Vec<Pattern> {
     let first = history.len().saturating_sub(tabu_length);
     (first..history.len())
         .filter(|&at| history[at].0 == nurse)
@@ -109,7 +110,7 @@ pub fn advance_night(ward: &Ward, history: &mut History, call: Call) -> Result<A
 /// One day advance over one choice of nights: only question 7, 8 or 9 refuses here.
 pub fn advance_day(
     ward: &Ward,
-    nights: &[u32],
+    nights: &[Pattern],
     history: &mut History,
     call: Call,
 ) -> Result<Answer, Refusal> {
@@ -128,7 +129,7 @@ pub fn all_nights(ward: &Ward, calls: &[Call]) -> (Vec<Result<Answer, Refusal>>,
 /// The whole list of day advances, with the history that it leaves.
 pub fn all_days(
     ward: &Ward,
-    nights: &[u32],
+    nights: &[Pattern],
     calls: &[Call],
 ) -> (Vec<Result<Answer, Refusal>>, History) {
     let mut history = History::new();

@@ -5,6 +5,7 @@ pub mod check;
 pub mod days;
 pub mod history;
 pub mod nights;
+pub mod pairs;
 pub mod penalty;
 pub mod phase;
 pub mod program;

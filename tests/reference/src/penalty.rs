@@ -1,6 +1,7 @@
 //! Night and day penalty, counted afresh from everyone's rows ("Penalty").
 
 use crate::days::worked_unplaced;
+use crate::pairs::Pattern;
 use crate::rows::{available_days, has_day, marked_days, start_days, states};
 use crate::ward::{Bounds, Demand, Ward, Weights};
 
@@ -43,16 +44,22 @@ pub struct OnDuty {
     pub days: u32,
 }
 
-/// Night search: N days, and days where she is available. Unplaced: her marks 3 as starts.
-pub fn on_duty_by_night(ward: &Ward, nurse: usize, pattern: Option<u32>) -> OnDuty {
-    let starts = pattern.unwrap_or_else(|| marked_days(ward, nurse, 3));
-    let row = states(ward, nurse, starts);
-    OnDuty { nights: start_days(&row), days: available_days(ward, nurse, &row) }
+/// Night search: N days, and days where she is available. Unplaced: her marks 3 as starts, and no
+/// pair.
+pub fn on_duty_by_night(ward: &Ward, nurse: usize, pattern: Option<Pattern>) -> OnDuty {
+    let night = pattern.unwrap_or_else(|| marked_days(ward, nurse, 3).into());
+    let row = states(ward, nurse, night.days);
+    OnDuty { nights: start_days(&row), days: available_days(ward, nurse, night) }
 }
 
 /// Day search: the days worked. Unplaced: her marks 2. Night terms are zero there.
-pub fn on_duty_by_day(ward: &Ward, nurse: usize, night: u32, pattern: Option<u32>) -> OnDuty {
-    let days = pattern.unwrap_or_else(|| worked_unplaced(ward, nurse, night));
+pub fn on_duty_by_day(
+    ward: &Ward,
+    nurse: usize,
+    night: Pattern,
+    pattern: Option<Pattern>,
+) -> OnDuty {
+    let days = pattern.map_or_else(|| worked_unplaced(ward, nurse, night), |p| p.days);
     OnDuty { nights: 0, days }
 }
 
@@ -106,19 +113,19 @@ fn count(ward: &Ward, search: Search, on_duty: &[OnDuty], unplaced: usize) -> Pe
     sum
 }
 
-fn unplaced(in_use: &[Option<u32>]) -> usize {
+fn unplaced(in_use: &[Option<Pattern>]) -> usize {
     in_use.iter().filter(|pattern| pattern.is_none()).count()
 }
 
 /// The night penalty of everyone's pattern or none.
-pub fn night(ward: &Ward, in_use: &[Option<u32>]) -> Penalty {
+pub fn night(ward: &Ward, in_use: &[Option<Pattern>]) -> Penalty {
     let on_duty: Vec<OnDuty> =
         (0..ward.nurse_count).map(|nurse| on_duty_by_night(ward, nurse, in_use[nurse])).collect();
     count(ward, Search::Night, &on_duty, unplaced(&in_use[..ward.nurse_count]))
 }
 
 /// The day penalty of everyone's day pattern or none, over one choice of nights.
-pub fn day(ward: &Ward, nights: &[u32], in_use: &[Option<u32>]) -> Penalty {
+pub fn day(ward: &Ward, nights: &[Pattern], in_use: &[Option<Pattern>]) -> Penalty {
     let on_duty: Vec<OnDuty> = (0..ward.nurse_count)
         .map(|nurse| on_duty_by_day(ward, nurse, nights[nurse], in_use[nurse]))
         .collect();

@@ -1,6 +1,7 @@
 //! The search record, and advances on any record handed in (questions 7 to 11).
 
 use crate::history::{all_in_use, given_up_by_step, Step};
+use crate::pairs::Pattern;
 use crate::phase::{ask_steps, DayPhase, End, NightPhase, Phase};
 use crate::tally::{duties_of, least_exchange, Exchange};
 use crate::ward::{parse, refusal, Refusal, Ward};
@@ -13,12 +14,12 @@ pub const MOST_REMOVALS: usize = 64;
 pub struct Removal {
     pub nurse: u32,
     pub given_up: bool,
-    pub pattern: u32,
+    pub pattern: Pattern,
 }
 
 #[derive(Clone, Debug, PartialEq, Eq)]
 pub struct Record {
-    pub patterns: [u32; MOST_NURSES],
+    pub patterns: [Pattern; MOST_NURSES],
     pub placed: [bool; MOST_NURSES],
     /// newest first
     pub removals: [Removal; MOST_REMOVALS],
@@ -40,7 +41,7 @@ pub struct Answer {
 /// "Fresh: everyone unplaced; no steps made."
 pub fn fresh() -> Record {
     Record {
-        patterns: [0; MOST_NURSES],
+        patterns: [Pattern::default(); MOST_NURSES],
         placed: [false; MOST_NURSES],
         removals: [Removal::default(); MOST_REMOVALS],
         steps: 0,
@@ -48,16 +49,16 @@ pub fn fresh() -> Record {
 }
 
 impl Record {
-    pub fn in_use(&self, nurse: usize) -> Option<u32> {
+    pub fn in_use(&self, nurse: usize) -> Option<Pattern> {
         self.placed[nurse].then_some(self.patterns[nurse])
     }
 
-    pub fn all_in_use(&self, ward: &Ward) -> Vec<Option<u32>> {
+    pub fn all_in_use(&self, ward: &Ward) -> Vec<Option<Pattern>> {
         (0..ward.nurse_count).map(|nurse| self.in_use(nurse)).collect()
     }
 
     /// The pattern in use by her and those that she gave up.
-    pub fn barred(&self, nurse: usize) -> Vec<u32> {
+    pub fn barred(&self, nurse: usize) -> Vec<Pattern> {
         let hers = |r: &&Removal| r.given_up && r.nurse as usize == nurse + 1;
         let given_up = self.removals.iter().filter(hers).map(|r| r.pattern);
         self.in_use(nurse).into_iter().chain(given_up).collect()
@@ -79,11 +80,11 @@ impl Record {
 }
 
 /// A place under her number, with what she gave up or with no pattern.
-fn removal(nurse: usize, given_up: Option<u32>) -> Removal {
+fn removal(nurse: usize, given_up: Option<Pattern>) -> Removal {
     Removal {
         nurse: nurse as u32 + 1,
         given_up: given_up.is_some(),
-        pattern: given_up.unwrap_or(0),
+        pattern: given_up.unwrap_or_default(),
     }
 }
 
@@ -92,7 +93,7 @@ pub fn record_of(ward: &Ward, history: &[Step]) -> Record {
     let mut record = fresh();
     for (nurse, pattern) in all_in_use(ward, history).into_iter().enumerate() {
         record.placed[nurse] = pattern.is_some();
-        record.patterns[nurse] = pattern.unwrap_or(0);
+        record.patterns[nurse] = pattern.unwrap_or_default();
     }
     let newest_first = (0..history.len()).rev().take(ward.tabu_length);
     for (place, at) in newest_first.enumerate() {
@@ -126,7 +127,7 @@ fn ask_record(phase: &dyn Phase, record: &Record) -> Result<(), Refusal> {
 fn nurse_good(phase: &dyn Phase, record: &Record, nurse: usize) -> bool {
     match record.in_use(nurse) {
         Some(pattern) => nurse < phase.ward().nurse_count && phase.hers(nurse, pattern),
-        None => record.patterns[nurse] == 0,
+        None => record.patterns[nurse] == Pattern::default(),
     }
 }
 
@@ -139,7 +140,7 @@ fn removal_good(phase: &dyn Phase, removal: &Removal) -> bool {
     if removal.given_up {
         phase.hers(number - 1, removal.pattern)
     } else {
-        removal.pattern == 0
+        removal.pattern == Pattern::default()
     }
 }
 
@@ -210,7 +211,7 @@ pub fn advance_night_in(
 /// A day advance on a ward already read.
 pub fn advance_day_in(
     ward: &Ward,
-    nights: &[u32],
+    nights: &[Pattern],
     record: &Record,
     k: u64,
     places: usize,
@@ -232,7 +233,7 @@ pub fn advance_night(
 /// A day advance: the ward as file bytes, questions 1 to 5 first.
 pub fn advance_day(
     file: &[u8],
-    nights: &[u32],
+    nights: &[Pattern],
     record: &Record,
     k: u64,
     places: usize,

@@ -1,5 +1,6 @@
 //! A nurse's row: states, marks, availability and duty letters ("A nurse's row").
 
+use crate::pairs::{days_off, Pattern};
 use crate::ward::{Nurse, Ward};
 
 /// Row state of one day.
@@ -101,13 +102,13 @@ pub fn start_days(states: &[State]) -> u32 {
     (1..=states.len()).filter(|&day| states[day - 1] == State::Start).map(day_bit).sum()
 }
 
-/// The available days of a row, as a number.
-pub fn available_days(ward: &Ward, nurse: usize, states: &[State]) -> u32 {
+/// The available days of a row, as a number, without the pair's.
+pub fn available_days(ward: &Ward, nurse: usize, night: Pattern) -> u32 {
     let marks = &ward.nurses[nurse].marks;
-    (1..=states.len())
-        .filter(|&day| is_available(marks[day - 1], states[day - 1]))
-        .map(day_bit)
-        .sum()
+    let row = states(ward, nurse, night.days);
+    let available = |&day: &usize| is_available(marks[day - 1], row[day - 1]);
+    let days: u32 = (1..=ward.day_count).filter(available).map(day_bit).sum();
+    days & !days_off(ward, night.pair)
 }
 
 /// "Other O days are other under mark 4, else rest; R is rest".

@@ -8,6 +8,16 @@ pub const SURGICAL: &[u8] = include_bytes!("../wards/surgical.ward");
 pub const REDATED: &[u8] = include_bytes!("../wards/redated.ward");
 pub const DEAD_ENDS: &[u8] = include_bytes!("../wards/dead-ends.ward");
 pub const LARGE: &[u8] = include_bytes!("../wards/large.ward");
+/// Two nurses, four days and two pairs, which begin on days 2 and 3.
+pub const PAIRS: &[u8] = include_bytes!("../wards/pairs.ward");
+/// The worked ward with a pair on days 2 and 3.
+pub const PAIRS_NONE: &[u8] = include_bytes!("../wards/pairs-none.ward");
+/// 19 nurses and 29 days with a weekend every week.
+pub const PAIRS_MONTH: &[u8] = include_bytes!("../wards/pairs-month.ward");
+/// 15 nurses and 30 days with ten pairs, some of which overlap.
+pub const PAIRS_TEN: &[u8] = include_bytes!("../wards/pairs-ten.ward");
+/// The re-dated ward with its weekends.
+pub const WEEKENDS: &[u8] = include_bytes!("../wards/weekends.ward");
 
 /// The surgical ward's roster from before other duty counted in a run, a line a nurse.
 pub const OLD_ROSTER: &str = include_str!("../wards/surgical-old-rule.roster");
@@ -20,8 +30,27 @@ pub const WORKED_NUMBERS: [u64; 50] = [
     1, 1, 0, 1, 0, 0, // days
 ];
 
+/// The numbers of the ward with two pairs.
+pub const PAIRS_NUMBERS: [u64; 59] = [
+    0, 2, // edition
+    2, 4, 0, 1, 1, 1, 1, 1, 2, 3, 1, 1, 1, 1, 1, 1, // ward
+    0, 0, 0, 0, 0, 0, 0, 0, 1, 0, 4, 0, 0, 0, 0, // nurse 1
+    0, 0, 0, 0, 0, 0, 0, 0, 1, 0, 4, 0, 0, 0, 1, // nurse 2
+    1, 1, 0, 1, 0, 0, 0, 0, // days
+    2, 2, 3, // pairs
+];
+
 pub fn worked() -> Ward {
     parse(WORKED).unwrap()
+}
+
+pub fn two_pairs() -> Ward {
+    parse(PAIRS).unwrap()
+}
+
+/// The numbers of edition one as edition two, with pairs of these first days.
+pub fn with_pairs(old: &[u64], first_days: &[u64]) -> Vec<u64> {
+    [&[0, 2], old, &[first_days.len() as u64], first_days].concat()
 }
 
 pub fn file_of(numbers: &[u64]) -> Vec<u8> {
@@ -158,6 +187,28 @@ pub fn random_numbers(dice: &mut Dice, most_nurses: u64, most_days: u64) -> Vec<
         }
     }
     numbers
+}
+
+/// First days of no pair, of one, of some or of as many as there can be.
+pub fn random_pairs(dice: &mut Dice, days: u64) -> Vec<u64> {
+    let most = (days - 1).min(10);
+    let count = match dice.upto(3) {
+        0 => 0,
+        1 => most.min(1),
+        2 => dice.upto(most),
+        _ => most,
+    };
+    let mut first_days: Vec<u64> = (1..days).collect();
+    while first_days.len() as u64 > count {
+        first_days.remove(dice.index(first_days.len()));
+    }
+    first_days
+}
+
+/// A small ward of edition two.
+pub fn random_ward_with_pairs(dice: &mut Dice, most_nurses: u64, most_days: u64) -> Ward {
+    let old = random_numbers(dice, most_nurses, most_days);
+    ward_of(&with_pairs(&old, &random_pairs(dice, old[1])))
 }
 
 pub fn random_ward(dice: &mut Dice, most_nurses: u64, most_days: u64) -> Ward {

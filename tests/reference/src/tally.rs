@@ -1,6 +1,7 @@
 //! The least exchange by points per nurse and day: the same answer as counting afresh,
 //! only faster, for large wards.
 
+use crate::pairs::Pattern;
 use crate::penalty::{columns, points_of_day, OnDuty, Penalty};
 use crate::phase::Phase;
 
@@ -8,12 +9,12 @@ use crate::phase::Phase;
 #[derive(Clone, Copy, Debug, PartialEq, Eq)]
 pub struct Exchange {
     pub nurse: usize,
-    pub pattern: u32,
+    pub pattern: Pattern,
     pub penalty: u64,
 }
 
 /// Everyone's list once more, with the duty days of each pattern.
-pub struct Duties(Vec<Vec<(u32, OnDuty)>>);
+pub struct Duties(Vec<Vec<(Pattern, OnDuty)>>);
 
 pub fn duties_of(phase: &dyn Phase) -> Duties {
     let list = |nurse: usize| {
@@ -52,7 +53,12 @@ struct Costs {
 }
 
 impl Costs {
-    fn without(phase: &dyn Phase, in_use: &[Option<u32>], all: &[OnDuty], nurse: usize) -> Self {
+    fn without(
+        phase: &dyn Phase,
+        in_use: &[Option<Pattern>],
+        all: &[OnDuty],
+        nurse: usize,
+    ) -> Self {
         let ward = phase.ward();
         let others_unplaced = (0..ward.nurse_count).filter(|&i| i != nurse && in_use[i].is_none());
         let mut idle = (Penalty::UNPLACED * others_unplaced.count() as u64) as i64;
@@ -77,12 +83,12 @@ impl Costs {
     }
 }
 
-/// Least penalty, then lowest nurse, then lowest number, over what is not barred.
+/// Least penalty, then lowest nurse, then lowest pattern, over what is not barred.
 pub fn least_exchange(
     phase: &dyn Phase,
     duties: &Duties,
-    in_use: &[Option<u32>],
-    barred: &dyn Fn(usize) -> Vec<u32>,
+    in_use: &[Option<Pattern>],
+    barred: &dyn Fn(usize) -> Vec<Pattern>,
 ) -> Option<Exchange> {
     let all: Vec<OnDuty> =
         (0..phase.ward().nurse_count).map(|nurse| phase.on_duty(nurse, in_use[nurse])).collect();

@@ -1,9 +1,11 @@
-//! The ward file: reader and writer ("Ward file", questions 1 to 6).
+//! The ward file: reader and writer ("Ward file", questions 1 to 6; edition two by document 02,
+//! job 2).
 
-use crate::rows::Duty;
+use crate::pairs::{pairs_of, Pair};
+use crate::rows::{Duty, State};
 
-/// Most numbers a ward can have.
-pub const MOST_NUMBERS: usize = 4094;
+/// Places of the reader's record. A ward of editions one and two has at most 4,107 numbers.
+pub const NUMBER_PLACES: usize = 4441;
 /// "At most 7 groups".
 const MOST_GROUPS: usize = 7;
 const HEADER: usize = 16;
@@ -91,14 +93,19 @@ pub struct Ward {
     /// members of each group, nurse i as bit i - 1
     pub groups: Vec<u64>,
     pub days: Vec<Day>,
+    /// the pairs that a pattern may name
+    pub pairs: Vec<Pair>,
+    /// marks and states of a pair's days: no numbers of the file, the same in every ward
+    pub pair_marks: Vec<u64>,
+    pub pair_states: Vec<State>,
 }
 
 /// What the layout wants at one place.
-struct Field {
-    least: u64,
-    most: u64,
+pub struct Field {
+    pub least: u64,
+    pub most: u64,
     /// the duty of the day before, asked of duties two to seven
-    duty_before: Option<u64>,
+    pub duty_before: Option<u64>,
 }
 
 fn field(least: u64, most: u64) -> Option<Field> {
@@ -106,7 +113,46 @@ fn field(least: u64, most: u64) -> Option<Field> {
 }
 
 /// The field after the numbers already read, None after the last number.
-fn next_field(read: &[u64]) -> Option<Field> {
+pub type Layout = fn(&[u64]) -> Option<Field>;
+
+/// "A ward of edition two begins with 0 and 2, then the old numbers", then the pairs.
+pub fn every_edition(read: &[u64]) -> Option<Field> {
+    match read {
+        [] => field(0, 48),
+        [0] => field(2, 2),
+        [0, _, old @ ..] => edition_one(old).or_else(|| pair_field(old[1], pairs_part(old))),
+        _ => edition_one(read),
+    }
+}
+
+/// The numbers after 0 and 2; all of them in edition one.
+pub fn old_numbers(numbers: &[u64]) -> &[u64] {
+    if numbers[0] == 0 {
+        &numbers[2..]
+    } else {
+        numbers
+    }
+}
+
+/// What follows the old numbers: count and first days of the pairs, nothing in edition one.
+pub fn pairs_part(old: &[u64]) -> &[u64] {
+    let (m, n, r) = (old[0] as usize, old[1] as usize, old[2] as usize);
+    &old[HEADER + m * (11 + n) + r + n * (2 + 4 * r)..]
+}
+
+/// "A count of 0 to 10 pairs and each pair's first day, 1 to n-1, each above the one before;
+/// with n 1 the count is 0."
+fn pair_field(n: u64, pairs: &[u64]) -> Option<Field> {
+    match pairs {
+        [] => field(0, if n == 1 { 0 } else { 10 }),
+        [count, days @ ..] if days.len() as u64 == *count => None,
+        [_] => field(1, n - 1),
+        [.., before] => field(before + 1, n - 1),
+    }
+}
+
+/// The layout of document 01.
+pub fn edition_one(read: &[u64]) -> Option<Field> {
     let at = read.len();
     if at < HEADER {
         return header_field(at);
@@ -203,9 +249,13 @@ pub fn encode(number: u64) -> Vec<u8> {
 
 /// The reader: 1 to 4 of one number before the next, then 5.
 pub fn parse(file: &[u8]) -> Result<Ward, Refusal> {
+    parse_by(every_edition, file)
+}
+
+pub fn parse_by(layout: Layout, file: &[u8]) -> Result<Ward, Refusal> {
     let mut numbers = Vec::new();
     let mut place = 0;
-    while let Some(field) = next_field(&numbers) {
+    while let Some(field) = layout(&numbers) {
         let read = decode(file, place).and_then(|(number, length)| {
             judge(number, &field)?;
             Ok((number, length))
@@ -227,8 +277,17 @@ pub fn parse(file: &[u8]) -> Result<Ward, Refusal> {
 /// The writer: 1, 3, 4 and 5 on indexes, then 6.
 /// `numbers` is the whole array; `count` may be anything.
 pub fn write(numbers: &[u64], count: u64, buffer_len: usize) -> Result<Vec<u8>, Refusal> {
+    write_by(every_edition, numbers, count, buffer_len)
+}
+
+pub fn write_by(
+    layout: Layout,
+    numbers: &[u64],
+    count: u64,
+    buffer_len: usize,
+) -> Result<Vec<u8>, Refusal> {
     let mut at = 0;
-    while let Some(field) = next_field(&numbers[..at]) {
+    while let Some(field) = layout(&numbers[..at]) {
         if at as u64 >= count {
             return refusal(1, at);
         }
@@ -247,15 +306,16 @@ pub fn write(numbers: &[u64], count: u64, buffer_len: usize) -> Result<Vec<u8>, 
     Ok(bytes)
 }
 
-/// The reader's record: the numbers in 4,094 places, 0 after them, and their count.
+/// The reader's record: the numbers in their places, 0 after them, and their count.
 pub fn padded(ward: &Ward) -> (Vec<u64>, u64) {
     let mut numbers = ward.numbers.clone();
-    numbers.resize(MOST_NUMBERS, 0);
+    numbers.resize(NUMBER_PLACES, 0);
     (numbers, ward.numbers.len() as u64)
 }
 
 fn structure(numbers: Vec<u64>) -> Ward {
-    let (m, n, r) = (numbers[0] as usize, numbers[1] as usize, numbers[2] as usize);
+    let old = old_numbers(&numbers);
+    let (m, n, r) = (old[0] as usize, old[1] as usize, old[2] as usize);
     let (per_nurse, per_day) = (11 + n, 2 + 4 * r);
     let groups_at = HEADER + m * per_nurse;
     let days_at = groups_at + r;
@@ -263,18 +323,22 @@ fn structure(numbers: Vec<u64>) -> Ward {
         nurse_count: m,
         day_count: n,
         group_count: r,
-        most_nights: numbers[3],
-        longest_night_run: numbers[4],
-        gaps: [numbers[5], numbers[6], numbers[7]],
-        tabu_length: numbers[8] as usize,
-        longest_day_run: numbers[9] as usize,
+        most_nights: old[3],
+        longest_night_run: old[4],
+        gaps: [old[5], old[6], old[7]],
+        tabu_length: old[8] as usize,
+        longest_day_run: old[9] as usize,
         // "counts other duty with day duty in the longest run D" (document 02, job 1)
         run_duties: vec![Duty::Day, Duty::Other],
-        night_weights: weights(&numbers[10..13]),
-        day_weights: weights(&numbers[13..16]),
-        nurses: numbers[HEADER..groups_at].chunks(per_nurse).map(nurse).collect(),
-        groups: numbers[groups_at..days_at].to_vec(),
-        days: numbers[days_at..].chunks(per_day).map(day).collect(),
+        night_weights: weights(&old[10..13]),
+        day_weights: weights(&old[13..16]),
+        nurses: old[HEADER..groups_at].chunks(per_nurse).map(nurse).collect(),
+        groups: old[groups_at..days_at].to_vec(),
+        days: old[days_at..].chunks(per_day).take(n).map(day).collect(),
+        pairs: pairs_of(pairs_part(old).get(1..).unwrap_or(&[])),
+        // "being O or R under mark 0, 1, 5 or 6" (document 02, job 2)
+        pair_marks: vec![0, 1, 5, 6],
+        pair_states: vec![State::Open, State::OwedRest],
         numbers,
     }
 }

@@ -15,7 +15,7 @@ table-of-requires : tie.Need-table-of-requires
 table-of-requires c κs =
     let start : tie.Start = search in
     let sheet : tie.After-nurse-sheet = search in
-    sheet-small _ _ _ _ _ _ (sheet .nurse-sheet .ensures) (start .pre .0 .days-most) (start .pre .0 .day-run-most)
+    sheet-small _ _ _ _ _ _ _ (sheet .nurse-sheet .ensures) (start .pre .0 .days-most) (start .pre .0 .day-run-most)
 
 start-requires : tie.Need-start-requires
 start-requires c κs = search needs

@@ -1,6 +1,5 @@
 -- `days::is_day_pattern` meets its contract.
 use mathlib.Core.Path.{sym, _∙_}
-use Rattle.fields.specs.Fields.{block, days, longestDays}
 use Rattle.days.proofs.SheetLaws.{sheet-small, rule-is}
 use borrow.Author.Needs.{needs}
 use Rattle.days.proofs.is_day_pattern.Statement.{statement}
@@ -13,17 +12,13 @@ rule-holds-requires : tie.Need-rule-holds-requires
 rule-holds-requires c κs =
     let at-nurse-sheet : tie.After-nurse-sheet = search in
     let start : tie.Start = search in
-    let s = start .args in
-    let t = at-nurse-sheet .nurse-sheet .result in
-    sheet-small (block (s .w .now) (s .i)) (days (s .w .now)) (longestDays (s .w .now)) (s .p) (t .month) (t .row) (at-nurse-sheet .nurse-sheet .ensures) (start .pre .0 .days-most) (start .pre .0 .day-run-most)
+    sheet-small _ _ _ _ _ _ _ (at-nurse-sheet .nurse-sheet .ensures) (start .pre .0 .days-most) (start .pre .0 .day-run-most)
 
 returns : tie.Need-returns
 returns c =
     let at-nurse-sheet : tie.After-nurse-sheet = search in
     let start : tie.Start = search in
-    let s = start .args in
-    let t = at-nurse-sheet .nurse-sheet .result in
-    c .rule-holds .ensures ∙ sym (rule-is (block (s .w .now) (s .i)) (days (s .w .now)) (longestDays (s .w .now)) (s .p) (t .month) (t .row) (at-nurse-sheet .nurse-sheet .ensures) (start .pre .0 .day-run-most) (s .q))
+    c .rule-holds .ensures ∙ sym (rule-is _ _ _ _ _ _ _ (at-nurse-sheet .nurse-sheet .ensures) (start .pre .0 .day-run-most) (start .args .q))
 
 pub is-day-pattern-spec : {M : Type 1} → statement M
 is-day-pattern-spec = tie.close (tie.spec nurse-sheet-requires rule-holds-requires returns)

@@ -72,17 +72,17 @@ range-requires-10 c κs = search needs
 enum-told-11 : tie.Need-enum-told-11
 enum-told-11 c = search needs
 
-enum-told-12 : tie.Need-enum-told-12
-enum-told-12 c = search needs
-
 range-requires-11 : tie.Need-range-requires-11
 range-requires-11 c κs = search needs
 
-enum-told-13 : tie.Need-enum-told-13
-enum-told-13 c = search needs
+enum-told-12 : tie.Need-enum-told-12
+enum-told-12 c = search needs
 
 range-requires-12 : tie.Need-range-requires-12
 range-requires-12 c κs = search needs
+
+enum-told-13 : tie.Need-enum-told-13
+enum-told-13 c = search needs
 
 enum-told-14 : tie.Need-enum-told-14
 enum-told-14 c = search needs
@@ -105,11 +105,6 @@ range-requires-15 c κs = search needs
 enum-told-17 : tie.Need-enum-told-17
 enum-told-17 c = search needs
 
-all-requires : tie.Need-all-requires
-all-requires c κs =
-    let start : tie.Start = search in
-    subst⁻¹ SmallField (wanted-at _ (c .enum-told17 .given .1)) (start .pre)
-
 range-requires-16 : tie.Need-range-requires-16
 range-requires-16 c κs = search needs
 
@@ -121,6 +116,11 @@ range-requires-17 c κs = search needs
 
 enum-told-19 : tie.Need-enum-told-19
 enum-told-19 c = search needs
+
+all-requires : tie.Need-all-requires
+all-requires c κs =
+    let start : tie.Start = search in
+    subst⁻¹ SmallField (wanted-at _ (c .enum-told19 .given .1)) (start .pre) .1
 
 range-requires-18 : tie.Need-range-requires-18
 range-requires-18 c κs = search needs
@@ -151,6 +151,35 @@ range-requires-22 c κs = search needs
 
 enum-told-24 : tie.Need-enum-told-24
 enum-told-24 c = search needs
+
+range-requires-23 : tie.Need-range-requires-23
+range-requires-23 c κs = search needs
+
+enum-told-25 : tie.Need-enum-told-25
+enum-told-25 c = search needs
+
+range-requires-24 : tie.Need-range-requires-24
+range-requires-24 c κs = search needs
+
+enum-told-26 : tie.Need-enum-told-26
+enum-told-26 c = search needs
+
+most-pairs-requires : tie.Need-most-pairs-requires
+most-pairs-requires c κs = search needs
+
+range-requires-25 : tie.Need-range-requires-25
+range-requires-25 c κs = search needs
+
+enum-told-27 : tie.Need-enum-told-27
+enum-told-27 c = search needs
+
+pair-day-requires : tie.Need-pair-day-requires
+pair-day-requires c κs =
+    let start : tie.Start = search in
+    subst⁻¹ SmallField (wanted-at _ (c .enum-told27 .given .1)) (start .pre) .0
+
+enum-told-28 : tie.Need-enum-told-28
+enum-told-28 c = search needs
 
 returns : tie.Need-returns
 unfolding ward
@@ -204,17 +233,17 @@ returns-10 c =
     c .range10 .ensures ∙ wanted-at _ (at-enum-told10 .enum-told10 .given .1)
 
 returns-11 : tie.Need-returns-11
-returns-11 c = wanted-at _ (c .enum-told11 .given .1)
+returns-11 c =
+    let at-enum-told11 : tie.After-enum-told11 = search in
+    c .range11 .ensures ∙ wanted-at _ (at-enum-told11 .enum-told11 .given .1)
 
 returns-12 : tie.Need-returns-12
 returns-12 c =
     let at-enum-told12 : tie.After-enum-told12 = search in
-    c .range11 .ensures ∙ wanted-at _ (at-enum-told12 .enum-told12 .given .1)
+    c .range12 .ensures ∙ wanted-at _ (at-enum-told12 .enum-told12 .given .1)
 
 returns-13 : tie.Need-returns-13
-returns-13 c =
-    let at-enum-told13 : tie.After-enum-told13 = search in
-    c .range12 .ensures ∙ wanted-at _ (at-enum-told13 .enum-told13 .given .1)
+returns-13 c = wanted-at _ (c .enum-told13 .given .1)
 
 returns-14 : tie.Need-returns-14
 returns-14 c =
@@ -233,9 +262,8 @@ returns-16 c =
 
 returns-17 : tie.Need-returns-17
 returns-17 c =
-    let at-all : tie.After-all = search in
     let at-enum-told17 : tie.After-enum-told17 = search in
-    c .range16 .ensures ∙ ap (λ (x : ℕ). Next (range 1 x)) (at-all .all .ensures) ∙ wanted-at _ (at-enum-told17 .enum-told17 .given .1)
+    c .range16 .ensures ∙ wanted-at _ (at-enum-told17 .enum-told17 .given .1)
 
 returns-18 : tie.Need-returns-18
 returns-18 c =
@@ -244,8 +272,9 @@ returns-18 c =
 
 returns-19 : tie.Need-returns-19
 returns-19 c =
+    let at-all : tie.After-all = search in
     let at-enum-told19 : tie.After-enum-told19 = search in
-    c .range18 .ensures ∙ wanted-at _ (at-enum-told19 .enum-told19 .given .1)
+    c .range18 .ensures ∙ ap (λ (x : ℕ). Next (range (1) x)) (at-all .all .ensures) ∙ wanted-at _ (at-enum-told19 .enum-told19 .given .1)
 
 returns-20 : tie.Need-returns-20
 returns-20 c =
@@ -268,7 +297,28 @@ returns-23 c =
     c .range22 .ensures ∙ wanted-at _ (at-enum-told23 .enum-told23 .given .1)
 
 returns-24 : tie.Need-returns-24
-returns-24 c = wanted-at _ (c .enum-told24 .given .1)
+returns-24 c =
+    let at-enum-told24 : tie.After-enum-told24 = search in
+    c .range23 .ensures ∙ wanted-at _ (at-enum-told24 .enum-told24 .given .1)
+
+returns-25 : tie.Need-returns-25
+returns-25 c =
+    let at-enum-told25 : tie.After-enum-told25 = search in
+    c .range24 .ensures ∙ wanted-at _ (at-enum-told25 .enum-told25 .given .1)
+
+returns-26 : tie.Need-returns-26
+returns-26 c =
+    let at-most-pairs : tie.After-most-pairs = search in
+    let at-enum-told26 : tie.After-enum-told26 = search in
+    c .range25 .ensures ∙ ap (λ (x : ℕ). Next (range (0) x)) (at-most-pairs .most-pairs .ensures) ∙ wanted-at _ (at-enum-told26 .enum-told26 .given .1)
+
+returns-27 : tie.Need-returns-27
+returns-27 c =
+    let at-enum-told27 : tie.After-enum-told27 = search in
+    c .pair-day .ensures ∙ wanted-at _ (at-enum-told27 .enum-told27 .given .1)
+
+returns-28 : tie.Need-returns-28
+returns-28 c = wanted-at _ (c .enum-told28 .given .1)
 
 pub wanted-at-spec : {M : Type 1} → statement M
 wanted-at-spec =
@@ -295,10 +345,10 @@ wanted-at-spec =
     enum-told-10
     range-requires-10
     enum-told-11
-    enum-told-12
     range-requires-11
-    enum-told-13
+    enum-told-12
     range-requires-12
+    enum-told-13
     enum-told-14
     range-requires-13
     enum-told-15
@@ -306,11 +356,11 @@ wanted-at-spec =
     enum-told-16
     range-requires-15
     enum-told-17
-    all-requires
     range-requires-16
     enum-told-18
     range-requires-17
     enum-told-19
+    all-requires
     range-requires-18
     enum-told-20
     range-requires-19
@@ -321,6 +371,15 @@ wanted-at-spec =
     enum-told-23
     range-requires-22
     enum-told-24
+    range-requires-23
+    enum-told-25
+    range-requires-24
+    enum-told-26
+    most-pairs-requires
+    range-requires-25
+    enum-told-27
+    pair-day-requires
+    enum-told-28
     returns
     returns-2
     returns-3
@@ -344,4 +403,8 @@ wanted-at-spec =
     returns-21
     returns-22
     returns-23
-    returns-24)
+    returns-24
+    returns-25
+    returns-26
+    returns-27
+    returns-28)

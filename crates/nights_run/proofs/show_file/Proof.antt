@@ -1,7 +1,8 @@
 -- `nights_run::show_file` is safe and ends.
-use Rattle.ward.proofs.ReadingLaws.{reading-accepted, reading-fits}
+use Rattle.fields.specs.Fields.{Accepted}
+use Rattle.ward.proofs.ReadingLaws.{reading-accepted, reading-long, reading-fits}
 use lib.Seq.{length-take-le}
-use mathlib.Core.Path.{sym}
+use mathlib.Core.Path.{sym, subst}
 use borrow.Author.Needs.{needs}
 use Rattle.nights_run.proofs.show_file.Statement.{statement}
 use Rattle.nights_run.proofs.show_file.Tie as tie
@@ -17,10 +18,18 @@ array-share-prefix-numbers c =
     let at-read : tie.After-read = search in
     reading-fits _ _ (at-read .read .ensures)
 
-slice-aggregate-show-ward : tie.Need-slice-aggregate-show-ward
-slice-aggregate-show-ward c =
+slice-aggregate-body : tie.Need-slice-aggregate-body
+slice-aggregate-body c =
     let at-read : tie.After-read = search in
     sym (length-take-le _ _ (reading-fits _ _ (at-read .read .ensures)))
+
+body-requires : tie.Need-body-requires
+body-requires c κs =
+    let at-enum-told : tie.After-enum-told = search in
+    let at-read : tie.After-read = search in
+    let at-shared-slice-known : tie.After-shared-slice-known = search in
+    let start : tie.Start = search in
+    reading-long (start .args .file .now) _ (λ i. at-shared-slice-known .shared-slice-known .given i .fits) (at-read .read .ensures) (at-enum-told .enum-told .given .1)
 
 show-ward-requires : tie.Need-show-ward-requires
 show-ward-requires c κs =
@@ -28,7 +37,8 @@ show-ward-requires c κs =
     let at-read : tie.After-read = search in
     let at-shared-slice-known : tie.After-shared-slice-known = search in
     let start : tie.Start = search in
-    reading-accepted (start .args .file .now) _ (λ i. at-shared-slice-known .shared-slice-known .given i .fits) (at-read .read .ensures) (at-enum-told .enum-told .given .1)
+    subst Accepted (sym (c .body .ensures))
+    (reading-accepted (start .args .file .now) _ (λ i. at-shared-slice-known .shared-slice-known .given i .fits) (at-read .read .ensures) (at-enum-told .enum-told .given .1))
 
 enum-known-answer : tie.Need-enum-known-answer
 enum-known-answer c = search needs
@@ -52,7 +62,8 @@ show-file-spec =
     read-requires
     enum-told
     array-share-prefix-numbers
-    slice-aggregate-show-ward
+    slice-aggregate-body
+    body-requires
     show-ward-requires
     enum-known-answer
     cast-number

@@ -18,6 +18,9 @@ use Rattle.pantheryl.proofs.pantheryl_advance_days.Tie as tie
 record-of-requires : tie.Need-record-of-requires
 record-of-requires c κs = search needs
 
+patterns-of-requires : tie.Need-patterns-of-requires
+patterns-of-requires c κs = search needs
+
 advance-days-requires : tie.Need-advance-days-requires
 advance-days-requires c κs = search needs
 
@@ -46,16 +49,18 @@ returns c =
     let put : tie.After-put-letters = search in
     let worded : tie.After-outcome-words = search in
     let advanced : tie.After-advance-days = search in
+    let over : tie.After-patterns-of = search in
     let rec-read : tie.After-record-of = search in
     let start : tie.Start = search in
     let s = start .args in
-    let advance : Stored → Answer × Stored = λ r. advanceDays (s .file .now) (s .nights .now) (callOf (s .k) (length (s .buffer .now))) r in
-    let leaving : Stored → List ℕ = λ r. dayLeft (s .file .now) (s .nights .now) r (s .k) (s .buffer .now) in
+    let nights = over .patterns-of .result in
+    let advance : Stored → Answer × Stored = λ r. advanceDays (s .file .now) nights (callOf (s .k) (length (s .buffer .now))) r in
+    let leaving : Stored → List ℕ = λ r. dayLeft (s .file .now) nights r (s .k) (s .buffer .now) in
     let done = advance-done (s .words .now) advance leaving (rec-read .record-of .ensures) (advanced .advance-days .ensures .0) (advanced .advance-days .ensures .1)
     (worded .outcome-words .ensures) (asked .is-refused .ensures) (not-true _ (at-if .if1 .taken)) (c .words-of .ensures) in
     let is = told (s .words .now) advance leaving (rec-read .record-of .ensures) (advanced .advance-days .ensures .0) (advanced .advance-days .ensures .1)
     (worded .outcome-words .ensures) (asked .is-refused .ensures) in
-    (done .0, (done .1 .0, (done .1 .1, in-roster _ (s .roster .now) is (put .put-letters .ensures))))
+    rw (← over .patterns-of .ensures) (done .0, (done .1 .0, (done .1 .1, in-roster _ (s .roster .now) is (put .put-letters .ensures))))
 
 same-length-2 : tie.Need-same-length-2
 same-length-2 c = search needs
@@ -66,22 +71,25 @@ returns-2 c =
     let put : tie.After-put-letters = search in
     let worded : tie.After-outcome-words = search in
     let advanced : tie.After-advance-days = search in
+    let over : tie.After-patterns-of = search in
     let rec-read : tie.After-record-of = search in
     let start : tie.Start = search in
     let s = start .args in
-    let advance : Stored → Answer × Stored = λ r. advanceDays (s .file .now) (s .nights .now) (callOf (s .k) (length (s .buffer .now))) r in
-    let leaving : Stored → List ℕ = λ r. dayLeft (s .file .now) (s .nights .now) r (s .k) (s .buffer .now) in
+    let nights = over .patterns-of .result in
+    let advance : Stored → Answer × Stored = λ r. advanceDays (s .file .now) nights (callOf (s .k) (length (s .buffer .now))) r in
+    let leaving : Stored → List ℕ = λ r. dayLeft (s .file .now) nights r (s .k) (s .buffer .now) in
     let done = advance-refused (s .words .now) advance leaving (rec-read .record-of .ensures) (advanced .advance-days .ensures .0) (advanced .advance-days .ensures .1)
     (worded .outcome-words .ensures) (asked .is-refused .ensures) (not-false _ (c .if1 .left)) in
     let is = told (s .words .now) advance leaving (rec-read .record-of .ensures) (advanced .advance-days .ensures .0) (advanced .advance-days .ensures .1)
     (worded .outcome-words .ensures) (asked .is-refused .ensures) in
-    (done .0, (done .1 .0, (done .1 .1, in-roster _ (s .roster .now) is (put .put-letters .ensures))))
+    rw (← over .patterns-of .ensures) (done .0, (done .1 .0, (done .1 .1, in-roster _ (s .roster .now) is (put .put-letters .ensures))))
 
 pub pantheryl-advance-days-spec : {M : Type 1} → statement M
 pantheryl-advance-days-spec =
     tie.close
     (tie.spec
     record-of-requires
+    patterns-of-requires
     advance-days-requires
     outcome-words-requires
     put-letters-requires

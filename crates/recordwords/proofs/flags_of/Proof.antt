@@ -5,7 +5,7 @@ use mathlib.Core.List.{map}
 use native.Mathlib.Omega.{arith}
 use lib.ListN.{take, drop}
 use Rattle.fields.specs.Sizes.{nursePlaces}
-use Rattle.recordwords.specs.Words.{flagOf}
+use Rattle.recordwords.specs.Words.{flagsAt, flagOf}
 use Rattle.numbers.proofs.CopyLaws.{Copied, copied-start, copied-turn, copied-end}
 use Rattle.recordwords.proofs.WordLaws.{flags-long, flag-read}
 use borrow.Author.Needs.{needs}
@@ -13,7 +13,7 @@ use Rattle.recordwords.proofs.flags_of.Statement.{statement}
 use Rattle.recordwords.proofs.flags_of.Tie as tie
 
 abbrev Inv-loop : tie.InvT-loop
-Inv-loop words flags₀ i₀ flags i = Copied flags₀ (map flagOf (take nursePlaces (drop nursePlaces words))) nursePlaces flags i
+Inv-loop words flags₀ i₀ flags i = Copied flags₀ (map flagOf (take nursePlaces (drop flagsAt words))) nursePlaces flags i
 
 abbrev μ-loop : tie.MeasureT-loop
 μ-loop words flags₀ i₀ flags i = nursePlaces - i

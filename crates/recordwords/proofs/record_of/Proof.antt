@@ -4,6 +4,9 @@ use borrow.Author.Needs.{needs}
 use Rattle.recordwords.proofs.record_of.Statement.{statement}
 use Rattle.recordwords.proofs.record_of.Tie as tie
 
+slice-aggregate-patterns-of : tie.Need-slice-aggregate-patterns-of
+slice-aggregate-patterns-of c = search needs
+
 patterns-of-requires : tie.Need-patterns-of-requires
 patterns-of-requires c κs = search needs
 
@@ -26,4 +29,4 @@ returns c =
 pub record-of-spec : {M : Type 1} → statement M
 record-of-spec =
     tie.close
-    (tie.spec patterns-of-requires flags-of-requires removals-of-requires array-read-steps returns)
+    (tie.spec slice-aggregate-patterns-of patterns-of-requires flags-of-requires removals-of-requires array-read-steps returns)

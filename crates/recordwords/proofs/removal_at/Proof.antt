@@ -27,17 +27,31 @@ array-read-flag-of c = search needs
 flag-of-requires : tie.Need-flag-of-requires
 flag-of-requires c κs = search needs
 
-add-pattern : tie.Need-add-pattern
-add-pattern c = search needs
+add-of : tie.Need-add-of
+add-of c = search needs
 
-mul-pattern : tie.Need-mul-pattern
-mul-pattern c = search needs
+mul-of : tie.Need-mul-of
+mul-of c = search needs
 
-array-read-pattern : tie.Need-array-read-pattern
-array-read-pattern c = search needs
+array-read-of : tie.Need-array-read-of
+array-read-of c = search needs
+
+add-of-2 : tie.Need-add-of-2
+add-of-2 c = search needs
+
+mul-of-2 : tie.Need-mul-of-2
+mul-of-2 c = search needs
+
+array-read-of-2 : tie.Need-array-read-of-2
+array-read-of-2 c = search needs
+
+of-requires : tie.Need-of-requires
+of-requires c κs = search needs
 
 returns : tie.Need-returns
-returns c = rw (c .flag-of .ensures)
+returns c =
+    let at-flag-of : tie.After-flag-of = search in
+    rw (at-flag-of .flag-of .ensures, c .of .ensures)
 
 pub removal-at-spec : {M : Type 1} → statement M
 removal-at-spec =
@@ -51,7 +65,11 @@ removal-at-spec =
     mul-flag-of
     array-read-flag-of
     flag-of-requires
-    add-pattern
-    mul-pattern
-    array-read-pattern
+    add-of
+    mul-of
+    array-read-of
+    add-of-2
+    mul-of-2
+    array-read-of-2
+    of-requires
     returns)

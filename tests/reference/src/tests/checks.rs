@@ -1,6 +1,7 @@
 //! The roster check: the worked roster, its spoilings, and rosters given out.
 
 use crate::check::{check, check_in, row_follows};
+use crate::pairs::Pattern;
 use crate::phase::{DayPhase, End, NightPhase, Phase};
 use crate::record::{advance_day, advance_day_in, advance_night, advance_night_in, fresh};
 use crate::samples::*;
@@ -24,6 +25,7 @@ fn worked_roster() {
 #[test]
 fn every_roster_of_the_worked_ward() {
     let ward = worked();
+    let row = |nurse, a: Pattern, x: Pattern| rows::letters(&ward, nurse, a.days, x.days);
     let mut made = Vec::new();
     let night = NightPhase::open(&ward, 100).unwrap();
     for &a in night.list(0) {
@@ -32,9 +34,7 @@ fn every_roster_of_the_worked_ward() {
             for &x in day.list(0) {
                 for &y in day.list(1) {
                     if penalty::day(&ward, &[a, b], &[Some(x), Some(y)]).total() == 0 {
-                        made.push(
-                            [rows::letters(&ward, 0, a, x), rows::letters(&ward, 1, b, y)].concat(),
-                        );
+                        made.push([row(0, a, x), row(1, b, y)].concat());
                     }
                 }
             }

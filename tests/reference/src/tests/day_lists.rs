@@ -1,6 +1,6 @@
 //! Day patterns: the rules one by one, filter against walk.
 
-use crate::days::*;
+use super::edition_one::days::*;
 use crate::nights;
 use crate::samples::*;
 use crate::ward::parse;

@@ -35,7 +35,7 @@ fn longest_file() {
 fn round_trip_of_the_files() {
     for file in [WORKED, STUCK, SURGICAL, DEAD_ENDS, LARGE] {
         let (numbers, count) = padded(&parse(file).unwrap());
-        assert_eq!(numbers.len(), 4094);
+        assert_eq!(numbers.len(), 4441);
         assert_eq!(write(&numbers, count, file.len()).unwrap(), file);
     }
 }

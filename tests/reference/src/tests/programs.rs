@@ -1,4 +1,4 @@
-//! The roster program on the ward files. The large one is run in release only.
+//! The roster program on the ward files. The large one and the weekends are run in release only.
 
 use crate::program::run;
 use crate::samples::*;
@@ -37,6 +37,39 @@ fn redated_out() {
 #[cfg_attr(debug_assertions, ignore)]
 fn large_out() {
     assert_eq!(run(LARGE), include_str!("../../wards/large.out"));
+}
+
+/// Edition two (document 02, job 2).
+#[test]
+fn pairs_out() {
+    assert_eq!(run(PAIRS), "1 Nn//\n2 --//\nzero 2 2\n");
+    assert_eq!(run(PAIRS), include_str!("../../wards/pairs.out"));
+    assert_eq!(run(PAIRS_NONE), "left 1 2 2\n");
+    assert_eq!(run(PAIRS_NONE), include_str!("../../wards/pairs-none.out"));
+    let refused = include_bytes!("../../wards/pairs-refused.ward");
+    assert_eq!(run(refused), "no 3 58\n");
+    assert_eq!(run(refused), include_str!("../../wards/pairs-refused.out"));
+    let no_edition = include_bytes!("../../wards/edition-refused.ward");
+    assert_eq!(run(no_edition), "no 3 1\n");
+    assert_eq!(run(no_edition), include_str!("../../wards/edition-refused.out"));
+}
+
+/// A month with a weekend every week, and one with ten pairs.
+#[test]
+fn months_with_pairs_out() {
+    let month = run(PAIRS_MONTH);
+    assert!(month.ends_with("zero 300 22\n"));
+    assert_eq!(month, include_str!("../../wards/pairs-month.out"));
+    let ten = run(PAIRS_TEN);
+    assert!(ten.ends_with("zero 15 687\n"));
+    assert_eq!(ten, include_str!("../../wards/pairs-ten.out"));
+}
+
+#[test]
+#[cfg_attr(debug_assertions, ignore)]
+fn weekends_out() {
+    assert_eq!(run(WEEKENDS), "left 1 1 1000\n");
+    assert_eq!(run(WEEKENDS), include_str!("../../wards/weekends.out"));
 }
 
 #[test]

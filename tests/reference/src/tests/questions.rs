@@ -1,8 +1,10 @@
 //! Every question at least once, with its place, and their order.
 
+use super::edition_one::advance_day;
 use crate::check::check;
 use crate::history::{self, Call, History};
-use crate::record::{advance_day, advance_night, fresh, Answer, Record, Removal};
+use crate::pairs::Pattern;
+use crate::record::{advance_night, fresh, Answer, Record, Removal};
 use crate::samples::*;
 use crate::ward::{padded, parse, write, Refusal};
 
@@ -40,7 +42,8 @@ fn question_2() {
 
 #[test]
 fn question_3() {
-    assert_eq!(read(&changed(0, 0)), no(3, 0));
+    // 0 begins a later edition, and there is no edition 3
+    assert_eq!(read(&changed(0, 0)), no(3, 1));
     assert_eq!(read(&changed(0, 49)), no(3, 0));
     assert_eq!(read(&changed(15, 101)), no(3, 15));
     // a pair is judged at the second
@@ -172,7 +175,7 @@ fn question_9() {
     assert_eq!(day([1, 0], &fresh(), 0, 4), Err(no(9, 2)));
     // before 11
     let mut bad = fresh();
-    bad.patterns[47] = 1;
+    bad.patterns[47] = 1.into();
     assert_eq!(day([1, 0], &bad, 0, 4), Err(no(9, 2)));
 }
 
@@ -182,7 +185,7 @@ fn question_10() {
     let mut numbers = WORKED_NUMBERS;
     (numbers[38], numbers[41]) = (0, 3);
     let mut bad = fresh();
-    bad.patterns[47] = 1;
+    bad.patterns[47] = 1.into();
     assert_eq!(advance_night(&file_of(&numbers), &bad, 0, 4), Err(no(10, 2)));
     assert_eq!(advance_night(&file_of(&numbers), &bad, 0, 3), Err(no(9, 0)));
     assert_eq!(advance_day(DEAD_ENDS, &[0; 48], &bad, 0, 0), Err(no(10, 1)));
@@ -205,13 +208,13 @@ fn question_11() {
         change(&mut record);
         night(&record, 0, 4) == Err(no(11, 0))
     };
-    let removal = |nurse, given_up, pattern| Removal { nurse, given_up, pattern };
+    let removal = |nurse, given_up, days: u32| Removal { nurse, given_up, pattern: days.into() };
     assert!(!refused(&|_| ()));
-    assert!(refused(&|r| r.patterns[0] = 1));
-    assert!(refused(&|r| r.patterns[2] = 1));
+    assert!(refused(&|r| r.patterns[0] = 1.into()));
+    assert!(refused(&|r| r.patterns[2] = 1.into()));
     assert!(refused(&|r| r.placed[2] = true));
-    assert!(refused(&|r| (r.placed[1], r.patterns[1]) = (true, 2)));
-    assert!(!refused(&|r| (r.placed[1], r.patterns[1]) = (true, 1)));
+    assert!(refused(&|r| (r.placed[1], r.patterns[1]) = (true, 2.into())));
+    assert!(!refused(&|r| (r.placed[1], r.patterns[1]) = (true, 1.into())));
     assert!(refused(&|r| r.removals[0] = removal(0, false, 0)));
     assert!(refused(&|r| r.removals[0] = removal(3, false, 0)));
     assert!(refused(&|r| r.removals[0] = removal(1, false, 1)));
@@ -229,14 +232,14 @@ fn question_11() {
 #[test]
 fn question_11_lets_the_rest_through() {
     let mut record = fresh();
-    (record.placed[0], record.patterns[0]) = (true, 2);
+    (record.placed[0], record.patterns[0]) = (true, 2.into());
     let answer = night(&record, 1, 4).unwrap();
     // nurse 2 by 0 or by 1 leaves penalty 1: the lowest number
     assert_eq!((answer.penalty, answer.made), (1, 1));
-    assert_eq!(answer.record.in_use(1), Some(0));
+    assert_eq!(answer.record.in_use(1), Some(0.into()));
     let mut record = after(1);
-    (record.placed[0], record.patterns[0]) = (true, 2);
-    record.removals[0] = Removal { nurse: 1, given_up: true, pattern: 2 };
+    (record.placed[0], record.patterns[0]) = (true, 2.into());
+    record.removals[0] = Removal { nurse: 1, given_up: true, pattern: 2.into() };
     assert!(night(&record, 1, 4).is_ok());
 }
 
@@ -257,7 +260,7 @@ fn a_refused_advance_adds_nothing() {
     let refused = history::advance_night(&ward, &mut history, Call { k: 2, places: 3 });
     assert_eq!(refused, Err(no(9, 0)));
     assert!(history.is_empty());
-    let nights = [0, 0];
+    let nights = [0, 0].map(Pattern::from);
     let refused = history::advance_day(&ward, &nights, &mut history, Call { k: 2, places: 5 });
     assert_eq!(refused, Err(no(8, 0)));
 }

@@ -1,7 +1,9 @@
 //! Penalties, steps, and the record against the history.
 
+use super::edition_one::penalty;
 use crate::history::{self, Call, History};
-use crate::penalty::{self, Penalty};
+use crate::pairs::Pattern;
+use crate::penalty::Penalty;
 use crate::phase::{DayPhase, End, NightPhase, Phase};
 use crate::record::{self, fresh, record_of, Record};
 use crate::samples::*;
@@ -25,12 +27,18 @@ fn worked_day_penalties() {
     assert_eq!(day([Some(0), Some(3)]), 0);
 }
 
+/// Nurse and number of each step, without pairs.
+fn steps(history: &History) -> Vec<(usize, u32)> {
+    history.iter().map(|step| (step.0, step.1.days)).collect()
+}
+
 #[test]
 fn worked_steps() {
     let (_, history) = history::all_nights(&worked(), &[Call { k: 10, places: 4 }]);
-    assert_eq!(history, [(0, 1), (1, 0)]);
-    let (answers, history) = history::all_days(&worked(), &[1, 0], &[Call { k: 10, places: 5 }]);
-    assert_eq!(history, [(1, 3), (0, 0)]);
+    assert_eq!(steps(&history), [(0, 1), (1, 0)]);
+    let nights = [1, 0].map(Pattern::from);
+    let (answers, history) = history::all_days(&worked(), &nights, &[Call { k: 10, places: 5 }]);
+    assert_eq!(steps(&history), [(1, 3), (0, 0)]);
     let answer = answers[0].clone().unwrap();
     assert_eq!(answer.end, End::Zero);
     assert_eq!(answer.roster.unwrap(), b"Nn/--/");
@@ -143,14 +151,29 @@ fn everyone_has_a_pattern(phase: &dyn Phase) -> bool {
 #[test]
 fn record_follows_history() {
     let mut dice = Dice(2024);
+    let [night_runs, day_runs, rosters] = runs(&mut dice, 400, |dice| random_ward(dice, 4, 8));
+    assert!(night_runs > 100 && day_runs > 20 && rosters > 10, "{night_runs} {day_runs} {rosters}");
+}
+
+/// The same over wards with pairs (document 02, job 2).
+#[test]
+fn record_follows_history_with_pairs() {
+    let mut dice = Dice(2026);
+    let draw = |dice: &mut Dice| random_ward_with_pairs(dice, 3, 7);
+    let [night_runs, day_runs, rosters] = runs(&mut dice, 800, draw);
+    assert!(night_runs > 100 && day_runs > 20 && rosters > 10, "{night_runs} {day_runs} {rosters}");
+}
+
+/// Lists of advances on wards, by night and then by day: how many, and how many rosters came.
+fn runs(dice: &mut Dice, wards: u32, draw: impl Fn(&mut Dice) -> Ward) -> [u32; 3] {
     let (mut night_runs, mut day_runs, mut rosters) = (0, 0, 0);
-    for _ in 0..400 {
-        let ward = random_ward(&mut dice, 4, 8);
+    for _ in 0..wards {
+        let ward = draw(dice);
         if !everyone_has_a_pattern(&NightPhase::open(&ward, usize::MAX).unwrap()) {
             continue;
         }
         night_runs += 1;
-        let calls = random_calls(&mut dice);
+        let calls = random_calls(dice);
         let (record, end) = compare(
             &ward,
             &calls,
@@ -165,7 +188,7 @@ fn record_follows_history() {
             continue;
         }
         day_runs += 1;
-        let calls = random_calls(&mut dice);
+        let calls = random_calls(dice);
         let (_, end) = compare(
             &ward,
             &calls,
@@ -174,7 +197,7 @@ fn record_follows_history() {
         );
         rosters += u32::from(end == Some(End::Zero));
     }
-    assert!(night_runs > 100 && day_runs > 20 && rosters > 10, "{night_runs} {day_runs} {rosters}");
+    [night_runs, day_runs, rosters]
 }
 
 /// k steps at once, or one by one in any cut: one history.
@@ -193,22 +216,36 @@ fn tally_counts_as_afresh() {
     let mut dice = Dice(99);
     for _ in 0..300 {
         let ward = random_ward(&mut dice, 6, 9);
-        let phase = NightPhase::open(&ward, usize::MAX).unwrap();
-        let mut history = History::new();
-        for _ in 0..dice.upto(5) {
-            let nurse = dice.upto(ward.nurse_count as u64 - 1) as usize;
-            let list = phase.list(nurse);
-            if !list.is_empty() {
-                history.push((nurse, list[dice.upto(list.len() as u64 - 1) as usize]));
-            }
-        }
-        let in_use = history::all_in_use(&ward, &history);
-        let barred = |nurse: usize| {
-            let mut barred = history::given_up_in_last(ward.tabu_length, nurse, &history);
-            barred.extend(in_use[nurse]);
-            barred
-        };
-        let by_tally = least_exchange(&phase, &duties_of(&phase), &in_use, &barred);
-        assert_eq!(by_tally, history::next_step(&phase, &history));
+        least_exchanges_agree(&mut dice, &ward);
     }
+}
+
+#[test]
+fn tally_counts_as_afresh_with_pairs() {
+    let mut dice = Dice(101);
+    for _ in 0..300 {
+        let ward = random_ward_with_pairs(&mut dice, 5, 8);
+        least_exchanges_agree(&mut dice, &ward);
+    }
+}
+
+/// After some steps by night.
+fn least_exchanges_agree(dice: &mut Dice, ward: &Ward) {
+    let phase = NightPhase::open(ward, usize::MAX).unwrap();
+    let mut history = History::new();
+    for _ in 0..dice.upto(5) {
+        let nurse = dice.upto(ward.nurse_count as u64 - 1) as usize;
+        let list = phase.list(nurse);
+        if !list.is_empty() {
+            history.push((nurse, list[dice.upto(list.len() as u64 - 1) as usize]));
+        }
+    }
+    let in_use = history::all_in_use(ward, &history);
+    let barred = |nurse: usize| {
+        let mut barred = history::given_up_in_last(ward.tabu_length, nurse, &history);
+        barred.extend(in_use[nurse]);
+        barred
+    };
+    let by_tally = least_exchange(&phase, &duties_of(&phase), &in_use, &barred);
+    assert_eq!(by_tally, history::next_step(&phase, &history));
 }

@@ -2,7 +2,8 @@
 use mathlib.Core.Path.{_≡_, sym, _∙_}
 use Prim.Native.Nat.{suc, _-_, _≤_}
 use native.Mathlib.Omega.{arith}
-use Rattle.days.specs.Days.{isRest, anyOf, window}
+use Rattle.numbers.specs.Range.{anyOf}
+use Rattle.days.specs.Days.{isRest, window}
 use Rattle.days.specs.CodeMonth.{dutyAt}
 use Rattle.days.proofs.RuleLaws.{restFrom, rest-start, rest-yes, rest-no, rest-done}
 use borrow.Author.Needs.{needs}

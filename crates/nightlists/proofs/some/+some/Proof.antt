@@ -5,8 +5,7 @@ use Prim.Native.Nat.{_+_, _-_, ℕ, _<_}
 use native.Mathlib.Omega.{arith}
 use Rattle.fields.specs.Fields.{days}
 use Rattle.fields.specs.Rules.{rulesOf}
-use Rattle.nightlists.specs.CodeWalk.{listed}
-use Rattle.nights.specs.Hers.{hersOf}
+use Rattle.nightlists.specs.CodeWalk.{listed, hersWithPair}
 use Rattle.nightlists.proofs.WalkLaws.{leaf-yes, leaf-no, node-with, listed-node, node-never, low-ready, high-ready, high-most}
 use Rattle.nights.proofs.ListLaws.{some-leaf, some-empty, some-low, some-high, some-only}
 use borrow.Author.Needs.{needs}
@@ -17,7 +16,7 @@ use Rattle.nightlists.proofs.some.some.Kinds as some-kinds
 use Rattle.nightlists.proofs.some.+some.Lts-some as lts
 use Rattle.nightlists.proofs.is_closed.Reads as is-closed-reads
 use Rattle.nightlists.proofs.start.Reads as start-reads
-use Rattle.nursemasks.proofs.masks.passes.Reads as passes-reads
+use Rattle.nightlists.proofs.some.is_one.Reads as is-one-reads
 use Rattle.numbers.proofs.bit.Reads as bit-reads
 use Rattle.nightlists.proofs.some.+some.{statement}
 use Rattle.nightlists.proofs.some.+some.Tie.{close}
@@ -36,8 +35,8 @@ module _ (t : ℕ) where
   claims = (
     is-closed-reads.Asked,
     is-closed-reads.Learnt,
-    passes-reads.Asked,
-    passes-reads.Learnt,
+    is-one-reads.Asked,
+    is-one-reads.Learnt,
     below,
     some.Post,
     start-reads.Asked,
@@ -80,8 +79,8 @@ module _ (t : ℕ) where
   is-closed-requires : lts.Need-is-closed-requires claims at some.Post
   is-closed-requires c κs = search needs
 
-  passes-requires : lts.Need-passes-requires claims at some.Post
-  passes-requires c κs = search needs
+  is-one-requires : lts.Need-is-one-requires claims at some.Post
+  is-one-requires c κs = search needs
 
   returns : lts.Need-returns claims at some.Post
   returns c =
@@ -91,8 +90,8 @@ module _ (t : ℕ) where
       let start : Start = search in
       let s = start .args in
       let w = s .w .now in
-      λ i is among. some-leaf (rulesOf w) (days w) (hersOf w i) _ _ (s .from)
-      (leaf-yes (s .r) (s .left) (s .from) (s .s) (last .if1 .taken) (answered .is-closed .ensures) (yes-closed .if2 .taken)) (c .passes .ensures i is) among
+      λ i is of among. some-leaf (rulesOf w) (days w) (hersWithPair w i) _ _ (s .from)
+      (leaf-yes (s .r) (s .left) (s .from) (s .s) (last .if1 .taken) (answered .is-closed .ensures) (yes-closed .if2 .taken)) (c .is-one .ensures i is of) among
 
   returns-2 : lts.Need-returns-2 claims at some.Post
   returns-2 c =
@@ -101,7 +100,7 @@ module _ (t : ℕ) where
       let start : Start = search in
       let s = start .args in
       let w = s .w .now in
-      λ i is among. some-empty (rulesOf w) (days w) (hersOf w i) _ false
+      λ i is of among. some-empty (rulesOf w) (days w) (hersWithPair w i) _ false
       (leaf-no (s .r) (s .left) (s .from) (s .s) (last .if1 .taken) (answered .is-closed .ensures) (c .if2 .left))
 
   sub-day : lts.Need-sub-day claims at some.Post
@@ -120,8 +119,8 @@ module _ (t : ℕ) where
       let start : Start = search in
       let s = start .args in
       let w = s .w .now in
-      λ i is among. some-low (rulesOf w) (days w) (hersOf w i) _ _ (listed (s .r) (s .left - 1) (s .from) (s .s)) _
-      (listed-node (s .r) (s .left) (s .from) (s .s) (more .if1 .left)) (low .some .ensures i is) (c .if3 .taken) among
+      λ i is of among. some-low (rulesOf w) (days w) (hersWithPair w i) _ _ (listed (s .r) (s .left - 1) (s .from) (s .s)) _
+      (listed-node (s .r) (s .left) (s .from) (s .s) (more .if1 .left)) (low .some .ensures i is of) (c .if3 .taken) among
 
   start-requires : lts.Need-start-requires claims at some.Post
   start-requires c κs = search needs
@@ -160,10 +159,10 @@ module _ (t : ℕ) where
       let w = s .w .now in
       let b = with .bit .result in
       let found = told .t .given in
-      λ i is among.
-      some-high (rulesOf w) (days w) (hersOf w i) _ _ (listed (s .r) (s .left - 1) (s .from) (s .s)) (listed (s .r) (s .left - 1) (s .from + b) (found .0 .0)) _
+      λ i is of among.
+      some-high (rulesOf w) (days w) (hersWithPair w i) _ _ (listed (s .r) (s .left - 1) (s .from) (s .s)) (listed (s .r) (s .left - 1) (s .from + b) (found .0 .0)) _
       (node-with (s .r) (s .left) (s .from) b (s .s) (found .0 .0) (more .if1 .left) (sym (started .start .ensures) ∙ found .1) (with .bit .ensures))
-      (low .some .ensures i is) (none-low .if3 .left) (c .some2 .ensures i is) among
+      (low .some .ensures i is of) (none-low .if3 .left) (c .some2 .ensures i is of) among
 
   returns-5 : lts.Need-returns-5 claims at some.Post
   returns-5 c =
@@ -174,17 +173,17 @@ module _ (t : ℕ) where
       let start : Start = search in
       let s = start .args in
       let w = s .w .now in
-      λ i is among.
-      some-only (rulesOf w) (days w) (hersOf w i) _ _ (listed (s .r) (s .left - 1) (s .from) (s .s))
+      λ i is of among.
+      some-only (rulesOf w) (days w) (hersWithPair w i) _ _ (listed (s .r) (s .left - 1) (s .from) (s .s))
       (node-never (s .r) (s .left) (s .from) (s .s) (more .if1 .left) (sym (started .start .ensures) ∙ c .enum-told .given .1))
-      (low .some .ensures i is) (none-low .if3 .left) among
+      (low .some .ensures i is of) (none-low .if3 .left) among
 
 pub +some-spec : {M : Type 1} → statement M
 +some-spec = close μ-some λ t. lts.spec (claims t)
     (at t)
     some.Post
     (is-closed-requires t)
-    (passes-requires t)
+    (is-one-requires t)
     (returns t)
     (returns-2 t)
     (sub-day t)

@@ -7,40 +7,41 @@ use Rattle.phases.proofs.questions.is_hers.Tie as tie
 enum-told : tie.Need-enum-told
 enum-told c = search needs
 
-is-hers-requires : tie.Need-is-hers-requires
-is-hers-requires c κs = search needs
+is-own-requires : tie.Need-is-own-requires
+is-own-requires c κs = search needs
 
 enum-told-2 : tie.Need-enum-told-2
 enum-told-2 c = search needs
 
-mul-is-day-pattern : tie.Need-mul-is-day-pattern
-mul-is-day-pattern c = search needs
+mul-is-days-own : tie.Need-mul-is-days-own
+mul-is-days-own c = search needs
 
-element-copy-out-is-day-pattern : tie.Need-element-copy-out-is-day-pattern
-element-copy-out-is-day-pattern c = search needs
+element-copy-out-is-days-own : tie.Need-element-copy-out-is-days-own
+element-copy-out-is-days-own c = search needs
 
-is-day-pattern-requires : tie.Need-is-day-pattern-requires
-is-day-pattern-requires c κs = search needs
+is-days-own-requires : tie.Need-is-days-own-requires
+is-days-own-requires c κs = search needs
 
 returns : tie.Need-returns
 returns c =
     let at-enum-told : tie.After-enum-told = search in
-    own-night _ _ _ _ (at-enum-told .enum-told .given .1) (c .is-hers .ensures)
+    let start : tie.Start = search in
+    own-night _ _ _ _ (start .pre .0) (at-enum-told .enum-told .given .1) (c .is-own .ensures)
 
 returns-2 : tie.Need-returns-2
 returns-2 c =
     let at-enum-told2 : tie.After-enum-told2 = search in
-    own-day _ _ _ _ (at-enum-told2 .enum-told2 .given .1) (c .is-day-pattern .ensures)
+    own-day _ _ _ _ (at-enum-told2 .enum-told2 .given .1) (c .is-days-own .ensures)
 
 pub is-hers-spec : {M : Type 1} → statement M
 is-hers-spec =
     tie.close
     (tie.spec
     enum-told
-    is-hers-requires
+    is-own-requires
     enum-told-2
-    mul-is-day-pattern
-    element-copy-out-is-day-pattern
-    is-day-pattern-requires
+    mul-is-days-own
+    element-copy-out-is-days-own
+    is-days-own-requires
     returns
     returns-2)

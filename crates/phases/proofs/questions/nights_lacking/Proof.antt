@@ -6,14 +6,14 @@ use native.Mathlib.Omega.{arith}
 use Rattle.numbers.specs.Range.{upFrom}
 use Rattle.refusals.specs.Refusals.{refusalIn}
 use Rattle.fields.specs.Fields.{nurses}
-use Rattle.nights.specs.Hers.{nightList}
+use Rattle.nights.specs.Own.{patternList}
 use Rattle.history.specs.Record.{lacking}
 use Rattle.phases.proofs.QuestionLaws.{lacking-begin, lacking-more, lacking-stop, lacking-end}
 use Rattle.phases.proofs.questions.nights_lacking.Statement.{statement}
 use Rattle.phases.proofs.questions.nights_lacking.Tie as tie
 
 abbrev Inv-loop : tie.InvT-loop
-Inv-loop w m i₀ i = (i ≤ m) × (lacking (nightList w) (upFrom 0 (nurses w)) ≡ lacking (nightList w) (upFrom i (m - i)))
+Inv-loop w m i₀ i = (i ≤ m) × (lacking (patternList w) (upFrom 0 (nurses w)) ≡ lacking (patternList w) (upFrom i (m - i)))
 
 abbrev μ-loop : tie.MeasureT-loop
 μ-loop w m i₀ i = m - i

@@ -33,8 +33,8 @@ days-with-requires-2 c κs =
 is-hers-requires : tie.Need-is-hers-requires
 is-hers-requires c κs = search needs
 
-is-day-pattern-requires : tie.Need-is-day-pattern-requires
-is-day-pattern-requires c κs = search needs
+some-pair-holds-requires : tie.Need-some-pair-holds-requires
+some-pair-holds-requires c κs = search needs
 
 block-requires : tie.Need-block-requires
 block-requires c κs = search needs
@@ -49,7 +49,7 @@ returns : tie.Need-returns
 returns c =
     let at-block : tie.After-block = search in
     let at-if2 : tie.Then2 = search in
-    let at-is-day-pattern : tie.After-is-day-pattern = search in
+    let at-some-pair : tie.After-some-pair-holds = search in
     let at-if1 : tie.Then1 = search in
     let at-is-hers : tie.After-is-hers = search in
     let at-days-with2 : tie.After-days-with2 = search in
@@ -58,11 +58,11 @@ returns c =
     let start : tie.Start = search in
     let a = start .args in
     row-compared (a .w .now) (a .roster .now) (a .i) _ (at-days .days .ensures .0) (at-days-with .days-with .ensures) (at-days-with2 .days-with2 .ensures)
-    (sym (at-is-hers .is-hers .ensures) ∙ at-if1 .if1 .taken) (sym (at-is-day-pattern .is-day-pattern .ensures) ∙ at-if2 .if2 .taken) (at-block .block .ensures) (c .same-row .ensures)
+    (sym (at-is-hers .is-hers .ensures) ∙ at-if1 .if1 .taken) (sym (at-some-pair .some-pair-holds .ensures) ∙ at-if2 .if2 .taken) (at-block .block .ensures) (c .same-row .ensures)
 
 returns-2 : tie.Need-returns-2
 returns-2 c =
-    let at-is-day-pattern : tie.After-is-day-pattern = search in
+    let at-some-pair : tie.After-some-pair-holds = search in
     let at-if1 : tie.Then1 = search in
     let at-is-hers : tie.After-is-hers = search in
     let at-days-with2 : tie.After-days-with2 = search in
@@ -71,7 +71,7 @@ returns-2 c =
     let start : tie.Start = search in
     let a = start .args in
     row-no-days (a .w .now) (a .roster .now) (a .i) _ (at-days .days .ensures .0) (at-days-with .days-with .ensures) (at-days-with2 .days-with2 .ensures)
-    (sym (at-is-hers .is-hers .ensures) ∙ at-if1 .if1 .taken) (sym (at-is-day-pattern .is-day-pattern .ensures) ∙ c .if2 .left)
+    (sym (at-is-hers .is-hers .ensures) ∙ at-if1 .if1 .taken) (sym (at-some-pair .some-pair-holds .ensures) ∙ c .if2 .left)
 
 returns-3 : tie.Need-returns-3
 returns-3 c =
@@ -92,7 +92,7 @@ row-holds-spec =
     days-with-requires
     days-with-requires-2
     is-hers-requires
-    is-day-pattern-requires
+    some-pair-holds-requires
     block-requires
     same-row-requires
     returns

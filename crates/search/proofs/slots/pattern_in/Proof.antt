@@ -61,15 +61,22 @@ marked-days-requires c κs =
     let at-block : tie.After-block = search in
     block-at at-block
 
+of-requires : tie.Need-of-requires
+of-requires c κs = search needs
+
+of-requires-2 : tie.Need-of-requires-2
+of-requires-2 c κs = search needs
+
 returns-2 : tie.Need-returns-2
 returns-2 c =
+    let marked : tie.After-marked-days = search in
     let told : tie.After-enum-told = search in
     let block : tie.After-block = search in
     let days : tie.After-days = search in
     let at-else1 : tie.Else1 = search in
     let start : tie.Start = search in
     let a = start .args in
-    pattern-nights (a .w .now) (a .t2) (a .i) (a .search) (at-else1 .if1 .left) (told .enum-told .given .1) (days .days .ensures .0) (block .block .ensures) (c .marked-days .ensures)
+    pattern-nights (a .w .now) (a .t2) (a .i) (a .search) (at-else1 .if1 .left) (told .enum-told .given .1) (days .days .ensures .0) (block .block .ensures) (marked .marked-days .ensures) (c .of .ensures)
 
 marked-days-requires-2 : tie.Need-marked-days-requires-2
 marked-days-requires-2 c κs =
@@ -78,13 +85,14 @@ marked-days-requires-2 c κs =
 
 returns-3 : tie.Need-returns-3
 returns-3 c =
+    let marked : tie.After-marked-days2 = search in
     let told : tie.After-enum-told2 = search in
     let block : tie.After-block = search in
     let days : tie.After-days = search in
     let at-else1 : tie.Else1 = search in
     let start : tie.Start = search in
     let a = start .args in
-    pattern-days (a .w .now) (a .t2) (a .i) (a .search) (at-else1 .if1 .left) (told .enum-told2 .given .1) (days .days .ensures .0) (block .block .ensures) (c .marked-days2 .ensures)
+    pattern-days (a .w .now) (a .t2) (a .i) (a .search) (at-else1 .if1 .left) (told .enum-told2 .given .1) (days .days .ensures .0) (block .block .ensures) (marked .marked-days2 .ensures) (c .of2 .ensures)
 
 pub pattern-in-spec : {M : Type 1} → statement M
 pattern-in-spec =
@@ -98,7 +106,9 @@ pattern-in-spec =
     block-requires
     enum-told
     marked-days-requires
+    of-requires
     enum-told-2
     marked-days-requires-2
+    of-requires-2
     returns-2
     returns-3)

@@ -4,13 +4,15 @@ use Prim.Native.Nat.{ℕ, _+_, _*_, _-_, _≤_, _<_}
 use mathlib.Core.Path.{_≡_, sym, _∙_}
 use mathlib.Core.Logic.{⊎-elim}
 use native.Mathlib.Omega.{arith}
+use mathlib.Core.List.{map}
 use lib.ListN.{length, take}
+use Rattle.numbers.specs.Patterns.{unpaired}
 use Rattle.history.specs.Record.{mayTake}
 use Rattle.search.specs.Stored.{view}
 use Rattle.best.specs.CodeBest.{overList}
 use Rattle.trials.specs.CodeTables.{DayTrials}
-use Rattle.best.proofs.BestLaws.{over-nil, over-done, turn-worse, turn-considered}
-use Rattle.search.proofs.SeekLaws.{trial-costs}
+use Rattle.best.proofs.BestLaws.{over-nil}
+use Rattle.search.proofs.TryLaws.{day-costs, day-worse, day-considered, day-done}
 use Rattle.search.proofs.tries.over_days.Statement.{statement}
 use Rattle.search.proofs.tries.over_days.Tie as tie
 use Rattle.search.proofs.tries.over_days.Reads as reads
@@ -20,7 +22,7 @@ use Rattle.search.proofs.tries.consider.Reads as consider-reads
 use Rattle.best.proofs.improves.Reads as improves-reads
 
 abbrev Inv-loop : tie.InvT-loop
-Inv-loop part t others rec tl i best₀ k₀ k-end best k = (k ≤ length part) × ((m : ℕ) (cost : ℕ → ℕ) → i < m → DayTrials t cost → best ≡ overList (mayTake (view m tl rec) i) (λ q. cost q + 10000000 * others) i best₀ (take k part))
+Inv-loop part t others rec tl i best₀ k₀ k-end best k = (k ≤ length part) × ((m : ℕ) (cost : ℕ → ℕ) → i < m → DayTrials t cost → best ≡ overList (mayTake (view m tl rec) i) (λ q. cost q + 10000000 * others) i best₀ (take k (map unpaired part)))
 
 abbrev μ-loop : tie.MeasureT-loop
 μ-loop part t others rec tl i best₀ k₀ k-end best k = length part - k
@@ -46,6 +48,9 @@ add-c c = search needs
 improves-requires : tie.Need-improves-requires Inv-loop μ-loop
 improves-requires c κs = search needs
 
+of-requires : tie.Need-of-requires Inv-loop μ-loop
+of-requires c κs = search needs
+
 consider-requires : tie.Need-consider-requires Inv-loop μ-loop
 consider-requires c κs = search needs
 
@@ -68,17 +73,18 @@ loop-again c =
       λ m cost l t.
           let may = mayTake (view m (a .tl) (a .rec)) (a .i) in
           let so-far = loop .loop .inv .1 m cost l t in
-          let costs = trial-costs 0 _ (a .others) (t .worked _) (trial .chunk-trial .ensures .0) in
+          let costs = day-costs t _ (a .others) (trial .chunk-trial .ensures .0) in
           ⊎-elim
-          (λ x. turn-considered may (λ q. cost q + 10000000 * a .others) (a .i) (a .held) (a .part .now) (loop .loop .k) taken so-far costs (x .2 ∙ x .1 .ensures m l))
-          (λ x. x .1 ∙ turn-worse may (λ q. cost q + 10000000 * a .others) (a .i) (a .held) (a .part .now) (loop .loop .k) taken so-far costs (improves .improves .ensures) (x .0 .left))
+          (λ x. day-considered may (λ q. cost q + 10000000 * a .others) (a .i) (a .held) (a .part .now) (loop .loop .k) taken so-far costs (x .1 .ensures) (x .3) (x .2 .ensures m l))
+          (λ x. x .1 ∙ day-worse may (λ q. cost q + 10000000 * a .others) (a .i) (a .held) (a .part .now) (loop .loop .k) taken so-far costs (improves .improves .ensures) (x .0 .left))
           (c .if1 .came),
     )
 
 returns : tie.Need-returns Inv-loop μ-loop
 returns c =
     let loop : tie.At-loop Inv-loop μ-loop = search in
-    λ m cost l t. loop .loop .inv .1 m cost l t ∙ over-done _ _ _ _ _ _ (c .loop-test .left)
+    let start : tie.Start Inv-loop μ-loop = search in
+    λ m cost l t. loop .loop .inv .1 m cost l t ∙ day-done _ _ _ _ (start .args .part .now) _ (c .loop-test .left)
 
 pub over-days-spec : {M : Type 1} → statement M
 over-days-spec =
@@ -93,6 +99,7 @@ over-days-spec =
     mul-c
     add-c
     improves-requires
+    of-requires
     consider-requires
     add-k
     loop-less

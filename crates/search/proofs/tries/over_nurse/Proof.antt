@@ -9,6 +9,7 @@ use Rattle.search.proofs.tries.over_nurse.Tie as tie
 use Rattle.search.proofs.tries.over_nurse.Reads as reads
 use Rattle.search.proofs.tries.over_nurse.Lts as lts
 use Rattle.nursemasks.proofs.masks.masks_of.Reads as masks-of-reads
+use Rattle.nursemasks.proofs.pairs.pairs_of.Reads as pairs-of-reads
 use Rattle.search.proofs.tries.others_than.Reads as others-than-reads
 use Rattle.search.proofs.tries.over_days.Reads as over-days-reads
 use Rattle.search.proofs.tries.over_nights.Reads as over-nights-reads
@@ -112,13 +113,17 @@ returns-2 c =
 masks-of-requires : tie.Need-masks-of-requires
 masks-of-requires c κs = search needs
 
+pairs-of-requires : tie.Need-pairs-of-requires
+pairs-of-requires c κs = search needs
+
 over-nights-requires : tie.Need-over-nights-requires
 over-nights-requires c κs =
+    let pairs : tie.After-pairs-of = search in
     let masks : tie.After-masks-of = search in
     let night : tie.After-enum-told = search in
     let others : tie.After-others-than = search in
     let start : tie.Start = search in
-    nights-need (start .pre) (table-at others) (night .enum-told .given .1) (masks .masks-of .ensures .1) (masks .masks-of .ensures .0)
+    nights-need (start .pre) (table-at others) (night .enum-told .given .1) (masks .masks-of .ensures .1) (masks .masks-of .ensures .0) (pairs .pairs-of .ensures)
 
 returns : tie.Need-returns
 returns c =
@@ -136,6 +141,7 @@ over-nurse-spec =
     others-than-requires
     enum-told
     masks-of-requires
+    pairs-of-requires
     over-nights-requires
     enum-told-2
     mul-a

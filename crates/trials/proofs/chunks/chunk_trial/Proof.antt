@@ -4,7 +4,8 @@ use Prim.Native.Nat.{_+_, _*_, _-_, _≤_}
 use mathlib.Core.Path.{_≡_}
 use native.Mathlib.Omega.{arith}
 use Rattle.numbers.specs.Sum.{Is, sumTo}
-use Rattle.trials.proofs.ChunkLaws.{readAt, read-is, read-start, read-turn, chunk-end}
+use Rattle.trials.specs.CodeTables.{readAt}
+use Rattle.trials.proofs.ChunkLaws.{read-is, read-start, read-turn, read-end}
 use Rattle.trials.proofs.chunks.chunk_trial.Statement.{statement}
 use Rattle.trials.proofs.chunks.chunk_trial.Tie as tie
 
@@ -83,7 +84,8 @@ returns : tie.Need-returns Inv-loop μ-loop
 returns c =
     let loop : tie.At-loop Inv-loop μ-loop = search in
     let e : loop .loop .b ≡ 11 = omega arith in
-    (chunk-end _ _ _ (loop .loop .inv .1) e, omega (arith, loop .loop .inv .1 .most))
+    let sum = read-end _ _ _ (loop .loop .inv .1) e in
+    (sum .is, sum .most)
 
 pub chunk-trial-spec : {M : Type 1} → statement M
 chunk-trial-spec =
