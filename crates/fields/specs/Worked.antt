@@ -1,4 +1,4 @@
--- The ward worked through in document 01, a second one, and the second with one number changed. planner/specs/Worked.antt says what the definitions come
+-- The ward worked through in document 01, a second one, and the second with one number changed. worked/specs/Worked.antt says what the definitions come
 -- to on them.
 use Prim.Native.Nat.{ℕ}
 use mathlib.Core.List.{List, [], _∷_}

@@ -5,6 +5,3 @@ pub mod Answers
 pub mod Demand3
 pub mod Demand2
 pub mod Left
-pub mod Worked
-pub mod PairsWorked
-pub mod Table

@@ -28,8 +28,8 @@ use Rattle.history.specs.Phase.{Step, ended, End·zero, End·asked, End·none, 
 use Rattle.history.specs.History.{penalty, allowed, next, extend, reply, advance, answers, history}
 use Rattle.phases.specs.Phases.{nightPhase, dayPhase, nightOf, nightsOpen, commonFits, listsFit}
 use Rattle.outcomes.specs.declared.Checked.the-variants.{Passed, Broken}
 use Rattle.planner.specs.Answers.{checkLetters, checkOver, checkSays}
-use Rattle.planner.specs.Worked.{call, ones, after, refuses}
+use Rattle.worked.specs.Worked.{call, ones, after, refuses}
 
 abbrev did : ℕ → ℕ → ℕ → Step
 did i p k = record { nurse = i; pattern = pattern p k }

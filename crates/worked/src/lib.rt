@@ -1,0 +1,1 @@
+// Examples alone: what the definitions come to, computed by the prover. There is no code.
