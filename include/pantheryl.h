@@ -1,9 +1,9 @@
 /* Pantheryl: a hospital ward's monthly two-shift roster.
  *
- * A ward is handed over as the bytes of a ward file, of edition one or two. No call keeps anything between calls, allocates, or prints. Every
- * call takes any content: it either answers or refuses. The buffers of one call must not overlap. A pointer must not be null, also where its
- * length is 0. A pointer with a size in its comment, as numbers [PANTHERYL_NUMBERS], points to that many places, all readable and, where the
- * call writes there, writable, whatever a count says. A call takes less than 192 KiB of stack.
+ * A ward is handed over as the bytes of a ward file, of edition one or two. No call allocates, prints, or remembers anything but in what it
+ * is lent. Every call takes any content: it either answers or refuses. The buffers of one call, record, storage and answer among them, must not
+ * overlap. A pointer must not be null, also where its length is 0. A pointer with a size in its comment, as numbers [PANTHERYL_NUMBERS], points
+ * to that many places, all readable and, where the call writes there, writable, whatever a count says. A call takes less than 192 KiB of stack.
  *
  * A ward of edition two may have pairs, each of two days one after the other. By night a nurse's pattern is then a night pattern and the number
  * of a pair, from 1, both of whose days she has off. In a ward without pairs, of either edition, and by day the number is 0.
@@ -12,11 +12,12 @@
  *
  *   answer[0]  question  0: not refused; else the number of the question that was answered no (see below)
  *   answer[1]  place     where: an offset, an index or a nurse's number, as the question says; 0 if not refused
- *   answer[2]  outcome   of an advance: 1 zero (the penalty is 0), 2 asked (k steps were made), 3 none (no exchange is left)
- *                        of the check: 1 yes, 2 no (a rule is broken); of the reader and the writer 0
+ *   answer[2]  outcome   of an advance: 1 zero (the penalty is 0), 2 asked (k steps were made), 3 none (no exchange is left); past zero
+ *                        never 1, and at 2 and 3 the penalty may be 0
+ *                        of the check: 1 yes, 2 no (a rule is broken); of all other calls 0
  *   answer[3]  steps     made by this advance
  *   answer[4]  penalty   after them
- *   answer[5]  count     numbers read, bytes written, or letters given
+ *   answer[5]  count     numbers read, bytes written, or letters given: by day also at outcomes 2 and 3, where the penalty is 0
  *
  * On a refusal words 2 to 5 are 0, and nothing but answer is written.
  *
@@ -43,6 +44,8 @@
  *       removals' places after those. A flag that is not 0 is set. A pattern
  *       that is hers is so with its pair; by day the pair is 0
  *   12  the roster has another letter than / - N n +, or not m times n        first bad index, else the count given
+ *   13  the storage has fewer than PANTHERYL_STORAGE words, the number is     0
+ *       not one from 1 to 8, or, on a return, nothing is kept under it
  */
 #ifndef PANTHERYL_H
 #define PANTHERYL_H
@@ -56,6 +59,7 @@
 #define PANTHERYL_NIGHTS 96    /* words of a choice of nights, the first of a night record: each nurse's night pattern, each nurse's pair */
 #define PANTHERYL_RECORD 401   /* words of a search record */
 #define PANTHERYL_ROSTER 1488  /* the most letters that a roster has */
+#define PANTHERYL_STORAGE 3216 /* words of storage for eight kept records */
 #define PANTHERYL_ANSWER 6     /* words of an answer */
 
 #ifdef __cplusplus
@@ -91,28 +95,32 @@ void pantheryl_write(const uint64_t *numbers /* [PANTHERYL_NUMBERS] */, uint64_t
  *                     all steps so far. A flag is read as set if it is not 0, and written as 0 or 1. Written unless the call is refused, also
  *                     where no step was made
  * k                   the most steps to make, at most 10,000
+ * past_zero           0: penalty 0 ends the advance. Any other word: it goes on past zero, and ends only where k steps are made (outcome 2,
+ *                     also where k is 0) or where before that no exchange is left (outcome 3). It is of this call alone; the record does not
+ *                     hold it
  * buffer, buffer_len  room for the common list of night patterns, counted in 32-bit numbers; pairs take no place in it. Written from its start;
  *                     the places after the list are untouched. It carries nothing from call to call
  * answer              written: outcome, steps and penalty; count is 0
  */
-void pantheryl_advance_nights(const uint8_t *file, size_t file_len, uint32_t *record /* [PANTHERYL_RECORD] */, uint32_t k, uint32_t *buffer,
-                              size_t buffer_len, uint64_t *answer /* [PANTHERYL_ANSWER] */);
+void pantheryl_advance_nights(const uint8_t *file, size_t file_len, uint32_t *record /* [PANTHERYL_RECORD] */, uint32_t k,
+                              uint32_t past_zero, uint32_t *buffer, size_t buffer_len, uint64_t *answer /* [PANTHERYL_ANSWER] */);
 
 /* Advances the day search over one choice of nights by up to k steps: questions 1 to 5 and 7 to 11.
  *
  * file, file_len      as at night
- * nights              each nurse's night pattern and pair, as words 0 to 95 of a night record that ended at zero; the same throughout a search
+ * nights              each nurse's night pattern and pair, as words 0 to 95 of a night record at penalty 0; the same throughout a search
  * record              as at night, with the nurses' day patterns, and 0 for each pair; all zeros begin a search
- * k                   as at night
+ * k, past_zero        as at night
  * buffer, buffer_len  room for all nurses' lists of day patterns, each after the one before. Written from its start; the places after the
  *                     lists are untouched
- * roster              written where the outcome is 1, zero: m times n letters from its start, row after row (see pantheryl_check); the
- *                     places after them keep what they hold. At any other outcome none is written. All places must be there
- * answer              written: outcome, steps and penalty; count is the number of letters given out, 0 where there are none
+ * roster              written where the penalty after the steps is 0, whatever the outcome: m times n letters from its start, row after row
+ *                     (see pantheryl_check); the places after them keep what they hold. Else none is written. All places must be there
+ * answer              written: outcome, steps and penalty; count is the number of letters given out, 0 where there are none. Past zero it
+ *                     may be above 0 at outcomes 2 and 3
  */
 void pantheryl_advance_days(const uint8_t *file, size_t file_len, const uint32_t *nights /* [PANTHERYL_NIGHTS] */,
-                            uint32_t *record /* [PANTHERYL_RECORD] */, uint32_t k, uint32_t *buffer, size_t buffer_len,
-                            uint8_t *roster /* [PANTHERYL_ROSTER] */, uint64_t *answer /* [PANTHERYL_ANSWER] */);
+                            uint32_t *record /* [PANTHERYL_RECORD] */, uint32_t k, uint32_t past_zero, uint32_t *buffer,
+                            size_t buffer_len, uint8_t *roster /* [PANTHERYL_ROSTER] */, uint64_t *answer /* [PANTHERYL_ANSWER] */);
 
 /* Checks a roster: questions 1 to 5 and 12.
  *
@@ -122,6 +130,31 @@ void pantheryl_advance_days(const uint8_t *file, size_t file_len, const uint32_t
  */
 void pantheryl_check(const uint8_t *file, size_t file_len, const uint8_t *roster, size_t roster_len,
                      uint64_t *answer /* [PANTHERYL_ANSWER] */);
+
+/* Keeps a record, of either search and of any ward, under a number: question 13 only. Nothing is asked of the record.
+ *
+ * record                the record to keep; not written
+ * number                from 1 to 8; what was kept under it is replaced
+ * storage, storage_len  eight entries of PANTHERYL_RECORD + 1 words: number n has the words from (n-1) * (PANTHERYL_RECORD + 1) on. The first
+ *                       of an entry is 0 where nothing is kept, and any other word where something is; the others are the record's. So
+ *                       storage of zeros keeps nothing. Written: all words of the number's entry, the first as 1, the record's flags as 0
+ *                       or 1. Words from PANTHERYL_STORAGE on are neither looked at nor written
+ * answer                written: all words 0, or the refusal
+ */
+void pantheryl_keep(const uint32_t *record /* [PANTHERYL_RECORD] */, uint32_t number, uint32_t *storage, size_t storage_len,
+                    uint64_t *answer /* [PANTHERYL_ANSWER] */);
+
+/* Brings back the record that is kept under a number: question 13 only. From it every list of advances goes as it would have gone from the
+ * moment of keeping, if nothing else was kept under the number and nothing but keeping wrote the storage. Of a storage that others wrote the
+ * record may have any content: the next advance asks questions 7 and 11 of it, as of any record.
+ *
+ * record                written unless the call is refused: the words of the number's entry after its first, the flags as 0 or 1
+ * number                from 1 to 8
+ * storage, storage_len  as for pantheryl_keep; not written
+ * answer                written: all words 0, or the refusal
+ */
+void pantheryl_return(uint32_t *record /* [PANTHERYL_RECORD] */, uint32_t number, const uint32_t *storage, size_t storage_len,
+                      uint64_t *answer /* [PANTHERYL_ANSWER] */);
 
 #ifdef __cplusplus
 }

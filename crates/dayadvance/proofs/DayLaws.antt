@@ -2,6 +2,7 @@
 use Prim.Native.Nat.{ℕ, zero, suc, _+_, _-_, _≤_, _<_}
 use mathlib.Core.Path.{_≡_, refl, sym, ap, ap₂, _∙_, subst}
 use mathlib.Core.Bool.{Bool, true, false, cond, _&&_, true≢false}
+use mathlib.Core.Logic.{_≢_}
 use mathlib.Core.List.{List, [], _∷_, _++_, map, append-nil}
 use mathlib.Core.Option.{Option, none, some}
 use native.Mathlib.Numerals.{add-one}
@@ -28,11 +29,9 @@ use Rattle.history.specs.Record.{Record, lacking, replyOf, proceed}
 use Rattle.history.proofs.SearchLaws.{days≢nights}
 use Rattle.removals.specs.Removals.{slot, patternOf, flagOf}
 use Rattle.search.specs.Stored.{slotAt, view, viewOf, store, refusalStored, replyStored, soundStored}
-use Rattle.search.specs.CodeSeek.{answerOf, answerWith, Lists, Seeks}
+use Rattle.search.specs.CodeSeek.{answerOf, Lists, Seeks}
 use Rattle.search.specs.declared.Record.{Record as Stored}
 use Rattle.search.specs.declared.Advanced.{Advanced}
-use Rattle.search.specs.declared.Ending.{Ending}
-use Rattle.search.specs.declared.Ending.the-variants.{Zero, Asked, None}
 use Rattle.search.proofs.StoredLaws.{getD-below}
 use Rattle.letters.specs.Letters.{letters, rowLetters}
 use Rattle.letters.specs.CodeRoster.{Written}
@@ -62,8 +61,8 @@ lacking-unpaired lists (i ∷ is) = go (lists i) refl (lacking-unpaired lists is
     go [] q e = rw (q, lacking)
     go (p ∷ ps) q e = rw (q, lacking) e
 
-module _ (w : List ℕ) (nights : ℕ → ℕ) (k places : ℕ) (r : Stored) where
-  pub in-two : refusalStored (dayPhase w nights) (callOf k places) r ≡ first (beforeLists w nights k r) (afterLists w nights places r)
+module _ (w : List ℕ) (nights : ℕ → ℕ) (k : ℕ) (past-zero : Bool) (places : ℕ) (r : Stored) where
+  pub in-two : refusalStored (dayPhase w nights) (callOf k past-zero places) r ≡ first (beforeLists w nights k r) (afterLists w nights places r)
   unfolding refusalStored refusal dayPhase beforeLists afterLists
   in-two =
       ap (λ (l : Option Refusal). first (first (unless (leb k 10000 && leb (r .steps + k) 1000000) question.steps 0) (first (unless (nightsOpen w nights) question.nights 0)
@@ -72,10 +71,10 @@ module _ (w : List ℕ) (nights : ℕ → ℕ) (k places : ℕ) (r : Stored) whe
       ∙ regroup (unless (leb k 10000 && leb (r .steps + k) 1000000) question.steps 0) (unless (nightsOpen w nights) question.nights 0) (listsFit (dayListOver w nights) (nurses w) places)
       (first (lacking (dayListOver w nights) (upFrom 0 (nurses w))) (unless (soundStored (dayPhase w nights) r) question.record-sound 0))
 
-  pub two-before : {n : Option Refusal} → n ≡ beforeLists w nights k r → {x : Refusal} → n ≡ some x → refusalStored (dayPhase w nights) (callOf k places) r ≡ some x
+  pub two-before : {n : Option Refusal} → n ≡ beforeLists w nights k r → {x : Refusal} → n ≡ some x → refusalStored (dayPhase w nights) (callOf k past-zero places) r ≡ some x
   two-before e q = in-two ∙ rw (← e, q)
 
-  pub two-after : {n : Option Refusal} → beforeLists w nights k r ≡ none → n ≡ afterLists w nights places r → refusalStored (dayPhase w nights) (callOf k places) r ≡ n
+  pub two-after : {n : Option Refusal} → beforeLists w nights k r ≡ none → n ≡ afterLists w nights places r → refusalStored (dayPhase w nights) (callOf k past-zero places) r ≡ n
   two-after e q = in-two ∙ rw (e, ← q)
 
 -- ---- questions 9, 10 and 11
@@ -140,20 +139,17 @@ letters-of w nights r z =
     letters-alike w (λ i. daysOf (nights i)) _ _ (nurses w) (λ i h. ap daysOf (slot-pattern (getD (r .placed) i false) (getD (r .patterns) i 0) (z i h)
     ∙ ap (λ (b : Bool). patternOf (cond b (slotAt r i) none)) (sym (lt-ltb i (nurses w) h))))
 
--- the roster that an advance gives out, by how it ended
+-- the roster that an advance gives out, by the penalty that it leaves
 module _ (w : List ℕ) (nights : ℕ → ℕ) (x : Advanced) where
-  abbrev given : Ending → List ℕ
-  given e = lettersOf (answerWith (dayPhase w nights) (x .after) (x .steps) (x .penalty) e)
+  abbrev given : Bool → List ℕ
+  given b = cond b (dayPhase w nights .letters (viewOf (dayPhase w nights) (x .after) .slots)) []
 
-  pub given-zero : {r : Roster} → UnplacedZero w (x .after) → x .ending ≡ Zero → Written w (λ i. daysOf (nights i)) (λ i. daysOf (getD (x .after .patterns) i 0)) r
+  pub given-zero : {r : Roster} → UnplacedZero w (x .after) → x .penalty ≡ 0 → Written w (λ i. daysOf (nights i)) (λ i. daysOf (getD (x .after .patterns) i 0)) r
       → r ≡ rosterOf (lettersOf (answerOf (dayPhase w nights) x))
-  given-zero z e v = written-roster w _ _ v ∙ ap rosterOf (letters-of w nights (x .after) z) ∙ sym (ap (λ (y : Ending). rosterOf (given y)) e)
+  given-zero z e v = written-roster w _ _ v ∙ ap rosterOf (letters-of w nights (x .after) z) ∙ sym (ap (λ (b : Bool). rosterOf (given b)) (eq-eqb (x .penalty) 0 e))
 
-  pub given-asked : {r : Roster} → x .ending ≡ Asked → r ≡ rosterOf [] → r ≡ rosterOf (lettersOf (answerOf (dayPhase w nights) x))
-  given-asked e q = q ∙ sym (ap (λ (y : Ending). rosterOf (given y)) e)
-
-  pub given-none : {r : Roster} → x .ending ≡ None → r ≡ rosterOf [] → r ≡ rosterOf (lettersOf (answerOf (dayPhase w nights) x))
-  given-none e q = q ∙ sym (ap (λ (y : Ending). rosterOf (given y)) e)
+  pub given-not : {r : Roster} → x .penalty ≢ 0 → r ≡ rosterOf [] → r ≡ rosterOf (lettersOf (answerOf (dayPhase w nights) x))
+  given-not n q = q ∙ sym (ap (λ (b : Bool). rosterOf (given b)) (ne-eqb (x .penalty) 0 n))
 
 -- ---- what an advance that is not refused hands back
 
@@ -167,10 +163,10 @@ unfolding store
 store-zero R i h f =
     getD-below (λ j. patternOf (R .slots j)) 0 nursePlaces i h ∙ flag-pattern (R .slots i) (sym (getD-below (λ j. flagOf (R .slots j)) false nursePlaces i h) ∙ f)
 
-pub stored-zero : (w : List ℕ) (P : Phase) (k : ℕ) (r : Stored) {a : Answer} {x : Stored} → Accepted w → replyStored P k r ≡ (a, x) → UnplacedZero w x
+pub stored-zero : (w : List ℕ) (P : Phase) (past-zero : Bool) (k : ℕ) (r : Stored) {a : Answer} {x : Stored} → Accepted w → replyStored P past-zero k r ≡ (a, x) → UnplacedZero w x
 unfolding replyStored UnplacedZero
-stored-zero w P k r acc e =
-    let R = replyOf P (viewOf P r) (proceed P k (viewOf P r)) .1 in
+stored-zero w P past-zero k r acc e =
+    let R = replyOf P (viewOf P r) (proceed P past-zero k (viewOf P r)) .1 in
     subst (λ (y : Stored). (i : ℕ) → i < nurses w → getD (y .placed) i false ≡ false → getD (y .patterns) i 0 ≡ 0) (ap (λ (y : Answer × Stored). y .1) e)
     (λ i h f. store-zero R i (omega (arith, acc .nurses-most)) f)
 
@@ -183,23 +179,23 @@ none-over {f} {m} {places} {over} c e =
     let q : eqb (firstOver f places 0 m) m ≡ true = unless-none (eqb (firstOver f places 0 m) m) question.lists _ e in
     omega (arith, eqb-true (firstOver f places 0 m) m q, c .over-is)
 
-pub record Open (w : List ℕ) (nights : ℕ → ℕ) (r : Stored) (k places over : ℕ) : Type 0 where
-  pub unrefused : refusalStored (dayPhase w nights) (callOf k places) r ≡ none
+pub record Open (w : List ℕ) (nights : ℕ → ℕ) (r : Stored) (k : ℕ) (past-zero : Bool) (places over : ℕ) : Type 0 where
+  pub unrefused : refusalStored (dayPhase w nights) (callOf k past-zero places) r ≡ none
   pub steps-fit : r .steps + k ≤ 1000000
   pub full : nurses w ≤ over
   pub room : length (upTo (dayListOver w nights) (nurses w)) ≤ places
   pub sound : soundStored (dayPhase w nights) r ≡ true
 
-pub opened : (w : List ℕ) (nights : ℕ → ℕ) (r : Stored) (k : ℕ) {places over : ℕ} {ends : List ℕ} → beforeLists w nights k r ≡ none
-    → Counted (dayListOver w nights) (nurses w) places over ends → none ≡ afterLists w nights places r → Open w nights r k places over
+pub opened : (w : List ℕ) (nights : ℕ → ℕ) (r : Stored) (k : ℕ) (past-zero : Bool) {places over : ℕ} {ends : List ℕ} → beforeLists w nights k r ≡ none
+    → Counted (dayListOver w nights) (nurses w) places over ends → none ≡ afterLists w nights places r → Open w nights r k past-zero places over
 unfolding beforeLists afterLists
-opened w nights r k {places} e n f =
+opened w nights r k past-zero {places} e n f =
     let a = first-none (unless (leb k 10000 && leb (r .steps + k) 1000000) question.steps 0) _ e in
     let b = first-none (listsFit (dayListOver w nights) (nurses w) places) _ (sym f) in
     let c = first-none (lacking (dayListOver w nights) (upFrom 0 (nurses w))) _ (b .1) in
     let s = and-parts (leb k 10000) (leb (r .steps + k) 1000000) (unless-none _ question.steps 0 (a .0)) in
     record {
-      unrefused = two-after w nights k places r e f;
+      unrefused = two-after w nights k past-zero places r e f;
       steps-fit = leb-true _ _ (s .1);
       full = none-over n (b .0);
       room = n .all-fit (none-over n (b .0));

@@ -10,7 +10,6 @@ use phases::questions;
 use refusals::Answer;
 use refusals::question;
 use search::Advanced;
-use search::Ending;
 use search::Record;
 use search::tries::Stretches;
 ghost use mathlib.Core.Path.{_≡_};
@@ -36,15 +35,11 @@ fn roster_given(w: &[u64], nights: &[u64; NURSES], x: Advanced) -> Roster
     requires { ⌜ Accepted (now w) × UnplacedZero (now w) (x .after) ⌝ }
     ensures { λ r. ⌜ r ≡ rosterOf (lettersOf (answerOf (dayPhase (now (w .entry)) (nightOf (now (nights .entry)))) x)) ⌝ }
 {
-    let ending = x.ending;
-    match ending {
-        Ending::Zero => {
-            let worked = x.after.patterns;
-            letters::written::roster_of(w, *nights, worked)
-        }
-        Ending::Asked => outcomes::no_roster(),
-        Ending::None => outcomes::no_roster(),
+    if x.penalty == 0 {
+        let worked = x.after.patterns;
+        return letters::written::roster_of(w, *nights, worked);
     }
+    outcomes::no_roster()
 }
 
 // Questions 7 and 8.
@@ -97,12 +92,13 @@ fn with_lists(
     w: &[u64],
     nights: &[u64; NURSES],
     k: u32,
+    past: bool,
     counted: Ends,
     buffer: &mut [u32],
 ) -> Advance
     requires { ⌜ Accepted (now w) × (beforeLists (now w) (nightOf (now nights)) k rec ≡ none) × Counted (dayLists (now w) (now nights)) (nurses (now w)) (length (now buffer)) (counted .over) (counted .ends) ⌝ }
-    ensures says { λ r. ⌜ r ≡ advanceOf (advanceStored (dayPhase (now (w .entry)) (nightOf (now (nights .entry)))) (callOf k (length (now (buffer .entry)))) rec) ⌝ }
-    ensures leaves { λ _. ⌜ now (buffer .exit) ≡ leftBy (advanceStored (dayPhase (now (w .entry)) (nightOf (now (nights .entry)))) (callOf k (length (now (buffer .entry)))) rec .0) (upTo (dayLists (now (w .entry)) (now (nights .entry))) (nurses (now (w .entry)))) (now (buffer .entry)) ⌝ }
+    ensures says { λ r. ⌜ r ≡ advanceOf (advanceStored (dayPhase (now (w .entry)) (nightOf (now (nights .entry)))) (callOf k past (length (now (buffer .entry)))) rec) ⌝ }
+    ensures leaves { λ _. ⌜ now (buffer .exit) ≡ leftBy (advanceStored (dayPhase (now (w .entry)) (nightOf (now (nights .entry)))) (callOf k past (length (now (buffer .entry)))) rec .0) (upTo (dayLists (now (w .entry)) (now (nights .entry))) (nurses (now (w .entry)))) (now (buffer .entry)) ⌝ }
 {
     match next_no(rec, w, nights, counted) {
         Answer::No(n) => outcomes::refuse(rec, n),
@@ -113,7 +109,7 @@ fn with_lists(
                 search: Search::Days,
                 ends,
             };
-            let x = rec.advance(w, &buffer[..len], stretches, k);
+            let x = rec.advance(w, &buffer[..len], stretches, k, past);
             let roster = roster_given(w, nights, x);
             outcomes::finished(x, roster)
         }
@@ -126,17 +122,18 @@ pub fn advance_on(
     w: &[u64],
     nights: &[u64; NURSES],
     k: u32,
+    past: bool,
     buffer: &mut [u32],
 ) -> Advance
     requires { ⌜ Accepted (now w) ⌝ }
-    ensures says { λ r. ⌜ r ≡ advanceOf (advanceStored (dayPhase (now (w .entry)) (nightOf (now (nights .entry)))) (callOf k (length (now (buffer .entry)))) rec) ⌝ }
-    ensures leaves { λ _. ⌜ now (buffer .exit) ≡ leftBy (advanceStored (dayPhase (now (w .entry)) (nightOf (now (nights .entry)))) (callOf k (length (now (buffer .entry)))) rec .0) (upTo (dayLists (now (w .entry)) (now (nights .entry))) (nurses (now (w .entry)))) (now (buffer .entry)) ⌝ }
+    ensures says { λ r. ⌜ r ≡ advanceOf (advanceStored (dayPhase (now (w .entry)) (nightOf (now (nights .entry)))) (callOf k past (length (now (buffer .entry)))) rec) ⌝ }
+    ensures leaves { λ _. ⌜ now (buffer .exit) ≡ leftBy (advanceStored (dayPhase (now (w .entry)) (nightOf (now (nights .entry)))) (callOf k past (length (now (buffer .entry)))) rec .0) (upTo (dayLists (now (w .entry)) (now (nights .entry))) (nurses (now (w .entry)))) (now (buffer .entry)) ⌝ }
 {
     match first_no(rec, w, nights, k) {
         Answer::No(n) => outcomes::refuse(rec, n),
         Answer::Yes => {
             let counted = daylists::lists::lists_count(w, nights, buffer.len());
-            with_lists(rec, w, nights, k, counted, buffer)
+            with_lists(rec, w, nights, k, past, counted, buffer)
         }
     }
 }

@@ -3,13 +3,8 @@ use Prim.Native.Nat.{ℕ, _+_, _*_, _<_}
 use mathlib.Core.Path.{_≡_}
 use mathlib.Core.Logic.{_≢_}
 use mathlib.Core.List.{[]}
-use Rattle.numbers.specs.Sum.{countTo}
-use Rattle.history.specs.Slot.{Slot, isNone, unplacedCost}
-use Rattle.history.specs.Phase.{Phase}
-
--- how many nurses are unplaced
-abbrev pub unplaced : Phase → (ℕ → Slot) → ℕ
-unplaced P slots = countTo (P .nurses) (λ i. isNone (slots i))
+use Rattle.history.specs.Slot.{Slot, unplacedCost}
+use Rattle.history.specs.Phase.{Phase, unplaced}
 
 -- every nurse has a pattern, and an unplaced nurse adds 10,000,000, flat, to a rest that is below that
 pub record Lawful (P : Phase) : Type 0 where

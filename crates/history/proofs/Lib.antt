@@ -3,8 +3,12 @@ pub mod TestLaws
 pub mod ChooseLaws
 pub mod AllowedLaws
 pub mod RunLaws
+pub mod StopLaws
 pub mod FollowLaws
+pub mod FitLaws
+pub mod GrewLaws
 pub mod PlacedLaws
+pub mod SessionLaws
 pub mod DemandLaws
 pub mod TurnLaws
 pub mod WithoutLaws

@@ -1,10 +1,10 @@
 -- An unplaced nurse costs more than all else, so each step places one while there is one.
 use Prim.Native.Nat.{ℕ, zero, suc, _+_, _-_, _*_, _≤_, _<_}
-use mathlib.Core.Path.{_≡_, refl, sym, _∙_}
+use mathlib.Core.Path.{_≡_, refl, sym}
 use mathlib.Core.Bool.{Bool, true, false, cond}
-use mathlib.Core.Logic.{_≢_, _⊎_, ⊎-elim}
+use mathlib.Core.Logic.{_≢_, ⊎-elim}
 use mathlib.Core.List.{List, [], _∷_, _++_, List·Memᴰ, List·Memᴰ·head}
-use mathlib.Core.Option.{none, some, Option·none-ne-some, Option·some-ne-none}
+use mathlib.Core.Option.{none, some}
 use native.Mathlib.Omega.{arith}
 use native.Mathlib.Nat.{not-suc-le-zero, le-of-suc-le-suc, eq-or-lt-of-le}
 use lib.Dec.{eqb}
@@ -13,11 +13,13 @@ use borrow.Author.Tests.{eq-eqb, ne-eqb}
 use Rattle.numbers.specs.Sum.{sumTo, countTo, oneIf}
 use Rattle.numbers.proofs.SumLaws.{count-le}
 use Rattle.history.specs.Slot.{Slot, isNone, exchanged}
-use Rattle.history.specs.Phase.{Step, Phase}
-use Rattle.history.specs.History.{History, inUse, penalty}
+use Rattle.history.specs.Phase.{Step, Phase, unplaced}
+use Rattle.history.specs.History.{History, inUse, penalty, allowed}
 use Rattle.history.specs.Claim.{Allowed, Least}
-use Rattle.history.proofs.Lawful.{Lawful, unplaced}
-use Rattle.history.proofs.FollowLaws.{Grown, start, more}
+use Rattle.history.proofs.Lawful.{Lawful}
+use Rattle.history.proofs.AllowedLaws.{allowed-of}
+use Rattle.history.proofs.FitLaws.{Fit}
+use Rattle.history.proofs.GrewLaws.{Grew, start, more, Grown, fresh, and, fit-grew, grown-fit}
 
 -- how many of the first n nurses are unplaced
 abbrev unplacedTo : (ℕ → Slot) → ℕ → ℕ
@@ -83,15 +85,6 @@ module _ (slots : ℕ → Slot) (s : Step) where
       omega (arith, exchange-places n m e))
       (eq-or-lt-of-le (le-of-suc-le-suc l))
 
--- who has made a step is placed
-stepped-placed : (later : History) (t : Step) (earlier : History) (i : ℕ) → t .nurse ≡ i → inUse (later ++ (t ∷ earlier)) i ≢ none
-stepped-placed [] t earlier i q e = Option·some-ne-none (t .pattern) (rw (eq-eqb i (t .nurse) (sym q)) at e)
-stepped-placed (s ∷ later) t earlier i q e = go (stepped-placed later t earlier i q) (eqb i (s .nurse)) refl e
-  where
-    go : inUse (later ++ (t ∷ earlier)) i ≢ none → (b : Bool) → eqb i (s .nurse) ≡ b → cond b (some (s .pattern)) (inUse (later ++ (t ∷ earlier)) i) ≡ none → ⊥
-    go ih true _ e = Option·some-ne-none (s .pattern) e
-    go ih false _ e = ih e
-
 some-member : (l : List ℕ) → l ≢ [] → (p : ℕ) × List·Memᴰ p l
 some-member [] n = absurd (n refl)
 some-member (p ∷ l) n = (p, List·Memᴰ·head refl)
@@ -102,27 +95,21 @@ module _ (P : Phase) (w : Lawful P) where
   penalty-is h = w .flat (inUse h)
 
   -- placing an unplaced nurse is allowed
-  place : (h : History) (i : ℕ) → i < P .nurses → inUse h i ≡ none → (t : Step) × Allowed P h t × (t .nurse ≡ i)
-  place h i l e =
-      let m = some-member (P .patterns i) (w .some-pattern i l) in (
-        record { nurse = i; pattern = m .0 },
-        record {
-          nurse = l;
-          hers = m .1;
-          not-in-use = λ u. Option·none-ne-some (m .0) (sym e ∙ u);
-          not-given-up = λ later earlier t q r n u. stepped-placed later t earlier i n (rw q at e);
-        },
-        refl,
-      )
+  place : (h : History) → Fit P h → (i : ℕ) → i < P .nurses → inUse h i ≡ none → (t : Step) × Allowed P h t × (t .nurse ≡ i)
+  unfolding allowed
+  place h fit i l e =
+      let m = some-member (P .patterns i) (w .some-pattern i l) in
+      let t : Step = record { nurse = i; pattern = m .0 } in
+      (t, allowed-of P h t l (m .1) (rw (e, fit .unbarred i e (P .tabu) (m .0))), refl)
 
-  fewer : {h : History} {s : Step} → Least P h s → unplaced P (inUse (s ∷ h)) ≤ unplaced P (inUse h) - 1
-  fewer {h} {s} f = go (unplaced P (inUse h)) refl
+  pub fewer : {h : History} {s : Step} → Fit P h → Least P h s → unplaced P (inUse (s ∷ h)) ≤ unplaced P (inUse h) - 1
+  fewer {h} {s} fit f = go (unplaced P (inUse h)) refl
     where
       go : (k : ℕ) → unplaced P (inUse h) ≡ k → unplaced P (inUse (s ∷ h)) ≤ unplaced P (inUse h) - 1
       go zero e = omega (arith, exchange-fewer (inUse h) s (P .nurses))
       go (suc k) e =
           let m = find (inUse h) (P .nurses) (omega arith) in
-          let t = place h (m .at) (m .within) (m .missing) in
+          let t = place h fit (m .at) (m .within) (m .missing) in
           omega (
             arith,
             f .least (t .0) (t .1) .penalty,
@@ -132,9 +119,16 @@ module _ (P : Phase) (w : Lawful P) where
             exchange-places (inUse h) (t .0) (P .nurses) (omega (arith, m .within, t .2)) (rw (t .2) (m .missing)),
           )
 
-  pub fewer-left : {h : History} → Grown P h → unplaced P (inUse h) ≤ P .nurses - length h
-  fewer-left start = omega (arith, count-le (P .nurses) (λ i. isNone (inUse [] i)))
-  fewer-left (more {s = s} {h = h} g _ f) = omega (arith, fewer-left g, fewer f)
+  -- by the steps of an advance
+  pub fewer-grew : (past-zero : Bool) (h : History) → Fit P h → {new : History} → Grew P past-zero h new → unplaced P (inUse (new ++ h)) ≤ unplaced P (inUse h) - length new
+  fewer-grew past-zero h fit start = omega arith
+  fewer-grew past-zero h fit (more {s = s} {new = new} g d f) =
+      omega (arith, fewer-grew past-zero h fit g, fewer {h = new ++ h} {s = s} (fit-grew P past-zero h fit g) f)
+
+  -- from fresh
+  fewer-left : {h : History} → Grown P h → unplaced P (inUse h) ≤ P .nurses - length h
+  fewer-left fresh = omega (arith, count-le (P .nurses) (λ i. isNone (inUse [] i)))
+  fewer-left (and {s = s} {h = h} g f) = omega (arith, fewer-left g, fewer {h = h} {s = s} (grown-fit P g) f)
 
   pub all-placed : {h : History} → Grown P h → P .nurses ≤ length h → (i : ℕ) → i < P .nurses → inUse h i ≢ none
   all-placed {h} g m i l = none-unplaced (inUse h) (P .nurses) i (omega (arith, fewer-left g)) l

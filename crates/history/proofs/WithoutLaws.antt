@@ -1,5 +1,6 @@
--- Where a nurse has no pattern, question 10 names the lowest; and a list of advances that are each refused changes nothing.
+-- Where a nurse has no pattern, question 10 names the lowest; and lists of operations whose advances are each refused.
 use Prim.Native.Nat.{ℕ, zero, suc, _+_, _≤_, _<_}
+use mathlib.Core.Bool.{Bool}
 use mathlib.Core.Path.{_≡_, refl, sym, ap, _∙_}
 use mathlib.Core.Logic.{_≢_, _⊎_, inl, inr}
 use mathlib.Core.List.{List, [], _∷_}
@@ -10,10 +11,12 @@ use lib.ListN.{length}
 use Rattle.numbers.specs.Range.{upFrom}
 use Rattle.refusals.specs.Refusals.{numbered}
 use Rattle.refusals.specs.Questions as question
-use Rattle.history.specs.Phase.{Phase, Call, Answer, refused, refusal}
+use Rattle.history.specs.Phase.{Phase, Call, Answer, refused, inTurn}
 use Rattle.refusals.specs.declared.Refusal.{Refusal}
-use Rattle.history.specs.Record.{lacking}
-use Rattle.history.specs.Claim.{Without, OneOrOther, orTen, AllRefused, Refusing}
+use Rattle.history.specs.Record.{Record, fresh, lacking}
+use Rattle.history.specs.Session.{Operation, begun, known, act}
+use Rattle.history.specs.Claim.{Without, OneOrOther, turnedAway}
+use Rattle.history.proofs.SessionLaws.{every-begun, turns-alike}
 
 module _ (P : Phase) (i : ℕ) (w : Without P i) where
   abbrev ten : Refusal
@@ -58,12 +61,11 @@ module _ (P : Phase) where
 pub one-or-other : OneOrOther
 one-or-other P = one-of P (P .nurses) (omega arith)
 
-pub all-refused : {R : Type 0} (start : R) (advance : Call → R → Answer × R) (why : Call → Refusal) → ((c : Call) → advance c start ≡ (refused (why c), start))
-    → (cs : List Call) → AllRefused start advance why cs
-all-refused start advance why one [] = refl
-all-refused {R} start advance why one (c ∷ cs) =
-    rw (one c) (ap (λ (x : List Answer × R). (refused (why c) ∷ x .0, x .1)) (all-refused start advance why one cs))
-
-pub refusing : (P : Phase) {R : Type 0} (start : R) (advance : Call → R → Answer × R)
-    → ((i : ℕ) → Without P i → (c : Call) → advance c start ≡ (refused (orTen i (refusal P c 0)), start)) → Refusing P start advance
-refusing P start advance one i w cs = all-refused start advance (λ c. orTen i (refusal P c 0)) (one i w) cs
+-- where every advance from fresh is refused, in a search that holds a record as f says: all goes as if nothing were searched
+pub all-refused : (room : Bool) {U : Type 0} (adv : Call → U → Answer × U) (f : Record → U) (why : Call → Refusal) → ((c : Call) → adv c (f fresh) ≡ (refused (why c), f fresh))
+    → (ops : List Operation)
+    → inTurn (act adv room) ops (begun (f fresh)) ≡ (inTurn (act (turnedAway why) room) ops (begun fresh) .0, known f (inTurn (act (turnedAway why) room) ops (begun fresh) .1))
+all-refused room {U} adv f why one ops =
+    turns-alike (turnedAway why) adv room f (λ r. r ≡ fresh) (λ c r e. e)
+    (λ c r e. ap (λ (x : Record). adv c (f x)) e ∙ one c ∙ ap (λ (x : Record). (refused (why c), f x)) (sym e))
+    ops (begun fresh) (every-begun (λ r. r ≡ fresh) fresh refl)

@@ -1,16 +1,18 @@
--- Demand 3: one claim about a whole list of advances.
-use Prim.Native.Nat.{ℕ, suc, _+_, _≤_, _<_}
+-- Demand 3: one claim about a whole list of operations.
+use Prim.Native.Nat.{ℕ, suc, _+_, _-_, _≤_, _<_}
 use mathlib.Core.Path.{_≡_}
+use mathlib.Core.Bool.{Bool, true, false}
 use mathlib.Core.Logic.{_≢_, _↔_, _⊎_}
-use mathlib.Core.List.{List, [], _∷_, _++_, map, List·Memᴰ}
+use mathlib.Core.List.{List, [], _∷_, _++_, List·Memᴰ}
 use mathlib.Core.Option.{Option, none, some}
 use lib.ListN.{length}
 use Rattle.refusals.specs.Refusals.{numbered}
 use Rattle.refusals.specs.Questions as question
-use Rattle.history.specs.Phase.{Step, Phase, Call, Answer, refused, ended, End, End·zero, End·asked, End·none, refusal, inTurn}
+use Rattle.history.specs.Phase.{Step, Phase, unplaced, Call, Answer, refused, ended, End, End·zero, End·asked, End·none, refusal, inTurn}
 use Rattle.refusals.specs.declared.Refusal.{Refusal}
-use Rattle.history.specs.History.{History, inUse, penalty, answers, history}
-use Rattle.history.specs.Record.{Record, recordOf}
+use Rattle.history.specs.History.{History, inUse, penalty}
+use Rattle.history.specs.Record.{Record, recordOf, fresh}
+use Rattle.history.specs.Session.{Operation, Operation·advance, Operation·keep, Operation·return, Answered, advanced, stored, Session, begun, known, no13, act, answers, session}
 
 -- after h: an exchange gives one nurse, placed or not, a pattern of hers that is neither in use by her nor given up by her in the last TL steps
 pub record Allowed (P : Phase) (h : History) (s : Step) : Type 0 where
@@ -31,51 +33,67 @@ pub record Least (P : Phase) (h : History) (s : Step) : Type 0 where
   pub allowed : Allowed P h s
   pub least : (t : Step) → Allowed P h t → NotAfter (penalty P (s ∷ h)) (penalty P (t ∷ h)) s t
 
--- each step of a history, at its place, was due and the one to take
+-- each step of a history, at its place, was the one to take
 abbrev pub Steps : (P : Phase) → History → Type 0
-Steps P h = (later : History) (s : Step) (earlier : History) → h ≡ later ++ (s ∷ earlier) → (penalty P earlier ≢ 0) × Least P earlier s
+Steps P h = (later : History) (s : Step) (earlier : History) → h ≡ later ++ (s ∷ earlier) → Least P earlier s
 
--- an advance of k steps, not refused, that took the history from h to h′ and answered end e, n steps, penalty c and letters l
-pub record Made (P : Phase) (k : ℕ) (h h′ : History) (e : End) (n c : ℕ) (l : List ℕ) : Type 0 where
+-- an advance, not refused, that took the history from h to h′ and answered end e, n steps, penalty c and letters l
+pub record Made (P : Phase) (call : Call) (h h′ : History) (e : End) (n c : ℕ) (l : List ℕ) : Type 0 where
   pub new : History
   pub added : h′ ≡ new ++ h
   pub steps : n ≡ length new
   pub after : c ≡ penalty P h′
-  pub at-most : n ≤ k
-  pub asked : e ≡ End·asked → n ≡ k
-  pub zero-when : (e ≡ End·zero) ↔ (c ≡ 0)
-  pub none-when : (e ≡ End·none) ↔ (((t : Step) → Allowed P h′ t → ⊥) × (n < k) × (c ≢ 0))
+  pub at-most : n ≤ call .steps
+  -- each of its steps, at its place, was due and the one to take
+  pub each : (later : History) (s : Step) (earlier : History) → new ≡ later ++ (s ∷ earlier)
+      → (call .past-zero ≡ false → penalty P (earlier ++ h) ≢ 0) × Least P (earlier ++ h) s
+  pub asked : e ≡ End·asked → n ≡ call .steps
+  pub zero-when : (e ≡ End·zero) ↔ ((call .past-zero ≡ false) × (c ≡ 0))
+  pub none-when : (e ≡ End·none) ↔ (((t : Step) → Allowed P h′ t → ⊥) × (n < call .steps) × (call .past-zero ≡ false → c ≢ 0))
+  -- the roster goes by the penalty, whatever the end
   pub letters : (c ≡ 0 → l ≡ P .letters (inUse h′)) × (c ≢ 0 → l ≡ [])
+  -- the placing: while someone is unplaced, each step places a nurse
+  pub fewer : unplaced P (inUse h′) ≤ unplaced P (inUse h) - n
 
--- one advance: the history before it, its answer, and the history after it
-pub data Went (P : Phase) (call : Call) (h : History) : Answer → History → Type 0 where
-  refuses : {n : Refusal} → refusal P call (length h) ≡ some n → Went P call h (refused n) h
-  goes : {h′ : History} {e : End} {n c : ℕ} {l : List ℕ} → refusal P call (length h) ≡ none
-      → Made P (call .steps) h h′ e n c l → Went P call h (ended e n c l) h′
+-- the storage has room for eight records, and the number is 1 to 8
+abbrev pub Storable : Bool → ℕ → Type 0
+Storable room n = (room ≡ true) × (1 ≤ n) × (n ≤ 8)
 
--- each advance of a list in turn
-pub data Turns (P : Phase) : List Call → List Answer → History → History → Type 0 where
-  done : {h : History} → Turns P [] [] h h
-  turn : {c : Call} {cs : List Call} {a : Answer} {l : List Answer} {h h′ h″ : History}
-      → Went P c h a h′ → Turns P cs l h′ h″ → Turns P (c ∷ cs) (a ∷ l) h h″
+-- one operation on a session s: what it answers, and the session after it
+pub data Went (P : Phase) (room : Bool) (s : Session History) : Operation → Answered → Session History → Type 0 where
+  refuses : {c : Call} {n : Refusal} → refusal P c (length (s .in-hand)) ≡ some n → Went P room s (Operation·advance c) (advanced (refused n)) s
+  goes : {c : Call} {h′ : History} {e : End} {n p : ℕ} {l : List ℕ} → refusal P c (length (s .in-hand)) ≡ none → Made P c (s .in-hand) h′ e n p l
+      → Went P room s (Operation·advance c) (advanced (ended e n p l)) (record { in-hand = h′; kept = s .kept })
+  keeps : {n : ℕ} {kept : ℕ → Option History} → Storable room n → kept n ≡ some (s .in-hand) → ((m : ℕ) → m ≢ n → kept m ≡ s .kept m)
+      → Went P room s (Operation·keep n) (stored none) (record { in-hand = s .in-hand; kept = kept })
+  keeps-not : {n : ℕ} → (Storable room n → ⊥) → Went P room s (Operation·keep n) (stored no13) s
+  returns : {n : ℕ} {h : History} → Storable room n → s .kept n ≡ some h → Went P room s (Operation·return n) (stored none) (record { in-hand = h; kept = s .kept })
+  returns-not : {n : ℕ} → (Storable room n → s .kept n ≡ none) → Went P room s (Operation·return n) (stored no13) s
 
--- Demand 3 of a search whose records are of type R: `start` is its fresh record, `advance` what a call answers and hands back for the record that it is handed,
--- and `image` says how it holds the record of a history
-pub record Demand3 (P : Phase) {R : Type 0} (start : R) (advance : Call → R → Answer × R) (image : Record → R) (cs : List Call) : Type 0 where
-  -- every answer, and the record, equal those of the history
-  pub follows : inTurn advance cs start ≡ (answers P cs, image (recordOf P (history P cs)))
-  -- each advance in turn, from fresh
-  pub each : Turns P cs (answers P cs) [] (history P cs)
-  -- each step
-  pub steps : Steps P (history P cs)
-  -- at every point of the history with as many steps as there are nurses, nobody is unplaced
-  pub placed : (later earlier : History) → history P cs ≡ later ++ earlier → P .nurses ≤ length earlier
+-- each operation of a list in turn
+pub data Turns (P : Phase) (room : Bool) : List Operation → List Answered → Session History → Session History → Type 0 where
+  done : {s : Session History} → Turns P room [] [] s s
+  turn : {o : Operation} {os : List Operation} {a : Answered} {l : List Answered} {s s′ s″ : Session History}
+      → Went P room s o a s′ → Turns P room os l s′ s″ → Turns P room (o ∷ os) (a ∷ l) s s″
+
+-- Demand 3 of a search that holds its record and the records kept in memory of type M: `start` is its memory at fresh with nothing kept, `perform` what an
+-- operation answers and the memory that it leaves, and `image` says how the memory holds the records of a session
+pub record Demand3 (P : Phase) (room : Bool) {M : Type 0} (start : M) (perform : Operation → M → Answered × M) (image : Session Record → M) (ops : List Operation) : Type 0 where
+  -- every answer, and the memory, equal those of the session
+  pub follows : inTurn perform ops start ≡ (answers P room ops, image (known (recordOf P) (session P room ops)))
+  -- each operation in turn, from fresh with nothing kept
+  pub each : Turns P room ops (answers P room ops) (begun []) (session P room ops)
+  -- each step of the history in hand, at its place, was the one to take
+  pub steps : Steps P (session P room ops .in-hand)
+  -- at every point of this history with as many steps as there are nurses, nobody is unplaced
+  pub placed : (later earlier : History) → session P room ops .in-hand ≡ later ++ earlier → P .nurses ≤ length earlier
       → (i : ℕ) → i < P .nurses → inUse earlier i ≢ none
 
--- The claim's own words are enough: whatever takes these calls from fresh as they say has these answers and this history, so nobody need believe
--- how the history is computed. proofs/Unique shows it.
+-- The claim's own words are enough: whatever takes these operations from fresh as they say has these answers and this session, so nobody need believe
+-- how they are computed. proofs/Unique shows it.
 abbrev pub Determined : Type 0
-Determined = (P : Phase) (cs : List Call) (l : List Answer) (h : History) → Turns P cs l [] h → Steps P h → (l ≡ answers P cs) × (h ≡ history P cs)
+Determined = (P : Phase) (room : Bool) (ops : List Operation) (l : List Answered) (s : Session History) → Turns P room ops l (begun []) s
+    → (l ≡ answers P room ops) × (s ≡ session P room ops)
 
 -- ---- where there is nothing to search
 
@@ -94,10 +112,16 @@ abbrev pub orTen : ℕ → Option Refusal → Refusal
 orTen i (some n) = n
 orTen i none = numbered question.patterns (suc i)
 
--- every advance of a list is refused, with the no that its call has, and the record stays as it was at the start
-abbrev pub AllRefused : {R : Type 0} → R → (Call → R → Answer × R) → (Call → Refusal) → List Call → Type 0
-AllRefused start advance why cs = inTurn advance cs start ≡ (map (λ c. refused (why c)) cs, start)
+-- an advance that is refused with the no that its call has: the search is as it was
+abbrev pub turnedAway : {T : Type 0} → (Call → Refusal) → Call → T → Answer × T
+turnedAway why c search = (refused (why c), search)
 
--- a search whose fresh record is `start`: where nurse i is the lowest who has no pattern, every advance is refused, by questions 7 to 9 or else by 10
-abbrev pub Refusing : {R : Type 0} → Phase → R → (Call → R → Answer × R) → Type 0
-Refusing P start advance = (i : ℕ) → Without P i → (cs : List Call) → AllRefused start advance (λ c. orTen i (refusal P c 0)) cs
+-- every advance of a list is refused, with the no that its call has; all else is as above, and every record is fresh
+abbrev pub AllRefused : Bool → {M : Type 0} → M → (Operation → M → Answered × M) → (Session Record → M) → (Call → Refusal) → List Operation → Type 0
+AllRefused room start perform image why ops =
+    let r = inTurn (act (turnedAway why) room) ops (begun fresh) in
+    inTurn perform ops start ≡ (r .0, image (r .1))
+
+-- where nurse i is the lowest who has no pattern, every advance from fresh is refused, by questions 7 to 9 or else by 10
+abbrev pub Refusing : Phase → Bool → {M : Type 0} → M → (Operation → M → Answered × M) → (Session Record → M) → Type 0
+Refusing P room start perform image = (i : ℕ) → Without P i → (ops : List Operation) → AllRefused room start perform image (λ c. orTen i (refusal P c 0)) ops

@@ -1,4 +1,4 @@
--- The history of a list of advances, from what each is handed alone.
+-- The history of a search, and what an advance adds to it, from what the advance is handed alone.
 use Prim.Native.Nat.{ℕ, zero, suc, _-_}
 use mathlib.Core.Bool.{Bool, false, cond, not, _&&_, _||_}
 use mathlib.Core.List.{List, [], _∷_}
@@ -6,7 +6,7 @@ use mathlib.Core.Option.{Option, none, some}
 use lib.Dec.{eqb}
 use lib.ListN.{length}
 use Rattle.history.specs.Slot.{Slot}
-use Rattle.history.specs.Phase.{Step, Phase, Call, Answer, refused, ended, End, holds, exchanges, least, run, refusal, given, inTurn}
+use Rattle.history.specs.Phase.{Step, Phase, Call, Answer, refused, ended, End, holds, exchanges, least, run, stops, refusal, given}
 
 -- the steps made, the last one first; empty at fresh
 abbrev pub History : Type 0
@@ -35,9 +35,9 @@ allowed P h i p = not (holds (inUse h i) p) && not (givenUp (P .tabu) h i p)
 unfoldable pub next : Phase → History → Option Step
 next P h = least (λ s. penalty P (s ∷ h)) (exchanges P (allowed P h))
 
--- the history after up to k steps more, and what ended them
-unfoldable pub extend : Phase → ℕ → History → History × End
-extend P k h = run (penalty P) (next P) (λ s h. s ∷ h) k h
+-- the history after up to k steps more, past zero or not, and what ended them
+unfoldable pub extend : Phase → Bool → ℕ → History → History × End
+extend P past-zero k h = run (λ g. stops past-zero (penalty P g)) (next P) (λ s g. s ∷ g) k h
 
 -- the answers of an advance that took the history from h to where it ended
 unfoldable pub reply : Phase → History → History × End → Answer × History
@@ -45,11 +45,4 @@ reply P h r = (ended (r .1) (length (r .0) - length h) (penalty P (r .0)) (given
 
 -- what an advance answers, and the history after it. A refused one adds nothing
 unfoldable pub advance : Phase → Call → History → Answer × History
-advance P c h = elim (refusal P c (length h)) [ some n ↦ (refused n, h) | none ↦ reply P h (extend P (c .steps) h) ]
-
--- from fresh: the answers of a list of advances, and the history after them
-unfoldable pub answers : Phase → List Call → List Answer
-answers P cs = (inTurn (advance P) cs []) .0
-
-unfoldable pub history : Phase → List Call → History
-history P cs = (inTurn (advance P) cs []) .1
+advance P c h = elim (refusal P c (length h)) [ some n ↦ (refused n, h) | none ↦ reply P h (extend P (c .past-zero) (c .steps) h) ]

@@ -2,5 +2,6 @@ pub mod Slot
 pub mod Phase
 pub mod History
 pub mod Record
+pub mod Session
 pub mod Claim
 pub mod Questions

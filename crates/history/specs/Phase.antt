@@ -1,15 +1,16 @@
 -- A phase of the search, and what the history and the record share of it. Nights are one phase; days over one choice of nights another.
 -- A nurse is her index, from 0; her number, in a removal or as a place, is one more.
 use Prim.Native.Nat.{ℕ, zero, suc, _+_}
-use mathlib.Core.Bool.{Bool, true, false, cond, _&&_, _||_}
+use mathlib.Core.Bool.{Bool, true, false, cond, not, _&&_, _||_}
 use mathlib.Core.List.{List, [], _∷_, _++_}
 use mathlib.Core.Option.{Option, none, some}
 use lib.Dec.{leb, ltb, eqb}
 use Rattle.numbers.specs.Range.{upFrom}
+use Rattle.numbers.specs.Sum.{countTo}
 use Rattle.refusals.specs.declared.Refusal.{Refusal}
 use Rattle.refusals.specs.Refusals.{first, unless}
 use Rattle.refusals.specs.Questions as question
-use Rattle.history.specs.Slot.{Slot}
+use Rattle.history.specs.Slot.{Slot, isNone}
 
 -- an exchange: one nurse is given one pattern
 pub record Step : Type 0 where
@@ -29,10 +30,15 @@ pub record Phase : Type 0 where
   -- the first no of questions 8 and 9, asked of a buffer of so many places
   pub room : ℕ → Option Refusal
 
--- what an advance is handed: k, and the number of its buffer's places
+-- how many nurses are unplaced
+abbrev pub unplaced : Phase → (ℕ → Slot) → ℕ
+unplaced P slots = countTo (P .nurses) (λ i. isNone (slots i))
+
+-- what an advance is handed: k, the number of its buffer's places, and whether it is to go on past zero
 pub record Call : Type 0 where
   pub steps : ℕ
   pub places : ℕ
+  pub past-zero : Bool
 
 pub data End : Type 0 where
   End·zero End·asked End·none : End
@@ -79,15 +85,19 @@ least cost (s ∷ l) = some (lesser cost s (least cost l))
 
 -- ---- advances
 
--- Up to k steps. Before each: penalty 0 ends with "zero"; else k made, with "asked"; else no exchange, with "none"
-module _ {S : Type 0} (total : S → ℕ) (best : S → Option Step) (make : Step → S → S) where
+-- Up to k steps. Before each: where it is to stop it ends with "zero"; else k made, with "asked"; else no exchange, with "none"
+module _ {S : Type 0} (stop : S → Bool) (best : S → Option Step) (make : Step → S → S) where
   unfoldable pub run : ℕ → S → S × End
-  run zero s = elim (eqb (total s) 0) [ true ↦ (s, End·zero) | false ↦ (s, End·asked) ]
+  run zero s = elim (stop s) [ true ↦ (s, End·zero) | false ↦ (s, End·asked) ]
   run (suc k) s =
-      elim (eqb (total s) 0) [
+      elim (stop s) [
         | true ↦ (s, End·zero)
         | false ↦ elim (best s) [ none ↦ (s, End·none) | some e ↦ run k (make e s) ]
       ]
+
+-- an advance stops at penalty 0, unless it is to go on past zero
+abbrev pub stops : Bool → ℕ → Bool
+stops past-zero penalty = not past-zero && eqb penalty 0
 
 -- question 7: is k allowed (0 to 10,000), and is steps so far plus k at most 1,000,000? Then 8 and 9
 unfoldable pub refusal : Phase → Call → ℕ → Option Refusal
@@ -97,11 +107,11 @@ refusal P c steps = first (unless (leb (c .steps) 10000 && leb (steps + c .steps
 unfoldable pub given : Phase → (ℕ → Slot) → List ℕ
 given P slots = cond (eqb (P .cost slots) 0) (P .letters slots) []
 
--- a list of advances, each handed what the last one left: their answers, in order, and what is left after them
-module _ {S : Type 0} (advance : Call → S → Answer × S) where
-  abbrev pub inTurn : List Call → S → List Answer × S
+-- a list of operations, each handed what the last one left: their answers, in order, and what is left after them
+module _ {O A S : Type 0} (act : O → S → A × S) where
+  abbrev pub inTurn : List O → S → List A × S
   inTurn [] s = ([], s)
-  inTurn (c ∷ cs) s =
-      let r = advance c s in
-      let rs = inTurn cs (r .1) in
+  inTurn (o ∷ os) s =
+      let r = act o s in
+      let rs = inTurn os (r .1) in
       (r .0 ∷ rs .0, rs .1)

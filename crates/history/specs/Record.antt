@@ -9,7 +9,7 @@ use Rattle.numbers.specs.Range.{upFrom, all}
 use Rattle.refusals.specs.Refusals.{numbered}
 use Rattle.refusals.specs.Questions as question
 use Rattle.history.specs.Slot.{Slot, exchanged}
-use Rattle.history.specs.Phase.{Step, Phase, Answer, ended, End, holds, exchanges, least, run, given}
+use Rattle.history.specs.Phase.{Step, Phase, Answer, ended, End, holds, exchanges, least, run, stops, given}
 use Rattle.refusals.specs.declared.Refusal.{Refusal}
 use Rattle.history.specs.History.{History, inUse}
 
@@ -105,8 +105,8 @@ sound P r =
 
 -- ---- advances
 
-unfoldable pub proceed : Phase → ℕ → Record → Record × End
-proceed P k r = run (total P) (best P) (stepped (P .tabu)) k r
+unfoldable pub proceed : Phase → Bool → ℕ → Record → Record × End
+proceed P past-zero k r = run (λ x. stops past-zero (total P x)) (best P) (stepped (P .tabu)) k r
 
 -- the answers of an advance that took the record r to where it ended
 unfoldable pub replyOf : Phase → Record → Record × End → Answer × Record

@@ -1,11 +1,11 @@
 -- Laws of the night advance: its questions in order, its list in the buffer, and what it hands back.
 use Prim.Native.Nat.{ℕ, _+_, _≤_, min}
-use mathlib.Core.Bool.{Bool, true, false, _&&_}
+use mathlib.Core.Bool.{Bool, true, false, cond, _&&_}
 use mathlib.Core.Path.{_≡_, refl, sym}
 use mathlib.Core.List.{List, []}
 use mathlib.Core.Option.{Option, none}
 use native.Mathlib.Omega.{arith}
-use lib.Dec.{leb}
+use lib.Dec.{leb, eqb}
 use lib.ListN.{length}
 use borrow.Author.Tests.{le-leb, lt-leb, leb-true, leb-false}
 use Rattle.numbers.specs.Range.{upFrom}
@@ -24,10 +24,8 @@ use Rattle.history.proofs.SearchLaws.{nights≢days}
 use Rattle.history.specs.Record.{lacking}
 use Rattle.search.specs.declared.Record.{Record as Stored}
 use Rattle.search.specs.declared.Advanced.{Advanced}
-use Rattle.search.specs.declared.Ending.{Ending}
-use Rattle.search.specs.declared.Ending.the-variants.{Zero, Asked, None}
 use Rattle.search.specs.Stored.{refusalStored, soundStored}
-use Rattle.search.specs.CodeSeek.{answerWith, answerOf, Lists, Seeks}
+use Rattle.search.specs.CodeSeek.{answerOf, Lists, Seeks}
 use Rattle.phases.specs.Phases.{nightPhase, commonFits}
 use Rattle.phases.specs.CodeQuestions.{phaseOf}
 use Rattle.outcomes.specs.Outcomes.{lettersOf, callOf}
@@ -55,10 +53,10 @@ module _ (w : List ℕ) (r : Stored) (k places : ℕ) where
   abbrev asksRecord : List ℕ → Option Refusal
   asksRecord nights = unless (soundStored (phaseOf Nights w nights) r) question.record-sound 0
 
-  pub in-order : (nights : List ℕ)
-      → first asksSteps (first (commonFits w places) (first asksPatterns (asksRecord nights))) ≡ refusalStored (nightPhase w) (callOf k places) r
+  pub in-order : (nights : List ℕ) (past-zero : Bool)
+      → first asksSteps (first (commonFits w places) (first asksPatterns (asksRecord nights))) ≡ refusalStored (nightPhase w) (callOf k past-zero places) r
   unfolding refusalStored refusal nightPhase phaseOf
-  in-order nights = sym (first-assoc asksSteps (commonFits w places) (first asksPatterns (asksRecord nights)))
+  in-order nights past-zero = sym (first-assoc asksSteps (commonFits w places) (first asksPatterns (asksRecord nights)))
 
 -- ---- an advance that no question refuses
 
@@ -67,10 +65,10 @@ pub record Clear (w : List ℕ) (r : Stored) (k places : ℕ) : Type 0 where
   pub room : length (commonOf w) ≤ places
   pub sound : soundStored (nightPhase w) r ≡ true
 
-pub clear : (w : List ℕ) (r : Stored) (k places : ℕ) → refusalStored (nightPhase w) (callOf k places) r ≡ none → Clear w r k places
+pub clear : (w : List ℕ) (r : Stored) (k places : ℕ) (past-zero : Bool) → refusalStored (nightPhase w) (callOf k past-zero places) r ≡ none → Clear w r k places
 unfolding refusalStored refusal nightPhase commonFits
-clear w r k places e =
-    let a = first-none (refusal (nightPhase w) (callOf k places) (r .steps)) _ e in
+clear w r k places past-zero e =
+    let a = first-none (refusal (nightPhase w) (callOf k past-zero places) (r .steps)) _ e in
     let b = first-none (unless (leb k 10000 && leb (r .steps + k) 1000000) question.steps 0) (unless (leb (length (commonOf w)) places) question.lists 0) (a .0) in
     let c = first-none (lacking (nightPhase w .patterns) (upFrom 0 (nightPhase w .nurses))) _ (a .1) in
     let s = and-parts (leb k 10000) (leb (r .steps + k) 1000000) (unless-none _ question.steps 0 (b .0)) in
@@ -81,14 +79,13 @@ clear w r k places e =
     }
 
 -- by night no letters are given out
-no-letters : (w : List ℕ) (r : Stored) (made pen : ℕ) (e : Ending) → [] ≡ lettersOf (answerWith (nightPhase w) r made pen e)
-unfolding nightPhase
-no-letters w r made pen Zero = refl
-no-letters w r made pen Asked = refl
-no-letters w r made pen None = refl
+no-letters : (b : Bool) → [] ≡ cond {A = List ℕ} b [] []
+no-letters true = refl
+no-letters false = refl
 
 pub night-letters : (w : List ℕ) (x : Advanced) → [] ≡ lettersOf (answerOf (nightPhase w) x)
-night-letters w x = no-letters w (x .after) (x .steps) (x .penalty) (x .ending)
+unfolding nightPhase
+night-letters w x = no-letters (eqb (x .penalty) 0)
 
 -- the common list in the buffer, as the search over it needs it
 module _ (w ends : List ℕ) {lists : List ℕ} (e : lists ≡ commonOf w) where

@@ -9,6 +9,7 @@ use refusals::question;
 use search::Record;
 use search::tries::Stretches;
 ghost use mathlib.Core.Path.{_≡_};
+ghost use mathlib.Core.Bool.{Bool};
 ghost use Prim.Native.Nat.{_<_};
 ghost use lib.ListN.{length};
 ghost use Rattle.refusals.specs.Refusals.{refusalIn};
@@ -30,7 +31,7 @@ fn common_asked(w: &[u64], places: usize) -> Answer
 // The first of questions 7, 9, 10 and 11 that is a no.
 fn first_no(rec: Record, w: &[u64], k: u32, places: usize) -> Answer
     requires { ⌜ Accepted (now w) × (places < 2305843009213693952) ⌝ }
-    ensures { λ r. ⌜ refusalIn r ≡ refusalStored (nightPhase (now (w .entry))) (callOf k places) rec ⌝ }
+    ensures { λ r. ⌜ ((past-zero : Bool) → refusalIn r ≡ refusalStored (nightPhase (now (w .entry))) (callOf k past-zero places) rec) ⌝ }
 {
     match questions::steps_asked(rec.steps, k) {
         Answer::No(n) => Answer::No(n),
@@ -48,10 +49,10 @@ fn first_no(rec: Record, w: &[u64], k: u32, places: usize) -> Answer
 }
 
 // The night advance, every question answered before the first store.
-pub fn advance_on(rec: Record, w: &[u64], k: u32, buffer: &mut [u32]) -> Advance
+pub fn advance_on(rec: Record, w: &[u64], k: u32, past: bool, buffer: &mut [u32]) -> Advance
     requires { ⌜ Accepted (now w) ⌝ }
-    ensures says { λ r. ⌜ r ≡ advanceOf (advanceStored (nightPhase (now (w .entry))) (callOf k (length (now (buffer .entry)))) rec) ⌝ }
-    ensures leaves { λ _. ⌜ now (buffer .exit) ≡ leftBy (advanceStored (nightPhase (now (w .entry))) (callOf k (length (now (buffer .entry)))) rec .0) (commonOf (now (w .entry))) (now (buffer .entry)) ⌝ }
+    ensures says { λ r. ⌜ r ≡ advanceOf (advanceStored (nightPhase (now (w .entry))) (callOf k past (length (now (buffer .entry)))) rec) ⌝ }
+    ensures leaves { λ _. ⌜ now (buffer .exit) ≡ leftBy (advanceStored (nightPhase (now (w .entry))) (callOf k past (length (now (buffer .entry)))) rec .0) (commonOf (now (w .entry))) (now (buffer .entry)) ⌝ }
 {
     match first_no(rec, w, k, buffer.len()) {
         Answer::No(n) => outcomes::refuse(rec, n),
@@ -61,7 +62,7 @@ pub fn advance_on(rec: Record, w: &[u64], k: u32, buffer: &mut [u32]) -> Advance
                 search: Search::Nights,
                 ends: [0; ENDS],
             };
-            let x = rec.advance(w, &buffer[..len], stretches, k);
+            let x = rec.advance(w, &buffer[..len], stretches, k, past);
             outcomes::finished(x, outcomes::no_roster())
         }
     }

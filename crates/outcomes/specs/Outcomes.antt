@@ -1,5 +1,6 @@
 -- What an advance hands back, by its answer: its outcome, its record, and what stands in the buffer.
 use Prim.Native.Nat.{ℕ, _-_}
+use mathlib.Core.Bool.{Bool}
 use mathlib.Core.List.{List, [], _++_}
 use lib.ListN.{length, drop, replicate}
 use Rattle.fields.specs.Sizes.{letterPlaces}
@@ -35,5 +36,6 @@ unfoldable pub leftBy : Answer → List ℕ → List ℕ → List ℕ
 leftBy (refused n) list buffer = buffer
 leftBy (ended e made pen roster) list buffer = list ++ drop (length list) buffer
 
-abbrev pub callOf : ℕ → ℕ → Call
-callOf k places = record { steps = k; places = places }
+-- k, past zero or not, and the places of the buffer
+abbrev pub callOf : ℕ → Bool → ℕ → Call
+callOf k past-zero places = record { steps = k; places = places; past-zero = past-zero }

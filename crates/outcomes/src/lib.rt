@@ -8,9 +8,8 @@ use search::Record;
 ghost use mathlib.Core.Path.{_≡_};
 ghost use mathlib.Core.List.{[]};
 ghost use Rattle.history.specs.Phase.{Phase, refused};
-ghost use Rattle.search.specs.CodeSeek.{answerOf};
-ghost use Rattle.outcomes.specs.Outcomes.{rosterOf, lettersOf, advanceOf};
-ghost use Rattle.outcomes.specs.CodeOutcomes.{outcomeBy};
+ghost use Rattle.search.specs.CodeSeek.{endBy, answerOf};
+ghost use Rattle.outcomes.specs.Outcomes.{outcomeOf, rosterOf, lettersOf, advanceOf};
 
 // How an advance ended: refused, at penalty zero, with the steps asked, or with no exchange left.
 pub enum Outcome {
@@ -60,7 +59,7 @@ pub fn refuse(rec: Record, refusal: Refusal) -> Advance
 }
 
 fn outcome_by(ending: Ending) -> Outcome
-    ensures { λ r. ⌜ r ≡ outcomeBy ending ⌝ }
+    ensures { λ r. ⌜ r ≡ outcomeOf (endBy ending) ⌝ }
 {
     match ending {
         Ending::Zero => Outcome::Zero,

@@ -8,7 +8,12 @@ use lib.ListN.{length, take, drop, replicate, length-append}
 use lib.Seq.{take-at}
 use Rattle.fields.specs.Sizes.{letterPlaces}
 use Rattle.refusals.specs.declared.Refusal.{Refusal}
+use Rattle.refusals.specs.declared.Answer.{Answer as Asked}
 use Rattle.refusals.specs.declared.Answer.the-variants.{Yes, No}
+use Rattle.refusals.specs.Refusals.{answerBy, unless}
+use Rattle.refusals.specs.Questions as question
+use Rattle.keeping.specs.Storage.{mayReturn, keepNo, keptIn, returnNo, returnedTo, returnedOf}
+use Rattle.keeping.specs.declared.Returned.{Returned}
 use Rattle.ward.specs.declared.Reading.{Reading}
 use Rattle.search.specs.declared.Record.{Record as Stored}
 use Rattle.history.specs.Phase.{Answer, refused, ended, End, End·zero, End·asked, End·none}
@@ -17,8 +22,15 @@ use Rattle.letters.specs.declared.written.Roster.{Roster}
 use Rattle.outcomes.specs.declared.Advance.{Advance}
 use Rattle.recordwords.specs.Words.{recordOfWords, wordsOfRecord}
 use Rattle.answerwords.specs.AnswerWords.{countWords, advanceWords}
-use Rattle.pantheryl.specs.Answers.{readWords, numbersLeft, wordsLeft, rosterLeft}
+use Rattle.pantheryl.specs.Answers.{readWords, numbersLeft, wordsLeft, rosterLeft, returnedWords}
 use Rattle.answerwords.specs.CodeAnswers.{outcomeWords, isRefused}
+
+yes≢no : {n : Refusal} → Yes ≡ No n → ⊥
+yes≢no {n} e = false≢true (ap refuses-it e)
+  where
+    refuses-it : Asked → Bool
+    refuses-it Yes = false
+    refuses-it (No m) = true
 
 -- ---- the reader
 
@@ -118,3 +130,39 @@ unfolding rosterLeft
 in-roster a roster says puts =
     puts ∙ ap (λ (y : Roster). take (y .count) (y .letters) ++ drop (y .count) roster) (ap (λ (y : Advance). y .roster) says ∙ roster-of a)
     ∙ letters-put (lettersOf (a .0)) roster
+
+-- ---- keepings and returns
+
+-- the record is read from the words
+pub kept-words : (storage : List ℕ) (n : ℕ) (words : List ℕ) {rec : Stored} {kept : Asked} {said left : List ℕ} → rec ≡ recordOfWords words
+    → kept ≡ answerBy (keepNo storage n) → left ≡ keptIn storage n rec → said ≡ countWords kept 0
+    → (said ≡ countWords (answerBy (keepNo storage n)) 0) × (left ≡ keptIn storage n (recordOfWords words))
+kept-words storage n words from says leaves words-are = (words-are ∙ ap (λ (a : Asked). countWords a 0) says, leaves ∙ ap (keptIn storage n) from)
+
+-- what a return says is by whether it is refused
+returned-yes : (b : Bool) → answerBy (unless b question.storage 0) ≡ Yes → b ≡ true
+returned-yes true e = refl
+returned-yes false e = absurd (yes≢no (sym e))
+
+returned-no : (b : Bool) {n : Refusal} → answerBy (unless b question.storage 0) ≡ No n → b ≡ false
+returned-no true e = absurd (yes≢no e)
+returned-no false e = refl
+
+module _ (storage : List ℕ) (n : ℕ) (words : List ℕ) (rec : Stored) {x : Returned} {said : List ℕ}
+    (says : x ≡ returnedOf storage n rec) (words-are : said ≡ countWords (x .answer) 0) where
+  answer-is : x .answer ≡ answerBy (returnNo storage n)
+  answer-is = ap (λ (y : Returned). y .answer) says
+
+  said-is : said ≡ countWords (answerBy (returnNo storage n)) 0
+  said-is = words-are ∙ ap (λ (a : Asked). countWords a 0) answer-is
+
+  pub return-refused : {no : Refusal} → x .answer ≡ No no → (said ≡ countWords (answerBy (returnNo storage n)) 0) × (words ≡ returnedWords storage n words)
+  unfolding returnedWords returnNo
+  return-refused e = (said-is, rw (returned-no (mayReturn storage n) (sym answer-is ∙ e)))
+
+  pub return-done : {after : List ℕ} → x .answer ≡ Yes → after ≡ wordsOfRecord (x .after)
+      → (said ≡ countWords (answerBy (returnNo storage n)) 0) × (after ≡ returnedWords storage n words)
+  unfolding returnedWords returnNo returnedTo
+  return-done e q =
+      let b = returned-yes (mayReturn storage n) (sym answer-is ∙ e) in
+      (said-is, rw b (q ∙ ap (λ (y : Returned). wordsOfRecord (y .after)) says ∙ rw b))

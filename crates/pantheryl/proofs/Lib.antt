@@ -1,3 +1,4 @@
-pub mod Demand1Laws
 pub mod AnswerLaws
+pub mod Demand1Laws
 pub mod DemandLaws
+pub mod AssuranceLaws

@@ -1,5 +1,5 @@
 -- Demand 1 through the C interface: what the contracts say of the answer's words and of all memory that a call is lent, where it refuses.
-use Rattle.refusals.specs.Refusals.{numbered}
+use Rattle.refusals.specs.Refusals.{numbered, answerBy}
 use Prim.Native.Nat.{ℕ}
 use mathlib.Core.Path.{_≡_}
 use mathlib.Core.Bool.{cond}
@@ -15,11 +15,13 @@ use Rattle.phases.specs.Phases.{nightOf}
 use Rattle.outcomes.specs.Outcomes.{callOf}
 use Rattle.planner.specs.Answers.{checkSays}
 use Rattle.planner.specs.Left.{nightLeft, dayLeft}
-use Rattle.planner.specs.Faults.{nightQuestions, dayQuestions, checkQuestions, FileNo, WriterNo}
+use Rattle.planner.specs.Faults.{nightQuestions, dayQuestions, checkQuestions, keepQuestions, returnQuestions, FileNo, WriterNo}
+use Rattle.history.specs.Questions.{FirstNo}
+use Rattle.keeping.specs.Storage.{keepNo, keptIn, returnNo}
 use Rattle.planner.specs.Demand1.{Refuses, Bytes}
-use Rattle.recordwords.specs.Words.{recordWords, patternsOfWords, recordOfWords}
-use Rattle.answerwords.specs.AnswerWords.{refusalWords, advanceWords, checkWords}
-use Rattle.pantheryl.specs.Answers.{readWords, numbersLeft, wardOf, writeWords, wordsLeft, nightsFrom, daysFrom, rosterLeft}
+use Rattle.recordwords.specs.Words.{recordWords, patternsOfWords, flagOf, recordOfWords}
+use Rattle.answerwords.specs.AnswerWords.{refusalWords, countWords, advanceWords, checkWords}
+use Rattle.pantheryl.specs.Answers.{readWords, numbersLeft, wardOf, writeWords, wordsLeft, nightsFrom, daysFrom, rosterLeft, returnedWords}
 
 -- an answer's words are a refusal's where the first is not 0: question and place
 abbrev pub noInWords : List ℕ → Option Refusal
@@ -35,15 +37,19 @@ pub record WordsDemand1 : Type 0 where
   pub write : (numbers : List ℕ) (count : ℕ) (buffer : List ℕ)
       → let ws = counted (wardOf numbers count) in
       WordsRefuse (WriterNo ws (length buffer)) (writeWords (writingOf (length buffer) (checkWard ws))) (leftOf buffer (checkWard ws) ≡ buffer)
-  pub nights : (file : List ℕ) → Bytes file → (words : List ℕ) → length words ≡ recordWords → (k : ℕ) (buffer : List ℕ)
-      → let a = nightsFrom file words k buffer in
+  pub nights : (file : List ℕ) → Bytes file → (words : List ℕ) → length words ≡ recordWords → (k past : ℕ) (buffer : List ℕ)
+      → let a = nightsFrom file words k past buffer in
       let r = recordOfWords words in
-      WordsRefuse (FileNo file (nightQuestions (callOf k (length buffer)) r)) (advanceWords (a .0))
-      ((wordsLeft a words ≡ words) × (nightLeft file r k buffer ≡ buffer))
-  pub days : (file : List ℕ) → Bytes file → (nights words : List ℕ) → length words ≡ recordWords → (k : ℕ) (buffer roster : List ℕ)
-      → let a = daysFrom file nights words k buffer in
+      WordsRefuse (FileNo file (nightQuestions (callOf k (flagOf past) (length buffer)) r)) (advanceWords (a .0))
+      ((wordsLeft a words ≡ words) × (nightLeft file r k (flagOf past) buffer ≡ buffer))
+  pub days : (file : List ℕ) → Bytes file → (nights words : List ℕ) → length words ≡ recordWords → (k past : ℕ) (buffer roster : List ℕ)
+      → let a = daysFrom file nights words k past buffer in
       let r = recordOfWords words in
-      WordsRefuse (FileNo file (dayQuestions (nightOf (patternsOfWords nights)) (callOf k (length buffer)) r)) (advanceWords (a .0))
-      ((wordsLeft a words ≡ words) × (dayLeft file (patternsOfWords nights) r k buffer ≡ buffer) × (rosterLeft (a .0) roster ≡ roster))
+      WordsRefuse (FileNo file (dayQuestions (nightOf (patternsOfWords nights)) (callOf k (flagOf past) (length buffer)) r)) (advanceWords (a .0))
+      ((wordsLeft a words ≡ words) × (dayLeft file (patternsOfWords nights) r k (flagOf past) buffer ≡ buffer) × (rosterLeft (a .0) roster ≡ roster))
   pub check : (file : List ℕ) → Bytes file → (roster : List ℕ)
       → WordsRefuse (FileNo file (checkQuestions roster)) (checkWords (checkSays file roster)) Unit
+  pub keep : (words : List ℕ) (number : ℕ) (storage : List ℕ)
+      → WordsRefuse (FirstNo (keepQuestions storage number)) (countWords (answerBy (keepNo storage number)) 0) (keptIn storage number (recordOfWords words) ≡ storage)
+  pub return-kept : (words : List ℕ) (number : ℕ) (storage : List ℕ)
+      → WordsRefuse (FirstNo (returnQuestions storage number)) (countWords (answerBy (returnNo storage number)) 0) (returnedWords storage number words ≡ words)

@@ -1,3 +1,4 @@
 pub mod Answers
 pub mod Demand1
 pub mod Demand3
+pub mod Assurance

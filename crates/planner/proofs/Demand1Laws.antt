@@ -51,6 +51,7 @@ use Rattle.planner.specs.Left.{listOf, nightLeft, listsOf, dayLeft}
 use Rattle.planner.specs.Faults.{StepsFault, NightsFault, CommonFault, ListsFault, PatternFault, RecordFault, LettersFault, nightQuestions, dayQuestions, checkQuestions, FileNo, in-file, in-call, WriterNo, in-numbers, in-buffer}
 use Rattle.planner.specs.Demand1.{Refuses, Bytes, noInOutcome, noInCheck, refusedBy, ReadRefuses, WriteRefuses, NightsRefuse, DaysRefuse, CheckRefuses, Demand1}
 use Rattle.planner.proofs.LetterFaultLaws.{misplaced-fault, fault-misplaced}
+use Rattle.planner.proofs.KeepFaultLaws.{keep-refuses, return-refuses}
 
 -- ---- each question of an advance
 
@@ -228,16 +229,16 @@ module _ (file : List ℕ) (bytes : Bytes file) (r : Stored) (sized : Sized r) (
   days-answer nights =
       answer-refuses file bytes (dayQuestions (nightOf nights) c r) (λ w. dayPhase w (nightOf nights)) c r (day-asked c r sized (nightOf nights))
 
-nights-refuse : (file : List ℕ) → Bytes file → (r : Stored) → Sized r → (k : ℕ) (buffer : List ℕ) → NightsRefuse file r k buffer
+nights-refuse : (file : List ℕ) → Bytes file → (r : Stored) → Sized r → (k : ℕ) (past-zero : Bool) (buffer : List ℕ) → NightsRefuse file r k past-zero buffer
 unfolding nightLeft
-nights-refuse file bytes r sized k buffer =
-    let c = callOf k (length buffer) in
+nights-refuse file bytes r sized k past-zero buffer =
+    let c = callOf k past-zero (length buffer) in
     refuses (FileNo file (nightQuestions c r)) (advanceNights file c r) r (listOf (readWard file)) buffer (nights-answer file bytes r sized c)
 
-days-refuse : (file : List ℕ) → Bytes file → (nights : List ℕ) (r : Stored) → Sized r → (k : ℕ) (buffer : List ℕ) → DaysRefuse file nights r k buffer
+days-refuse : (file : List ℕ) → Bytes file → (nights : List ℕ) (r : Stored) → Sized r → (k : ℕ) (past-zero : Bool) (buffer : List ℕ) → DaysRefuse file nights r k past-zero buffer
 unfolding dayLeft
-days-refuse file bytes nights r sized k buffer =
-    let c = callOf k (length buffer) in
+days-refuse file bytes nights r sized k past-zero buffer =
+    let c = callOf k past-zero (length buffer) in
     refuses (FileNo file (dayQuestions (nightOf nights) c r)) (advanceDays file nights c r) r (listsOf (readWard file) nights) buffer
     (days-answer file bytes r sized c nights)
 
@@ -325,6 +326,8 @@ demand1 = record {
   nights = nights-refuse;
   days = days-refuse;
   check = check-refuses;
+  keep = keep-refuses;
+  bring-back = return-refuses;
   longest = λ file w g. subst (λ (l : List ℕ). length l ≤ 4203) (sym (g .bytes)) (longest-file w (g .takes));
   longest-there = let l = longest-there in (bytesOf (l .0), l .0, record { bytes = refl; takes = l .1 }, l .2);
 }

@@ -2,7 +2,7 @@
 use Prim.Native.Nat.{ℕ, _+_, _*_, _<_}
 use mathlib.Core.Path.{_≡_, refl, sym, ap, _∙_, subst}
 use mathlib.Core.Bool.{Bool, true, false, cond, _&&_, true≢false}
-use mathlib.Core.Logic.{_≢_, ⊎-elim}
+use mathlib.Core.Logic.{⊎-elim}
 use mathlib.Core.List.{List, [], _∷_, map, List·Memᴰ, List·Memᴰ·head, List·Memᴰ·tail, List·Memᴰ·not-nil, List·Memᴰ·cases-cons}
 use mathlib.Core.Option.{none, some}
 use lib.Dec.{leb, eqb}
@@ -23,20 +23,31 @@ use Rattle.history.specs.Slot.{Slot, isNone}
 use Rattle.penalty.specs.Penalty.{workedIn, atDay, nightPenalty, dayPenalty}
 use Rattle.penalty.specs.Held.{DayHeld}
 use Rattle.penalty.proofs.HeldLaws.{day-zero, day-held}
-use Rattle.history.specs.Phase.{Phase, Call, Answer, End, End·zero, End·asked, End·none, refusal, refused, ended}
+use Rattle.history.specs.Phase.{Phase, Call, Answer, End, refusal, refused, ended, inTurn}
+use Rattle.history.specs.Record.{Record, recordOf, fresh}
+use Rattle.history.specs.Session.{Operation, Answered, Session, begun, known, act, answers, session}
 use Rattle.refusals.specs.declared.Refusal.{Refusal}
 use Rattle.refusals.specs.Refusals.{first, unless}
 use Rattle.refusals.specs.Questions as question
 use Rattle.history.specs.History.{History, inUse, penalty}
-use Rattle.history.specs.Claim.{Steps, Made, refuses, goes, Turns, done, turn, Demand3, Without, orTen}
+use Rattle.history.specs.Claim.{Made, refuses, goes, keeps, keeps-not, returns, returns-not, Turns, done, turn, Demand3, Without, orTen, turnedAway, AllRefused, Refusing}
 use Rattle.removals.specs.Removals.{patternOf}
-use Rattle.search.specs.Stored.{allZero, store, advanceStored}
+use Rattle.search.specs.Stored.{allZero, store, advanceStored, Sized}
 use Rattle.search.specs.declared.Record.{Record as Stored}
 use Rattle.history.proofs.TestLaws.{and-true}
-use Rattle.history.proofs.DemandLaws.{zero≢asked}
-use Rattle.history.proofs.TurnLaws.{steps-then, in-use-hers}
-use Rattle.history.proofs.WithoutLaws.{all-refused, refusing}
-use Rattle.search.proofs.AdvanceLaws.{stored-without, demand3-stored}
+use Rattle.history.proofs.Lawful.{Lawful}
+use Rattle.history.proofs.FitLaws.{Fit, fit-fresh, fit-own}
+use Rattle.history.proofs.SessionLaws.{Every, every-begun}
+use Rattle.history.proofs.DemandLaws.{demand3-of}
+use Rattle.history.proofs.TurnLaws.{went-fit}
+use Rattle.history.proofs.WithoutLaws.{all-refused}
+use Rattle.search.proofs.Fits.{Fits}
+use Rattle.search.proofs.StoredLaws.{store-fresh}
+use Rattle.search.proofs.SizedLaws.{fresh-sized, advanced-sized}
+use Rattle.search.proofs.AdvanceLaws.{stored-without, session-stored}
+use Rattle.keeping.specs.Storage.{hasRoom}
+use Rattle.keeping.specs.Operations.{perform, held as heldBy}
+use Rattle.keeping.proofs.OperationLaws.{performed}
 use Rattle.refusals.proofs.OrderLaws.{first-none, unless-none}
 use Rattle.letters.specs.Letters.{misplaced}
 use Rattle.rostercheck.specs.CodeCheck.{holds}
@@ -45,7 +56,7 @@ use Rattle.phases.specs.Phases.{nightPhase, nightsOpen, listsFit, dayListOver, 
 use Rattle.planner.specs.Advances.{advanceOver, advanceNights, advanceDays}
 use Rattle.outcomes.specs.declared.Checked.the-variants.{Passed}
 use Rattle.planner.specs.Answers.{checkLetters, checkOver, checkSays}
-use Rattle.planner.specs.Demand3.{NightPatterns, DayPatterns, Rightly, Settled, UnlessRefused, Each, DayDemand, Demanded}
+use Rattle.planner.specs.Demand3.{NightPatterns, DayPatterns, Rightly, Settled, UnlessRefused, Each, DayDemand, startOf, imageOf, Demanded}
 use Rattle.phases.proofs.PhaseLaws.{night-fits, night-lawful, day-fits, day-lawful}
 
 -- ---- what is kept passes the test
@@ -86,10 +97,14 @@ module _ (w : List ℕ) (nights : ℕ → ℕ) where
       let parts = and-true (all (λ i. ownPattern w i (nights i)) (upFrom 0 (nurses w))) (eqb (nightPenalty w (λ i. some (nights i))) 0) o in
       record { hers = λ i l. all-each (λ j. ownPattern w j (nights j)) (nurses w) i (parts .0) l; at-zero = eqb-true _ 0 (parts .1) }
 
-  pub each-settled : {cs : List Call} {l : List Answer} {h h″ : History} → Turns (dayPhase w nights) cs l h h″ → Each (UnlessRefused (Settled w nights)) l
+  pub each-settled : {room : Bool} {ops : List Operation} {l : List Answered} {s s″ : Session History} → Turns (dayPhase w nights) room ops l s s″ → Each (UnlessRefused (Settled w nights)) l
   each-settled done = tt
   each-settled (turn (refuses e) ts) = (tt, each-settled ts)
-  each-settled (turn {c} {h} (goes e m) ts) = (settled (nights-open c _ e), each-settled ts)
+  each-settled (turn (goes {c = c} e m) ts) = (settled (nights-open c _ e), each-settled ts)
+  each-settled (turn (keeps e own others) ts) = each-settled ts
+  each-settled (turn (keeps-not e) ts) = each-settled ts
+  each-settled (turn (returns e q) ts) = each-settled ts
+  each-settled (turn (returns-not e) ts) = each-settled ts
 
   module _ (a : Accepted w) where
     -- everyone's slot at penalty zero is placed, so the penalty is that of the patterns alone
@@ -143,20 +158,27 @@ module _ (w : List ℕ) (nights : ℕ → ℕ) where
       check-yes l y = reads l ∙ rw (y .0, checkLetters, y .1)
 
       -- one advance that is not refused
-      right-made : (e : End) {k n c : ℕ} {h h′ : History} {l : List ℕ} → nightsOpen w nights ≡ true → Made (dayPhase w nights) k h h′ e n c l
-          → Steps (dayPhase w nights) h′ → Rightly file (ended e n c l)
+      right-made : {c : Call} {e : End} {n p : ℕ} {h h′ : History} {l : List ℕ} → nightsOpen w nights ≡ true → Fit (dayPhase w nights) h′ → Made (dayPhase w nights) c h h′ e n p l
+          → Rightly file (ended e n p l)
       unfolding penalty dayPhase
-      right-made End·zero {h′} {l} o m f =
-          let z = m .zero-when .0 refl in
-          let y = yes-at-zero (inUse h′) o (sym (m .after) ∙ z) (in-use-hers (dayPhase w nights) h′ f) in
-          check-yes l (subst YesTo (sym (m .letters .0 z)) y)
-      right-made End·asked o m f = m .letters .1 (λ z. zero≢asked (sym (m .zero-when .1 z)))
-      right-made End·none o m f = m .letters .1 (λ z. m .none-when .0 refl .2 z)
+      right-made {h′ = h′} {l = l} o f m = (
+        λ z.
+            let y = yes-at-zero (inUse h′) o (sym (m .after) ∙ z) (fit-own (dayPhase w nights) h′ f) in
+            check-yes l (subst YesTo (sym (m .letters .0 z)) y),
+        m .letters .1,
+      )
 
-      each-right : {cs : List Call} {l : List Answer} {h h″ : History} → Turns (dayPhase w nights) cs l h h″ → Steps (dayPhase w nights) h″ → Each (Rightly file) l
-      each-right done f = tt
-      each-right (turn (refuses e) ts) f = (tt, each-right ts f)
-      each-right (turn {c} {h} (goes {e = end} e m) ts) f = (right-made end (nights-open c _ e) m (steps-then (dayPhase w nights) ts f), each-right ts f)
+      each-right : {room : Bool} {ops : List Operation} {l : List Answered} {s s″ : Session History} → Every (Fit (dayPhase w nights)) s
+          → Turns (dayPhase w nights) room ops l s s″ → Each (Rightly file) l
+      each-right each done = tt
+      each-right each (turn (refuses e) ts) = (tt, each-right each ts)
+      each-right {room = room} each (turn (goes {c = c} e m) ts) =
+          let after = went-fit (dayPhase w nights) {room = room} each (goes e m) in
+          (right-made (nights-open c _ e) (after .in-hand) m, each-right after ts)
+      each-right {room = room} each (turn (keeps e own others) ts) = each-right (went-fit (dayPhase w nights) {room = room} each (keeps e own others)) ts
+      each-right each (turn (keeps-not e) ts) = each-right each ts
+      each-right {room = room} each (turn (returns e q) ts) = each-right (went-fit (dayPhase w nights) {room = room} each (returns e q)) ts
+      each-right each (turn (returns-not e) ts) = each-right each ts
 
 -- ---- demand 3
 
@@ -170,27 +192,6 @@ check-read : (file ws l : List ℕ) → readWard file ≡ good ws → checkSays 
 unfolding checkOver
 check-read file ws l e = ap (λ (x : Read). checkOver x l) e
 
-module _ (file ws : List ℕ) (reads : readWard file ≡ good ws) (a : Accepted (bodyOf ws)) where
-  abbrev w : List ℕ
-  w = bodyOf ws
-
-  pub night-demand : NightPatterns w → (cs : List Call) → Demand3 (nightPhase w) allZero (advanceNights file) store cs
-  night-demand has cs =
-      subst (λ (adv : Call → Stored → Answer × Stored). Demand3 (nightPhase w) allZero adv store cs) (sym (advance-read nightPhase file ws reads))
-      (demand3-stored (nightPhase w) (night-lawful w a has) (night-fits w a) cs)
-
-  pub day-demand : (nights : List ℕ) → DayPatterns w (nightOf nights) → (cs : List Call) → DayDemand file w nights allZero (advanceDays file nights) store cs
-  day-demand nights has cs =
-      let P = dayPhase w (nightOf nights) in
-      let d : Demand3 P allZero (advanceDays file nights) store cs
-      = subst (λ (adv : Call → Stored → Answer × Stored). Demand3 P allZero adv store cs) (sym (advance-read (λ v. dayPhase v (nightOf nights)) file ws reads))
-      (demand3-stored P (day-lawful w (nightOf nights) a has) (day-fits w (nightOf nights) a) cs) in
-      record {
-        claim = d;
-        rosters = rw (d .follows) (each-right w (nightOf nights) a file (λ l. check-read file ws l reads) (d .each) (d .steps));
-        settled = rw (d .follows) (each-settled w (nightOf nights) (d .each));
-      }
-
 -- one advance where a nurse has no pattern
 pub advance-without : (phase : List ℕ → Phase) (file ws : List ℕ) → readWard file ≡ good ws → (i : ℕ) → Without (phase (bodyOf ws)) i → (c : Call)
     → advanceOver phase (readWard file) c allZero ≡ (refused (orTen i (refusal (phase (bodyOf ws)) c 0)), allZero)
@@ -203,21 +204,78 @@ pub advance-unread : (phase : List ℕ → Phase) (file : List ℕ) (n : Refusal
 unfolding advanceOver
 advance-unread phase file n c r e = rw e
 
+-- a search over the file, in memory with so many words of storage: `phase` is the phase of a ward
+module _ (phase : List ℕ → Phase) (file : List ℕ) (words : ℕ) where
+  abbrev adv : Call → Stored → Answer × Stored
+  adv = advanceOver phase (readWard file)
+
+  -- its operations are those of the session, and so is the memory
+  through : ((c : Call) (r : Stored) → Sized r → Sized (adv c r .1)) → (ops : List Operation) (l : List Answered) (s : Session Record)
+      → inTurn (act adv (hasRoom words)) ops (begun allZero) ≡ (l, known store s) → inTurn (perform adv) ops (startOf words) ≡ (l, imageOf words s)
+  through sized ops l s e = performed adv words sized allZero fresh-sized ops ∙ ap (λ (x : List Answered × Session Stored). (x .0, heldBy words (x .1))) e
+
+  -- where every advance from fresh is refused
+  away : ((c : Call) (r : Stored) → Sized r → Sized (adv c r .1)) → (why : Call → Refusal) → ((c : Call) → adv c allZero ≡ (refused (why c), allZero))
+      → (ops : List Operation) → AllRefused (hasRoom words) (startOf words) (perform adv) (imageOf words) why ops
+  away sized why one ops =
+      let r = inTurn (act (turnedAway why) (hasRoom words)) ops (begun fresh) in
+      through sized ops (r .0) (r .1)
+      (ap (λ (r : Stored). inTurn (act adv (hasRoom words)) ops (begun r)) (sym store-fresh)
+      ∙ all-refused (hasRoom words) adv store why (λ c. subst (λ (r : Stored). adv c r ≡ (refused (why c), r)) (sym store-fresh) (one c)) ops)
+
+  module _ (ws : List ℕ) (reads : readWard file ≡ good ws) (fits : Fits (phase (bodyOf ws))) where
+    abbrev searched : Phase
+    searched = phase (bodyOf ws)
+
+    pub read-sized : (c : Call) (r : Stored) → Sized r → Sized (adv c r .1)
+    read-sized c r z = subst (λ (f : Call → Stored → Answer × Stored). Sized (f c r .1)) (sym (advance-read phase file ws reads)) (advanced-sized searched fits c r z)
+
+    demanded : Lawful searched → (ops : List Operation) → Demand3 searched (hasRoom words) (startOf words) (perform adv) (imageOf words) ops
+    demanded lawful ops =
+        demand3-of searched lawful (hasRoom words) (startOf words) (perform adv) (imageOf words) ops
+        (through read-sized ops (answers searched (hasRoom words) ops) (known (recordOf searched) (session searched (hasRoom words) ops))
+        (ap (λ (f : Call → Stored → Answer × Stored). inTurn (act f (hasRoom words)) ops (begun allZero)) (advance-read phase file ws reads)
+        ∙ session-stored searched lawful fits (hasRoom words) ops))
+
+    without : Refusing searched (hasRoom words) (startOf words) (perform adv) (imageOf words)
+    without i h = away read-sized (λ c. orTen i (refusal searched c 0)) (advance-without phase file ws reads i h)
+
+  pub unread-sized : (n : Refusal) → readWard file ≡ bad n → (c : Call) (r : Stored) → Sized r → Sized (adv c r .1)
+  unread-sized n e c r z = subst (λ (x : Answer × Stored). Sized (x .1)) (sym (advance-unread phase file n c r e)) z
+
+  unread-away : (n : Refusal) → readWard file ≡ bad n → (ops : List Operation) → AllRefused (hasRoom words) (startOf words) (perform adv) (imageOf words) (λ c. n) ops
+  unread-away n e = away (unread-sized n e) (λ c. n) (λ c. advance-unread phase file n c allZero e)
+
+module _ (file ws : List ℕ) (reads : readWard file ≡ good ws) (a : Accepted (bodyOf ws)) (words : ℕ) where
+  abbrev w : List ℕ
+  w = bodyOf ws
+
+  night-demand : NightPatterns w → (ops : List Operation) → Demand3 (nightPhase w) (hasRoom words) (startOf words) (perform (advanceNights file)) (imageOf words) ops
+  night-demand has = demanded nightPhase file words ws reads (night-fits w a) (night-lawful w a has)
+
+  day-demand : (nights : List ℕ) → DayPatterns w (nightOf nights) → (ops : List Operation)
+      → DayDemand file w nights (hasRoom words) (startOf words) (perform (advanceDays file nights)) (imageOf words) ops
+  day-demand nights has ops =
+      let P = dayPhase w (nightOf nights) in
+      let d = demanded (λ v. dayPhase v (nightOf nights)) file words ws reads (day-fits w (nightOf nights) a) (day-lawful w (nightOf nights) a has) ops in
+      record {
+        claim = d;
+        rosters = rw (d .follows) (each-right w (nightOf nights) a file (λ l. check-read file ws l reads) (every-begun (Fit P) [] (fit-fresh P)) (d .each));
+        settled = rw (d .follows) (each-settled w (nightOf nights) (d .each));
+      }
+
 pub demand : Demanded
 demand = record {
-  accepted = λ file ws bytes e.
+  accepted = λ file ws bytes e words.
       let a = read-accepted file ws bytes e in
       record {
-        nights = night-demand file ws e a;
-        no-nights = refusing (nightPhase (bodyOf ws)) allZero (advanceNights file) (advance-without nightPhase file ws e);
-        days = day-demand file ws e a;
-        no-days = λ nights.
-            refusing (dayPhase (bodyOf ws) (nightOf nights)) allZero (advanceDays file nights) (advance-without (λ v. dayPhase v (nightOf nights)) file ws e);
+        nights = night-demand file ws e a words;
+        no-nights = without nightPhase file words ws e (night-fits (bodyOf ws) a);
+        days = day-demand file ws e a words;
+        no-days = λ nights. without (λ v. dayPhase v (nightOf nights)) file words ws e (day-fits (bodyOf ws) (nightOf nights) a);
       };
-  unread = λ file n e. record {
-    nights = λ cs. all-refused allZero (advanceNights file) (λ c. n) (λ c. advance-unread nightPhase file n c allZero e) cs;
-    days = λ nights cs.
-        all-refused allZero (advanceDays file nights) (λ c. n)
-        (λ c. advance-unread (λ v. dayPhase v (nightOf nights)) file n c allZero e) cs;
+  unread = λ file n e words. record {
+    nights = unread-away nightPhase file words n e;
+    days = λ nights. unread-away (λ v. dayPhase v (nightOf nights)) file words n e;
   };
 }

@@ -1,6 +1,7 @@
 -- The advances' answers from the file's bytes, by night and by day.
 use Prim.Native.Nat.{ℕ}
 use mathlib.Core.Path.{_≡_, refl, ap, _∙_, subst}
+use mathlib.Core.Bool.{Bool}
 use mathlib.Core.List.{List}
 use lib.ListN.{length}
 use Rattle.refusals.specs.declared.Refusal.{Refusal}
@@ -15,12 +16,12 @@ use Rattle.outcomes.specs.Outcomes.{advanceOf, leftBy, callOf}
 use Rattle.planner.specs.Advances.{advanceOver}
 
 -- `phase` is the phase of a ward, and `lists` what stands in the buffer after an advance
-module _ (phase : List ℕ → Phase) (lists : Read → List ℕ) (file : List ℕ) (rec : Stored) (k : ℕ) (buffer : List ℕ) where
+module _ (phase : List ℕ → Phase) (lists : Read → List ℕ) (file : List ℕ) (rec : Stored) (k : ℕ) (past-zero : Bool) (buffer : List ℕ) where
   abbrev advanced : Answer × Stored
-  advanced = advanceOver phase (readWard file) (callOf k (length buffer)) rec
+  advanced = advanceOver phase (readWard file) (callOf k past-zero (length buffer)) rec
 
   abbrev advancedOn : List ℕ → Answer × Stored
-  advancedOn w = advanceStored (phase w) (callOf k (length buffer)) rec
+  advancedOn w = advanceStored (phase w) (callOf k past-zero (length buffer)) rec
 
   pub file-refused : {n : Refusal} {x : Advance} → readWard file ≡ bad n → x ≡ advanceOf (refused n, rec)
       → (x ≡ advanceOf advanced) × (buffer ≡ leftBy (advanced .0) (lists (readWard file)) buffer)

@@ -1,9 +1,10 @@
 -- Demand 1 in one record: for every published call and any input, a refusal comes exactly for the fault that it names, at its place, no earlier question
 -- being a no, and then all else in the result is 0 and all that was lent holds what it held. That a call otherwise answers is its contract's equation.
 use Rattle.fields.specs.Sizes.{letterPlaces, numberPlaces}
-use Rattle.refusals.specs.Refusals.{numbered, refusalIn}
+use Rattle.refusals.specs.Refusals.{numbered, refusalIn, answerBy}
 use Prim.Native.Nat.{ℕ, _≤_, _<_}
 use mathlib.Core.Path.{_≡_}
+use mathlib.Core.Bool.{Bool}
 use mathlib.Core.List.{List}
 use mathlib.Core.Option.{Option, none, some}
 use lib.ListN.{length, getD, replicate}
@@ -25,7 +26,9 @@ use Rattle.outcomes.specs.declared.Checked.{Checked}
 use Rattle.outcomes.specs.declared.Checked.the-variants as checks
 use Rattle.planner.specs.Answers.{checkSays}
 use Rattle.planner.specs.Left.{nightLeft, dayLeft}
-use Rattle.planner.specs.Faults.{nightQuestions, dayQuestions, checkQuestions, FileNo, WriterNo}
+use Rattle.history.specs.Questions.{FirstNo}
+use Rattle.keeping.specs.Storage.{keepNo, keptIn, returnedOf}
+use Rattle.planner.specs.Faults.{nightQuestions, dayQuestions, checkQuestions, keepQuestions, returnQuestions, FileNo, WriterNo}
 
 -- A call that gives `result`: `noIn` reads the refusal off it, `refusedBy` is the result of a refusal with 0 in all else, and Left says that what was
 -- lent holds what it held.
@@ -68,29 +71,41 @@ WriteRefuses w buffer =
 abbrev pub refusedBy : Stored → ℕ → ℕ → Advance
 refusedBy r q p = record { after = r; penalty = 0; steps = 0; outcome = outcomes.Refused (numbered q p); roster = record { letters = replicate letterPlaces 0; count = 0 } }
 
-abbrev pub NightsRefuse : List ℕ → Stored → ℕ → List ℕ → Type 0
-NightsRefuse file r k buffer =
-    let c = callOf k (length buffer) in
+abbrev pub NightsRefuse : List ℕ → Stored → ℕ → Bool → List ℕ → Type 0
+NightsRefuse file r k past-zero buffer =
+    let c = callOf k past-zero (length buffer) in
     let a = advanceNights file c r in
-    Refuses (FileNo file (nightQuestions c r)) (advanceOf a) (λ x. noInOutcome (x .outcome)) (refusedBy r) (nightLeft file r k buffer ≡ buffer)
+    Refuses (FileNo file (nightQuestions c r)) (advanceOf a) (λ x. noInOutcome (x .outcome)) (refusedBy r) (nightLeft file r k past-zero buffer ≡ buffer)
 
-abbrev pub DaysRefuse : List ℕ → List ℕ → Stored → ℕ → List ℕ → Type 0
-DaysRefuse file nights r k buffer =
-    let c = callOf k (length buffer) in
+abbrev pub DaysRefuse : List ℕ → List ℕ → Stored → ℕ → Bool → List ℕ → Type 0
+DaysRefuse file nights r k past-zero buffer =
+    let c = callOf k past-zero (length buffer) in
     let a = advanceDays file nights c r in
-    Refuses (FileNo file (dayQuestions (nightOf nights) c r)) (advanceOf a) (λ x. noInOutcome (x .outcome)) (refusedBy r) (dayLeft file nights r k buffer ≡ buffer)
+    Refuses (FileNo file (dayQuestions (nightOf nights) c r)) (advanceOf a) (λ x. noInOutcome (x .outcome)) (refusedBy r) (dayLeft file nights r k past-zero buffer ≡ buffer)
 
 abbrev pub CheckRefuses : List ℕ → List ℕ → Type 0
 CheckRefuses file roster =
     Refuses (FileNo file (checkQuestions roster)) (checkSays file roster) noInCheck (λ q p. checks.Refused (numbered q p)) Unit
 
+abbrev pub KeepRefuses : Stored → ℕ → List ℕ → Type 0
+KeepRefuses r number storage =
+    Refuses (FirstNo (keepQuestions storage number)) (answerBy (keepNo storage number)) refusalIn (λ q p. No (numbered q p)) (keptIn storage number r ≡ storage)
+
+abbrev pub ReturnRefuses : Stored → ℕ → List ℕ → Type 0
+ReturnRefuses r number storage =
+    Refuses (FirstNo (returnQuestions storage number)) (returnedOf storage number r) (λ x. refusalIn (x .answer))
+    (λ q p. record { after = r; answer = No (numbered q p) }) Unit
+
 -- proofs/Demand1Laws shows it
 pub record Demand1 : Type 0 where
   pub read : (file : List ℕ) → Bytes file → ReadRefuses file
   pub write : (w : Ward) (buffer : List ℕ) → WriteRefuses w buffer
-  pub nights : (file : List ℕ) → Bytes file → (r : Stored) → Sized r → (k : ℕ) (buffer : List ℕ) → NightsRefuse file r k buffer
-  pub days : (file : List ℕ) → Bytes file → (nights : List ℕ) (r : Stored) → Sized r → (k : ℕ) (buffer : List ℕ) → DaysRefuse file nights r k buffer
+  pub nights : (file : List ℕ) → Bytes file → (r : Stored) → Sized r → (k : ℕ) (past-zero : Bool) (buffer : List ℕ) → NightsRefuse file r k past-zero buffer
+  pub days : (file : List ℕ) → Bytes file → (nights : List ℕ) (r : Stored) → Sized r → (k : ℕ) (past-zero : Bool) (buffer : List ℕ)
+      → DaysRefuse file nights r k past-zero buffer
   pub check : (file : List ℕ) → Bytes file → (roster : List ℕ) → CheckRefuses file roster
+  pub keep : (r : Stored) (number : ℕ) (storage : List ℕ) → KeepRefuses r number storage
+  pub bring-back : (r : Stored) (number : ℕ) (storage : List ℕ) → ReturnRefuses r number storage
   -- the longest file has 4,203 bytes: 4,190 of edition one's numbers, 2 that lead to edition two, and 11 of its count and ten pairs
   pub longest : (file ws : List ℕ) → FileGood ward file ws → length file ≤ 4203
   pub longest-there : (file ws : List ℕ) × FileGood ward file ws × (length file ≡ 4203)

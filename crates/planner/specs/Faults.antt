@@ -1,4 +1,4 @@
--- Questions 6 to 12 in words of their own: what holds of a place where the question is a no there; and the questions of each call in their order.
+-- Questions 6 to 13 in words of their own: what holds of a place where the question is a no there; and the questions of each call in their order.
 use Prim.Native.Nat.{ℕ, suc, _+_, _*_, _≤_, _<_}
 use mathlib.Core.Path.{_≡_}
 use mathlib.Core.Bool.{true, false}
@@ -19,6 +19,7 @@ use Rattle.letters.specs.Letters.{isLetter}
 use Rattle.history.specs.Phase.{Phase, Call}
 use Rattle.history.specs.Claim.{Without}
 use Rattle.history.specs.Questions.{Questions, end, ask, FirstNo}
+use Rattle.keeping.specs.Storage.{storageWords, entryAt}
 use Rattle.search.specs.Sound.{Sound}
 use Rattle.search.specs.declared.Record.{Record as Stored}
 use Rattle.phases.specs.Phases.{nightPhase, dayPhase, dayListOver}
@@ -63,6 +64,15 @@ pub data LettersFault (size : ℕ) (roster : List ℕ) (place : ℕ) : Type 0 wh
   bad-letter : place < length roster → isLetter (getD roster place 0) ≡ false → LettersBefore roster place → LettersFault size roster place
   wrong-count : place ≡ length roster → LettersBefore roster (length roster) → length roster ≢ size → LettersFault size roster place
 
+-- 13 of a keeping: the storage has fewer words than eight records need, or the number is not one from 1 to 8
+abbrev pub KeepFault : List ℕ → ℕ → ℕ → Type 0
+KeepFault storage number place = (place ≡ 0) × ((length storage < storageWords) ⊎ ((number < 1) ⊎ (8 < number)))
+
+-- of a return: that, or the word which says whether something is kept under the number is 0
+abbrev pub ReturnFault : List ℕ → ℕ → ℕ → Type 0
+ReturnFault storage number place =
+    (place ≡ 0) × (((length storage < storageWords) ⊎ ((number < 1) ⊎ (8 < number))) ⊎ (getD storage (entryAt number) 0 ≡ 0))
+
 -- ---- the calls' questions
 
 abbrev pub nightQuestions : Call → Stored → List ℕ → Questions
@@ -77,6 +87,12 @@ dayQuestions nights c r w =
 
 abbrev pub checkQuestions : List ℕ → List ℕ → Questions
 checkQuestions roster w = ask question.letters (LettersFault (nurses w * days w) roster) end
+
+abbrev pub keepQuestions : List ℕ → ℕ → Questions
+keepQuestions storage number = ask question.storage (KeepFault storage number) end
+
+abbrev pub returnQuestions : List ℕ → ℕ → Questions
+returnQuestions storage number = ask question.storage (ReturnFault storage number) end
 
 -- a call over a ward file asks 1 to 5 of the file, and then the others over the ward that it holds
 pub data FileNo (file : List ℕ) (questions : List ℕ → Questions) (q p : ℕ) : Type 0 where

@@ -1,5 +1,6 @@
 // The published calls.
 use fields::sizes::NURSES;
+pub use keeping::Returned;
 use letters::Place;
 pub use outcomes::Advance;
 pub use outcomes::Checked;
@@ -15,6 +16,8 @@ ghost use Rattle.planner.specs.Answers.{checkLetters, checkSays};
 ghost use Rattle.planner.specs.Advances.{advanceNights, advanceDays};
 ghost use Rattle.outcomes.specs.Outcomes.{advanceOf, callOf};
 ghost use Rattle.planner.specs.Left.{nightLeft, dayLeft};
+ghost use Rattle.refusals.specs.Refusals.{answerBy};
+ghost use Rattle.keeping.specs.Storage.{keepNo, keptIn, returnedOf};
 
 // The ward of a file, or the first of questions 1 to 5 that it fails.
 pub fn read(file: &[u8]) -> ward::Reading
@@ -68,11 +71,17 @@ pub fn check(file: &[u8], roster: &[u8]) -> Checked
     }
 }
 
-// Advances a night search by up to k steps, or says the first of questions 1 to 5, 7, 9, 10 and 11 that is a no.
+// Advances a night search by up to k steps, past zero or not, or says the first of questions 1 to 5, 7, 9, 10 and 11 that is a no.
 // The buffer then has the common list from its start; a refused call leaves it as it was.
-pub fn advance_nights(rec: search::Record, file: &[u8], k: u32, buffer: &mut [u32]) -> Advance
-    ensures says { λ r. ⌜ r ≡ advanceOf (advanceNights (now (file .entry)) (callOf k (length (now (buffer .entry)))) rec) ⌝ }
-    ensures leaves { λ _. ⌜ now (buffer .exit) ≡ nightLeft (now (file .entry)) rec k (now (buffer .entry)) ⌝ }
+pub fn advance_nights(
+    rec: search::Record,
+    file: &[u8],
+    k: u32,
+    past: bool,
+    buffer: &mut [u32],
+) -> Advance
+    ensures says { λ r. ⌜ r ≡ advanceOf (advanceNights (now (file .entry)) (callOf k past (length (now (buffer .entry)))) rec) ⌝ }
+    ensures leaves { λ _. ⌜ now (buffer .exit) ≡ nightLeft (now (file .entry)) rec k past (now (buffer .entry)) ⌝ }
 {
     let reading = ward::read(file);
     let answer = reading.answer;
@@ -81,22 +90,24 @@ pub fn advance_nights(rec: search::Record, file: &[u8], k: u32, buffer: &mut [u3
         Answer::Yes => {
             let numbers = reading.ward.numbers;
             let count = reading.ward.count;
-            nightadvance::advance_on(rec, fields::body(&numbers[..count]), k, buffer)
+            nightadvance::advance_on(rec, fields::body(&numbers[..count]), k, past, buffer)
         }
     }
 }
 
-// Advances a day search over one choice of nights by up to k steps, or says the first of questions 1 to 5 and 7 to 11 that is a no.
-// The buffer then has each nurse's day list in turn; a refused call leaves it as it was. The roster is given out at penalty zero.
+// Advances a day search over one choice of nights by up to k steps, past zero or not, or says the first of questions 1 to 5 and 7 to 11 that is a no.
+// The buffer then has each nurse's day list in turn; a refused call leaves it as it was. The roster is given out where the
+// advance leaves penalty zero.
 pub fn advance_days(
     rec: search::Record,
     file: &[u8],
     nights: &[u64; NURSES],
     k: u32,
+    past: bool,
     buffer: &mut [u32],
 ) -> Advance
-    ensures says { λ r. ⌜ r ≡ advanceOf (advanceDays (now (file .entry)) (now (nights .entry)) (callOf k (length (now (buffer .entry)))) rec) ⌝ }
-    ensures leaves { λ _. ⌜ now (buffer .exit) ≡ dayLeft (now (file .entry)) (now (nights .entry)) rec k (now (buffer .entry)) ⌝ }
+    ensures says { λ r. ⌜ r ≡ advanceOf (advanceDays (now (file .entry)) (now (nights .entry)) (callOf k past (length (now (buffer .entry)))) rec) ⌝ }
+    ensures leaves { λ _. ⌜ now (buffer .exit) ≡ dayLeft (now (file .entry)) (now (nights .entry)) rec k past (now (buffer .entry)) ⌝ }
 {
     let reading = ward::read(file);
     let answer = reading.answer;
@@ -105,7 +116,29 @@ pub fn advance_days(
         Answer::Yes => {
             let numbers = reading.ward.numbers;
             let count = reading.ward.count;
-            dayadvance::advance_on(rec, fields::body(&numbers[..count]), nights, k, buffer)
+            dayadvance::advance_on(
+                rec,
+                fields::body(&numbers[..count]),
+                nights,
+                k,
+                past,
+                buffer,
+            )
         }
     }
+}
+
+// Keeps the record under the number, 1 to 8, in place of what was kept there; or says question 13, and leaves the storage as it was.
+pub fn keep(rec: search::Record, number: u32, storage: &mut [u32]) -> Answer
+    ensures says { λ r. ⌜ r ≡ answerBy (keepNo (now (storage .entry)) number) ⌝ }
+    ensures leaves { λ _. ⌜ now (storage .exit) ≡ keptIn (now (storage .entry)) number rec ⌝ }
+{
+    keeping::keep(rec, number, storage)
+}
+
+// The record that is kept under the number; or question 13, and the record in hand.
+pub fn bring_back(rec: search::Record, number: u32, storage: &[u32]) -> Returned
+    ensures { λ r. ⌜ r ≡ returnedOf (now (storage .entry)) number rec ⌝ }
+{
+    keeping::bring_back(rec, number, storage)
 }

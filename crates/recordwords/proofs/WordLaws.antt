@@ -15,7 +15,7 @@ use Rattle.removals.specs.declared.Removal.{Removal as StoredRemoval}
 use Rattle.removals.specs.Removals.{noRemoval}
 use Rattle.search.specs.Stored.{Sized}
 use Rattle.search.proofs.StoredLaws.{getD-below}
-use Rattle.recordwords.specs.Words.{pairsAt, patternWords, flagsAt, recordWords, removalsAt, stepsAt, patternAt, patternsOfWords, flagOf, removalAt, flagWord, removalWords, wordsOfRecord}
+use Rattle.recordwords.specs.Words.{pairsAt, patternWords, flagsAt, recordWords, removalsAt, stepsAt, patternAt, patternsOfWords, flagOf, removalAt, recordOfWords, flagWord, removalWords, wordsOfRecord}
 use Rattle.recordwords.specs.CodeWords.{removalWord}
 
 -- ---- read
@@ -42,6 +42,11 @@ module _ (words : List ℕ) (long : length words ≡ recordWords) where
   pub flag-read : (i : ℕ) {f : Bool} → i < nursePlaces → f ≡ flagOf (getD words (flagsAt + i) 0) → f ≡ getD (map flagOf (take nursePlaces (drop flagsAt words))) i false
   flag-read i h e =
       e ∙ sym (List·getD-map flagOf (take nursePlaces (drop flagsAt words)) i 0 ∙ ap flagOf (getD-take nursePlaces (drop flagsAt words) i 0 h ∙ getD-drop flagsAt words i 0))
+
+-- a record read from words has its declared sizes
+pub words-sized : (words : List ℕ) → length words ≡ recordWords → Sized (recordOfWords words)
+unfolding recordOfWords
+words-sized words l = record { patterns-long = patterns-long words; placed-long = flags-long words l; removals-long = removals-long words }
 
 -- ---- written
 

@@ -35,7 +35,8 @@ pub fn patterns_of(words: &[u32]) -> [u64; NURSES]
     patterns
 }
 
-fn flag_of(word: u32) -> bool
+// Any word but 0 sets a flag.
+pub fn flag_of(word: u32) -> bool
     ensures { λ r. ⌜ r ≡ flagOf word ⌝ }
 {
     word != 0

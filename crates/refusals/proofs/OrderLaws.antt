@@ -7,7 +7,7 @@ use native.Mathlib.Omega.{arith}
 use Rattle.refusals.specs.declared.Refusal.{Refusal}
 use Rattle.refusals.specs.declared.Answer.{Answer}
 use Rattle.refusals.specs.declared.Answer.the-variants.{Yes, No}
-use Rattle.refusals.specs.Refusals.{refusalIn, unless, first}
+use Rattle.refusals.specs.Refusals.{refusalIn, answerBy, unless, first}
 
 -- where a question that code asked is a no, and where it is a yes
 module _ {a : Answer} {A : Option Refusal} (B : Option Refusal) (asked : refusalIn a ≡ A) where
@@ -36,3 +36,8 @@ unless-none false q i e = let z : _≡_ {A = ℕ} 0 1 = cc in absurd (omega arit
 
 pub refusal-path : (n m : Refusal) → n .question ≡ m .question → n .place ≡ m .place → n ≡ m
 refusal-path n m q p = λ i. record { question = q i; place = p i }
+
+-- the refusal in the answer with this refusal
+pub refusal-back : (o : Option Refusal) → refusalIn (answerBy o) ≡ o
+refusal-back none = refl
+refusal-back (some n) = refl

@@ -1,4 +1,4 @@
--- The questions of document 01, in its order, by name: the number that a refusal gives. src/question.rt has the same names.
+-- The questions of documents 01 and 02, in their order, by name: the number that a refusal gives. src/question.rt has the same names.
 use Prim.Native.Nat.{ℕ}
 
 -- is there a whole number here, ended within the file?
@@ -48,3 +48,7 @@ record-sound = 11
 -- are there m times n letters of the five?
 abbrev pub letters : ℕ
 letters = 12
+
+-- has the storage room for eight records, is the number 1 to 8 and, on a return, is something kept under it?
+abbrev pub storage : ℕ
+storage = 13

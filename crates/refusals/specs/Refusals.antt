@@ -14,6 +14,11 @@ abbrev pub refusalIn : Answer → Option Refusal
 refusalIn Yes = none
 refusalIn (No refusal) = some refusal
 
+-- the answer with this refusal, or with none
+abbrev pub answerBy : Option Refusal → Answer
+answerBy none = Yes
+answerBy (some refusal) = No refusal
+
 -- ---- questions in order
 
 -- a question that is answered yes, or a no with its number and place

@@ -1,4 +1,4 @@
-// The questions of document 01, in its order.
+// The questions of documents 01 and 02, in their order.
 
 // Is there a whole number here, ended within the file?
 pub const WHOLE: u32 = 1;
@@ -24,3 +24,5 @@ pub const PATTERNS: u32 = 10;
 pub const RECORD: u32 = 11;
 // Are there m times n letters of the five?
 pub const LETTERS: u32 = 12;
+// Has the storage room for eight records, is the number 1 to 8 and, on a return, is something kept under it?
+pub const STORAGE: u32 = 13;

@@ -1,5 +1,6 @@
 // Plans the ward on standard input: 1,000 steps in each phase with 16,384 places. Prints nurse and row, then the night and the
 // day steps; or what is left, with the phase, its penalty and its steps; or the question that refused and its place.
+use fields::sizes::LETTERS;
 use fields::sizes::NURSES;
 use planner::Outcome;
 use refusals::Answer;
@@ -64,9 +65,9 @@ fn days_of(file: &[u8]) -> usize {
     }
 }
 
-fn show_roster(file: &[u8], letters: &[u8], count: usize, nights: u32, days: u32) {
+fn show_roster(file: &[u8], letters: [u8; LETTERS], count: usize, nights: u32, days: u32) {
     let n = days_of(file);
-    if count <= letters.len() {
+    if count <= LETTERS {
         show_rows(&letters[..count], n);
     }
     io::write_all(1, b"zero");
@@ -76,7 +77,7 @@ fn show_roster(file: &[u8], letters: &[u8], count: usize, nights: u32, days: u32
 }
 
 fn plan_days(file: &[u8], nights: &[u64; NURSES], made: u32, buffer: &mut [u32]) {
-    let x = planner::advance_days(Record::fresh(), file, nights, 1000, buffer);
+    let x = planner::advance_days(Record::fresh(), file, nights, 1000, false, buffer);
     let end = x.outcome;
     match end {
         Outcome::Refused(n) => {
@@ -85,7 +86,7 @@ fn plan_days(file: &[u8], nights: &[u64; NURSES], made: u32, buffer: &mut [u32])
         Outcome::Zero => {
             let letters = x.roster.letters;
             let count = x.roster.count;
-            show_roster(file, &letters, count, made, x.steps);
+            show_roster(file, letters, count, made, x.steps);
         }
         Outcome::Asked => {
             show_left(2, x.penalty, x.steps);
@@ -98,7 +99,7 @@ fn plan_days(file: &[u8], nights: &[u64; NURSES], made: u32, buffer: &mut [u32])
 
 fn plan(file: &[u8]) {
     let mut buffer = [0u32; 16384];
-    let x = planner::advance_nights(Record::fresh(), file, 1000, &mut buffer);
+    let x = planner::advance_nights(Record::fresh(), file, 1000, false, &mut buffer);
     let end = x.outcome;
     match end {
         Outcome::Refused(n) => {

@@ -1,4 +1,4 @@
--- An advance over stored records, as a loop of steps makes it; and demand 3 of such advances.
+-- An advance over stored records, as a loop of steps makes it; and sessions of such advances follow the history.
 use Prim.Native.Nat.{ℕ, suc, _+_, _-_, _≤_, _<_, min}
 use mathlib.Core.Path.{_≡_, refl, sym, ap, ap₂, _∙_, subst}
 use mathlib.Core.Bool.{Bool, true, false, cond, _&&_, false≢true}
@@ -9,18 +9,19 @@ use native.Mathlib.Nat.{sub-zero, add-zero}
 use native.Mathlib.Omega.{arith}
 use lib.Dec.{leb, eqb}
 use lib.ListN.{length}
-use borrow.Author.Tests.{eq-eqb, ne-eqb, eqb-true}
+use borrow.Author.Tests.{eqb-true}
 use Rattle.numbers.specs.Range.{Ascending, upFrom}
 use Rattle.numbers.proofs.AllLaws.{all-each}
 use Rattle.refusals.proofs.OrderLaws.{first-last}
 use Rattle.refusals.specs.Refusals.{numbered}
 use Rattle.refusals.specs.Questions as question
 use Rattle.history.specs.Slot.{Slot}
-use Rattle.history.specs.Phase.{Step, Phase, Call, Answer, refused, ended, End, End·zero, End·asked, End·none, exchanges, run, refusal, given}
+use Rattle.history.specs.Phase.{Step, Phase, Call, Answer, refused, ended, End, End·zero, End·asked, End·none, exchanges, run, stops, refusal, given, inTurn}
 use Rattle.refusals.specs.declared.Refusal.{Refusal}
 use Rattle.history.specs.History.{History, penalty, extend, reply, advance}
 use Rattle.history.specs.Record.{Record, recordOf, mayTake, costAfter, total, best, stepped, proceed, among, hers, allName, lacking, sound, replyOf}
-use Rattle.history.specs.Claim.{Demand3, Without, orTen}
+use Rattle.history.specs.Session.{Operation, begun, known, act, answers, session}
+use Rattle.history.specs.Claim.{Without, orTen}
 use Rattle.history.proofs.Lawful.{Lawful}
 use Rattle.search.specs.Stored.{store, view, viewOf, allZero, unusedZero, soundStored, refusalStored, replyStored, advanceStored, Sized}
 use Rattle.search.proofs.Fits.{Fits}
@@ -33,8 +34,9 @@ use Rattle.best.specs.declared.Best.the-variants.{Nothing, Exchange}
 use Rattle.history.proofs.TestLaws.{and-true}
 use Rattle.history.proofs.ChooseLaws.{least-first, offers-only, range-only}
 use Rattle.history.proofs.RunLaws.{run-zero, run-asked, run-none-left, run-on}
-use Rattle.history.proofs.FollowLaws.{Grown, among-member, fresh-record, removals-held, none-past, lacking-none, sound-record, advance-refused, advance-goes, proceed-extend}
-use Rattle.history.proofs.DemandLaws.{demand3-of}
+use Rattle.history.proofs.FollowLaws.{lacking-none, advance-refused, advance-goes, proceed-extend}
+use Rattle.history.proofs.FitLaws.{Fit, among-member, removals-held, sound-record}
+use Rattle.history.proofs.DemandLaws.{session-follows}
 use Rattle.history.proofs.WithoutLaws.{lacking-lowest}
 use Rattle.best.proofs.BestLaws.{found-best}
 use Rattle.search.proofs.StoredLaws.{Held, Whole, view-store, store-fresh, unused-store, view-exchanged, exchanged-whole, store-view}
@@ -72,15 +74,15 @@ exchanged-own P R s e f i l = go (eqb i (s .nurse)) refl
 -- ---- the loop
 
 -- After `made` steps of an advance of k from r₀ the record is r: what is left to run is the rest of the run.
-pub record Running (P : Phase) (k : ℕ) (r₀ r : Stored) (made : ℕ) : Type 0 where
+pub record Running (P : Phase) (past-zero : Bool) (k : ℕ) (r₀ r : Stored) (made : ℕ) : Type 0 where
   pub at-most : made ≤ k
   pub counted : r .steps ≡ r₀ .steps + made
   pub whole : Whole (P .nurses) (P .tabu) r
   pub own : (i : ℕ) → i < P .nurses → hers P i ((viewOf P r) .slots i) ≡ true
-  pub left : proceed P k (viewOf P r₀) ≡ proceed P (k - made) (viewOf P r)
+  pub left : proceed P past-zero k (viewOf P r₀) ≡ proceed P past-zero (k - made) (viewOf P r)
 
-module _ (P : Phase) (k : ℕ) (r₀ : Stored) where
-  pub running-start : Sized r₀ → soundStored P r₀ ≡ true → Running P k r₀ r₀ 0
+module _ (P : Phase) (past-zero : Bool) (k : ℕ) (r₀ : Stored) where
+  pub running-start : Sized r₀ → soundStored P r₀ ≡ true → Running P past-zero k r₀ r₀ 0
   unfolding soundStored
   running-start s e =
       let a = and-true (sound P (viewOf P r₀)) (unusedZero (P .nurses) (P .tabu) r₀) e in
@@ -93,62 +95,55 @@ module _ (P : Phase) (k : ℕ) (r₀ : Stored) where
       }
 
 -- a turn of the loop in a phase: where it is, and the penalty there
-pub record Turn (P : Phase) (k : ℕ) (r₀ r : Stored) (made pen : ℕ) : Type 0 where
-  pub running : Running P k r₀ r made
+pub record Turn (P : Phase) (past-zero : Bool) (k : ℕ) (r₀ r : Stored) (made pen : ℕ) : Type 0 where
+  pub running : Running P past-zero k r₀ r made
   pub fits : Fits P
   pub cost : pen ≡ P .cost ((viewOf P r) .slots)
 
-module _ {P : Phase} {k : ℕ} {r₀ r : Stored} {made pen : ℕ} (t : Turn P k r₀ r made pen) where
+module _ {P : Phase} {past-zero : Bool} {k : ℕ} {r₀ r : Stored} {made pen : ℕ} (t : Turn P past-zero k r₀ r made pen) where
   abbrev slotsOf : ℕ → Slot
   slotsOf = (viewOf P r) .slots
 
-  ends : (e : End) → proceed P (k - made) (viewOf P r) ≡ (viewOf P r, e)
-      → replyStored P k r₀ ≡ (ended e made (P .cost slotsOf) (given P slotsOf), r)
-  unfolding replyStored replyOf total view
+  -- whether the run stops here
+  abbrev stopHere : Record → Bool
+  stopHere x = stops past-zero (total P x)
+
+  abbrev lettersAt : ℕ → List ℕ
+  lettersAt c = cond (eqb c 0) (P .letters slotsOf) []
+
+  stop-is : {b : Bool} → stops past-zero pen ≡ b → stopHere (viewOf P r) ≡ b
+  unfolding total
+  stop-is e = ap (stops past-zero) (sym (t .cost)) ∙ e
+
+  ends : (e : End) → proceed P past-zero (k - made) (viewOf P r) ≡ (viewOf P r, e) → replyStored P past-zero k r₀ ≡ (ended e made pen (lettersAt pen), r)
+  unfolding replyStored replyOf total view given
   ends e q =
       let n : r .steps - r₀ .steps ≡ made = omega (arith, t .running .counted) in
       rw (t .running .left ∙ q, store-view (P .nurses) (P .tabu) r (t .running .whole .sized) (t .fits .tabu-most) (t .running .whole .unused), n)
+      (ap (λ (c : ℕ). (ended e made c (lettersAt c), r)) (sym (t .cost)))
 
-  letters-zero : P .cost slotsOf ≡ 0 → given P slotsOf ≡ P .letters slotsOf
-  unfolding given
-  letters-zero e = rw (eq-eqb (P .cost slotsOf) 0 e)
-
-  letters-none : P .cost slotsOf ≢ 0 → given P slotsOf ≡ []
-  unfolding given
-  letters-none n = rw (ne-eqb (P .cost slotsOf) 0 n)
-
-  -- penalty 0 ends it with "zero"
-  pub ends-zero : pen ≡ 0
-      → replyStored P k r₀ ≡ (ended End·zero made 0 (P .letters ((viewOf P r) .slots)), r)
-  unfolding proceed total
-  ends-zero z =
-      let c : P .cost slotsOf ≡ 0 = sym (t .cost) ∙ z in
-      ends End·zero (run-zero (total P) (best P) (stepped (P .tabu)) (k - made) (viewOf P r) c)
-      ∙ ap₂ (λ (n : ℕ) (l : List ℕ). (ended End·zero made n l, r)) c (letters-zero c)
+  -- where it stops it ends with "zero"
+  pub ends-zero : stops past-zero pen ≡ true → replyStored P past-zero k r₀ ≡ (ended End·zero made pen (lettersAt pen), r)
+  unfolding proceed
+  ends-zero z = ends End·zero (run-zero stopHere (best P) (stepped (P .tabu)) (k - made) (viewOf P r) (stop-is z))
 
   -- else k made, with "asked"
-  pub ends-asked : pen ≢ 0 → made ≡ k → replyStored P k r₀ ≡ (ended End·asked made pen [], r)
-  unfolding proceed total
+  pub ends-asked : stops past-zero pen ≡ false → made ≡ k → replyStored P past-zero k r₀ ≡ (ended End·asked made pen (lettersAt pen), r)
+  unfolding proceed
   ends-asked n m =
-      let c : P .cost slotsOf ≢ 0 = λ z. n (t .cost ∙ z) in
       let d : k - made ≡ 0 = omega arith in
-      ends End·asked (rw d (run-asked (total P) (best P) (stepped (P .tabu)) (viewOf P r) c))
-      ∙ ap₂ (λ (n : ℕ) (l : List ℕ). (ended End·asked made n l, r)) (sym (t .cost)) (letters-none c)
+      ends End·asked (rw d (run-asked stopHere (best P) (stepped (P .tabu)) (viewOf P r) (stop-is n)))
 
   -- else no exchange, with "none"
-  ends-none : pen ≢ 0 → made < k → best P (viewOf P r) ≡ none → replyStored P k r₀ ≡ (ended End·none made pen [], r)
-  unfolding proceed total
-  ends-none n l b =
-      let c : P .cost slotsOf ≢ 0 = λ z. n (t .cost ∙ z) in
-      ends End·none (run-none-left (total P) (best P) (stepped (P .tabu)) (k - made) (viewOf P r) (omega arith) c b)
-      ∙ ap₂ (λ (n : ℕ) (l : List ℕ). (ended End·none made n l, r)) (sym (t .cost)) (letters-none c)
+  ends-none : stops past-zero pen ≡ false → made < k → best P (viewOf P r) ≡ none → replyStored P past-zero k r₀ ≡ (ended End·none made pen (lettersAt pen), r)
+  unfolding proceed
+  ends-none n l b = ends End·none (run-none-left stopHere (best P) (stepped (P .tabu)) (k - made) (viewOf P r) (omega arith) (stop-is n) b)
 
   -- else one step more
-  goes-on : pen ≢ 0 → made < k → (s : Step) → best P (viewOf P r) ≡ some s
-      → Running P k r₀ (exchangedIn (P .tabu) r (s .nurse) (s .pattern)) (made + 1)
-  unfolding proceed total exchangedIn
+  goes-on : stops past-zero pen ≡ false → made < k → (s : Step) → best P (viewOf P r) ≡ some s
+      → Running P past-zero k r₀ (exchangedIn (P .tabu) r (s .nurse) (s .pattern)) (made + 1)
+  unfolding proceed exchangedIn
   goes-on n l s b =
-      let c : P .cost slotsOf ≢ 0 = λ z. n (t .cost ∙ z) in
       let i : s .nurse < P .nurses = best-nurse P (viewOf P r) s b in
       let d : k - made - 1 ≡ k - (made + 1) = omega arith in
       let view-then = view-exchanged (P .nurses) (P .tabu) r (t .running .whole) (t .fits .nurses-most) (t .fits .tabu-most) (s .nurse) (s .pattern) i in
@@ -157,8 +152,8 @@ module _ {P : Phase} {k : ℕ} {r₀ r : Stored} {made pen : ℕ} (t : Turn P k 
         counted = omega (arith, t .running .counted);
         whole = exchanged-whole (P .nurses) (P .tabu) r (t .running .whole) (t .fits .nurses-most) (t .fits .tabu-most) (s .nurse) (s .pattern) i;
         own = λ j m. rw (view-then) (exchanged-own P (viewOf P r) s (best-hers P (viewOf P r) s b) (t .running .own) j m);
-        left = t .running .left ∙ run-on (total P) (best P) (stepped (P .tabu)) (k - made) (viewOf P r) s (omega arith) c b
-            ∙ ap₂ (λ (j : ℕ) (R : Record). run (total P) (best P) (stepped (P .tabu)) j R) d
+        left = t .running .left ∙ run-on stopHere (best P) (stepped (P .tabu)) (k - made) (viewOf P r) s (omega arith) (stop-is n) b
+            ∙ ap₂ (λ (j : ℕ) (R : Record). run stopHere (best P) (stepped (P .tabu)) j R) d
             (sym view-then);
       }
 
@@ -204,17 +199,18 @@ step-moves P r {x} e f = go (best P (viewOf P r)) refl
     go (some s) q = (s, q, ap (λ (y : Stepped). y .after) (e ∙ sym (step-some P r s q refl)))
 
 -- the loop's last two cases, by the step that it made
-module _ {P : Phase} {k : ℕ} {r₀ r : Stored} {made pen : ℕ} (t : Turn P k r₀ r made pen) (n : pen ≢ 0) (l : made ≢ k) {x : Stepped} (q : x ≡ steppedOf P r) where
+module _ {P : Phase} {past-zero : Bool} {k : ℕ} {r₀ r : Stored} {made pen : ℕ} (t : Turn P past-zero k r₀ r made pen) (n : stops past-zero pen ≡ false) (l : made ≢ k)
+    {x : Stepped} (q : x ≡ steppedOf P r) where
   below : made < k
   below = omega (arith, t .running .at-most, l)
 
-  pub stays-none : x .moved ≡ false → replyStored P k r₀ ≡ (ended End·none made pen [], r)
+  pub stays-none : x .moved ≡ false → replyStored P past-zero k r₀ ≡ (ended End·none made pen (cond (eqb pen 0) (P .letters ((viewOf P r) .slots)) []), r)
   stays-none m = ends-none t n below (step-stays P r q m)
 
-  pub moves-on : x .moved ≡ true → Running P k r₀ (x .after) (made + 1)
+  pub moves-on : x .moved ≡ true → Running P past-zero k r₀ (x .after) (made + 1)
   moves-on m =
       let y = step-moves P r q m in
-      subst (λ (z : Stored). Running P k r₀ z (made + 1)) (sym (y .2)) (goes-on t n below (y .0) (y .1))
+      subst (λ (z : Stored). Running P past-zero k r₀ z (made + 1)) (sym (y .2)) (goes-on t n below (y .0) (y .1))
 
 -- ---- one advance
 
@@ -223,7 +219,7 @@ module _ (P : Phase) (c : Call) (r : Stored) where
   unfolding advanceStored
   stored-refused n e = rw (e, advanceStored)
 
-  pub stored-goes : refusalStored P c r ≡ none → advanceStored P c r ≡ replyStored P (c .steps) r
+  pub stored-goes : refusalStored P c r ≡ none → advanceStored P c r ≡ replyStored P (c .past-zero) (c .steps) r
   unfolding advanceStored
   stored-goes e = rw (e, advanceStored)
 
@@ -258,45 +254,49 @@ module _ (P : Phase) (c : Call) (r : Stored) where
     unfolding refusalStored refusal
     asks-none g h = rw (e, f, g, h)
 
--- ---- demand 3 of advances over stored records
+-- ---- advances over stored records follow the history
 
 stored-steps : (P : Phase) (h : History) → (store (recordOf P h)) .steps ≡ length h
 unfolding store recordOf
 stored-steps P h = refl
 
 module _ (P : Phase) (w : Lawful P) (f : Fits P) where
-  recordOf-held : {h : History} → Grown P h → Held (P .nurses) (P .tabu) (recordOf P h)
-  unfolding recordOf
-  recordOf-held {h} g = record { none-past = none-past P g; count = removals-held P h }
+  module _ (h : History) (fit : Fit P h) where
+    recordOf-held : Held (P .nurses) (P .tabu) (recordOf P h)
+    unfolding recordOf
+    recordOf-held = record { none-past = fit .none-past; count = removals-held P h }
 
-  back : {h : History} → Grown P h → viewOf P (store (recordOf P h)) ≡ recordOf P h
-  back {h} g = view-store (P .nurses) (P .tabu) (recordOf P h) (recordOf-held g) (f .nurses-most)
+    back : viewOf P (store (recordOf P h)) ≡ recordOf P h
+    back = view-store (P .nurses) (P .tabu) (recordOf P h) recordOf-held (f .nurses-most)
 
-  sound-stored : {h : History} → Grown P h → soundStored P (store (recordOf P h)) ≡ true
-  unfolding soundStored
-  sound-stored {h} g =
-      ap₂ (λ (a b : Bool). a && b) (ap (sound P) (back g) ∙ sound-record P g) (unused-store (P .nurses) (P .tabu) (recordOf P h) (recordOf-held g))
+    sound-stored : soundStored P (store (recordOf P h)) ≡ true
+    unfolding soundStored
+    sound-stored =
+        ap₂ (λ (a b : Bool). a && b) (ap (sound P) back ∙ sound-record P h fit) (unused-store (P .nurses) (P .tabu) (recordOf P h) recordOf-held)
 
-  refusal-stored : {h : History} → Grown P h → (c : Call) → refusalStored P c (store (recordOf P h)) ≡ refusal P c (length h)
-  unfolding refusalStored
-  refusal-stored {h} g c =
-      rw (lacking-none P w, sound-stored g) (first-last (refusal P c ((store (recordOf P h)) .steps)) ∙ ap (refusal P c) (stored-steps P h))
+    refusal-stored : (c : Call) → refusalStored P c (store (recordOf P h)) ≡ refusal P c (length h)
+    unfolding refusalStored
+    refusal-stored c =
+        rw (lacking-none P w, sound-stored) (first-last (refusal P c ((store (recordOf P h)) .steps)) ∙ ap (refusal P c) (stored-steps P h))
 
-  reply-stored : {h : History} → Grown P h → (k : ℕ) → replyStored P k (store (recordOf P h)) ≡ ((reply P h (extend P k h)) .0, store (recordOf P ((reply P h (extend P k h)) .1)))
-  unfolding replyStored replyOf reply recordOf total penalty
-  reply-stored {h} g k = rw (back g, proceed-extend P w g k)
+    reply-stored : (past-zero : Bool) (k : ℕ)
+        → replyStored P past-zero k (store (recordOf P h)) ≡ ((reply P h (extend P past-zero k h)) .0, store (recordOf P ((reply P h (extend P past-zero k h)) .1)))
+    unfolding replyStored replyOf reply recordOf total penalty
+    reply-stored past-zero k = rw (back, proceed-extend P past-zero h k)
 
-  follows : (h : History) → Grown P h → (c : Call) → advanceStored P c (store (recordOf P h)) ≡ ((advance P c h) .0, store (recordOf P ((advance P c h) .1)))
-  follows h g c = go (refusal P c (length h)) refl
+  follows : (c : Call) (h : History) → Fit P h → advanceStored P c (store (recordOf P h)) ≡ ((advance P c h) .0, store (recordOf P ((advance P c h) .1)))
+  follows c h fit = go (refusal P c (length h)) refl
     where
       go : (o : Option Refusal) → refusal P c (length h) ≡ o → advanceStored P c (store (recordOf P h)) ≡ ((advance P c h) .0, store (recordOf P ((advance P c h) .1)))
       go none e =
-          stored-goes P c (store (recordOf P h)) (refusal-stored g c ∙ e) ∙ reply-stored g (c .steps)
+          stored-goes P c (store (recordOf P h)) (refusal-stored h fit c ∙ e) ∙ reply-stored h fit (c .past-zero) (c .steps)
           ∙ ap (λ (x : Answer × History). (x .0, store (recordOf P (x .1)))) (sym (advance-goes P c h e))
       go (some n) e =
-          stored-refused P c (store (recordOf P h)) n (refusal-stored g c ∙ e)
+          stored-refused P c (store (recordOf P h)) n (refusal-stored h fit c ∙ e)
           ∙ ap (λ (x : Answer × History). (x .0, store (recordOf P (x .1)))) (sym (advance-refused P c h n e))
 
-  -- demand 3, of the whole list of calls, by the advances that the published calls are
-  pub demand3-stored : (cs : List Call) → Demand3 P allZero (advanceStored P) store cs
-  demand3-stored = demand3-of P w allZero (advanceStored P) store (sym store-fresh ∙ ap store (fresh-record P)) follows
+  -- and so does a session of stored records
+  pub session-stored : (room : Bool) (ops : List Operation)
+      → inTurn (act (advanceStored P) room) ops (begun allZero) ≡ (answers P room ops, known store (known (recordOf P) (session P room ops)))
+  session-stored room ops =
+      ap (λ (r : Stored). inTurn (act (advanceStored P) room) ops (begun r)) (sym store-fresh) ∙ session-follows P room (advanceStored P) store follows ops

@@ -6,3 +6,4 @@ pub mod QuestionLaws
 pub mod SoundLaws
 pub mod TryLaws
 pub mod SeekLaws
+pub mod SizedLaws

@@ -16,7 +16,7 @@ use Rattle.history.specs.Phase.{Phase}
 use Rattle.history.specs.Record.{hers, names}
 use Rattle.numbers.proofs.RangeLaws.{both-true}
 use Rattle.history.proofs.TestLaws.{and-true, not-of-false}
-use Rattle.history.proofs.FollowLaws.{among-member, member-among}
+use Rattle.history.proofs.FitLaws.{among-member, member-among}
 use Rattle.removals.specs.Removals.{slot, noRemoval, slotZero, removalZero}
 use Rattle.removals.specs.declared.Removal.{Removal as StoredRemoval}
 use Rattle.search.specs.Stored.{slotAt, held, namesAt, unusedZero, soundStored, Sized}

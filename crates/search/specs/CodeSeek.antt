@@ -1,8 +1,9 @@
 -- The two searches that the code makes, by night and by day: what they cost, what a nurse tries, and which phases they serve.
 use Prim.Native.Nat.{ℕ, _+_, _-_, _≤_, _<_}
 use mathlib.Core.Path.{_≡_}
-use mathlib.Core.Bool.{true, false, not}
+use mathlib.Core.Bool.{true, false, cond, not}
 use mathlib.Core.List.{List, [], map}
+use lib.Dec.{eqb}
 use lib.ListN.{length, getD, take, drop}
 use Rattle.fields.specs.Sizes.{nursePlaces, tabuMost}
 use Rattle.numbers.specs.Range.{filter, Ascending}
@@ -24,7 +25,7 @@ use Rattle.penalty.specs.Penalty.{startsIn, workedIn, nightPenalty, dayPenalty}
 use Rattle.penalty.specs.CodeColumns.{Shows}
 use Rattle.penalty.specs.declared.columns.Columns.{Columns}
 use Rattle.trials.specs.CodeCosts.{ChunksSmall}
-use Rattle.history.specs.Phase.{Phase, Answer, ended, End·zero, End·asked, End·none}
+use Rattle.history.specs.Phase.{Phase, Answer, ended, End, End·zero, End·asked, End·none}
 use Rattle.search.specs.Stored.{slotAt, viewOf, soundStored}
 use Rattle.search.specs.declared.Ending.{Ending}
 use Rattle.search.specs.declared.Ending.the-variants.{Zero, Asked, None}
@@ -104,11 +105,12 @@ Served which w lists ends = (P : Phase) × Seeks which w lists ends P
 abbrev pub ServedSound : Search → List ℕ → List ℕ → List ℕ → Stored → Type 0
 ServedSound which w lists ends r = (P : Phase) × Seeks which w lists ends P × (soundStored P r ≡ true)
 
--- the answers of an advance that ended so, of the phase P
-abbrev pub answerWith : Phase → Stored → ℕ → ℕ → Ending → Answer
-answerWith P r made pen Zero = ended End·zero made pen (P .letters ((viewOf P r) .slots))
-answerWith P r made pen Asked = ended End·asked made pen []
-answerWith P r made pen None = ended End·none made pen []
+-- how an advance ended
+abbrev pub endBy : Ending → End
+endBy Zero = End·zero
+endBy Asked = End·asked
+endBy None = End·none
 
+-- the answers of an advance of the phase P: the letters go by the penalty that it leaves
 abbrev pub answerOf : Phase → Advanced → Answer
-answerOf P x = answerWith P (x .after) (x .steps) (x .penalty) (x .ending)
+answerOf P x = ended (endBy (x .ending)) (x .steps) (x .penalty) (cond (eqb (x .penalty) 0) (P .letters ((viewOf P (x .after)) .slots)) [])

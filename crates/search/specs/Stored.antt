@@ -79,13 +79,13 @@ unfoldable pub refusalStored : Phase → Call → Stored → Option Refusal
 refusalStored P c r =
     first (refusal P c (r .steps)) (first (lacking (P .patterns) (upFrom 0 (P .nurses))) (unless (soundStored P r) question.record-sound 0))
 
--- the answers of an advance of k steps that is not refused, and the record that it hands back
-unfoldable pub replyStored : Phase → ℕ → Stored → Answer × Stored
-replyStored P k r = let a = replyOf P (viewOf P r) (proceed P k (viewOf P r)) in (a .0, store (a .1))
+-- the answers of an advance of k steps, past zero or not, that is not refused, and the record that it hands back
+unfoldable pub replyStored : Phase → Bool → ℕ → Stored → Answer × Stored
+replyStored P past-zero k r = let a = replyOf P (viewOf P r) (proceed P past-zero k (viewOf P r)) in (a .0, store (a .1))
 
 -- what an advance answers, and the record that it hands back. A refused one hands back the record as it was
 unfoldable pub advanceStored : Phase → Call → Stored → Answer × Stored
-advanceStored P c r = elim (refusalStored P c r) [ some n ↦ (refused n, r) | none ↦ replyStored P (c .steps) r ]
+advanceStored P c r = elim (refusalStored P c r) [ some n ↦ (refused n, r) | none ↦ replyStored P (c .past-zero) (c .steps) r ]
 
 -- ---- sizes
 

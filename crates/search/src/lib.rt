@@ -12,7 +12,7 @@ ghost use mathlib.Core.Bool.{true};
 ghost use Prim.Native.Nat.{ℕ, _+_, _<_, _≤_};
 ghost use Rattle.fields.specs.Sizes.{nursePlaces, tabuMost};
 ghost use Rattle.fields.specs.Fields.{Accepted};
-ghost use Rattle.history.specs.Phase.{Phase};
+ghost use Rattle.history.specs.Phase.{Phase, stops};
 ghost use Rattle.search.specs.CodeSeek.{Lists, Seeks, Served, ServedSound, answerOf};
 ghost use Rattle.history.specs.Record.{mayTake};
 ghost use Rattle.search.specs.Stored.{view, allZero, unusedZero, Sized, soundStored, replyStored};
@@ -130,6 +130,16 @@ impl Record {
     }
 }
 
+// Penalty 0 ends an advance, unless it is to go on past zero.
+fn stops(past: bool, penalty: u64) -> bool
+    ensures { λ r. ⌜ r ≡ stops past penalty ⌝ }
+{
+    if past {
+        return false;
+    }
+    penalty == 0
+}
+
 impl Record {
     // One step, if there is an exchange to make.
     pub fn step(self, w: &[u64], lists: &[u32], stretches: Stretches) -> Stepped
@@ -155,21 +165,28 @@ impl Record {
         }
     }
 
-    // Up to k steps.
-    pub fn advance(self, w: &[u64], lists: &[u32], stretches: Stretches, k: u32) -> Advanced
+    // Up to k steps, past zero or not.
+    pub fn advance(
+        self,
+        w: &[u64],
+        lists: &[u32],
+        stretches: Stretches,
+        k: u32,
+        past: bool,
+    ) -> Advanced
         requires { ⌜ Accepted (now w) × Lists (stretches .search) (now w) (now lists) (stretches .ends) × (self .steps + k ≤ 1000000) ⌝ }
         requires { ⌜ ServedSound (stretches .search) (now w) (now lists) (stretches .ends) self ⌝ }
-        ensures { λ x. ⌜ ((P : Phase) → Seeks (stretches .search) (now (w .entry)) (now (lists .entry)) (stretches .ends) P → soundStored P self ≡ true → replyStored P k self ≡ (answerOf P x, x .after)) ⌝ }
+        ensures { λ x. ⌜ ((P : Phase) → Seeks (stretches .search) (now (w .entry)) (now (lists .entry)) (stretches .ends) P → soundStored P self ≡ true → replyStored P past k self ≡ (answerOf P x, x .after)) ⌝ }
     {
         let search = stretches.search;
         let mut after = self;
         let mut made: u32 = 0;
         loop {
             let penalty = slots::penalty_of(w, after, search);
-            if penalty == 0 {
+            if stops(past, penalty) {
                 return Advanced {
                     after,
-                    penalty: 0,
+                    penalty,
                     steps: made,
                     ending: Ending::Zero,
                 };

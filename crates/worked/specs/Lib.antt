@@ -1,3 +1,4 @@
 pub mod Worked
 pub mod PairsWorked
 pub mod Table
+pub mod KeptWorked

@@ -25,11 +25,12 @@ use Rattle.letters.specs.Letters.{letters, rowLettersOf, letter, isLetter, firs
 use Rattle.rostercheck.specs.Check.{lettered}
 use Rattle.rostercheck.specs.CodeCheck.{lettersIn, sameRow, rowHolds, rowsHold, groupHolds, dutyHolds, dayHolds, daysHold, holds}
 use Rattle.history.specs.Phase.{Step, ended, End·zero, End·asked, End·none, run, refusal, given}
-use Rattle.history.specs.History.{penalty, allowed, next, extend, reply, advance, answers, history}
+use Rattle.history.specs.History.{penalty, allowed, next, extend, reply, advance}
+use Rattle.history.specs.Session.{advanced, act, answers, session}
 use Rattle.phases.specs.Phases.{nightPhase, dayPhase, nightOf, nightsOpen, commonFits, listsFit}
 use Rattle.outcomes.specs.declared.Checked.the-variants.{Passed, Broken}
 use Rattle.planner.specs.Answers.{checkLetters, checkOver, checkSays}
-use Rattle.worked.specs.Worked.{call, ones, after, refuses}
+use Rattle.worked.specs.Worked.{call, answersTo, historyOf, ones, after, refuses}
 
 abbrev did : ℕ → ℕ → ℕ → Step
 did i p k = record { nurse = i; pattern = pattern p k }
@@ -67,34 +68,34 @@ pub record PairsWorked : Type 0 where
   pub patterns-1 : patternList pairsWard 0 ≡ pattern 0 1 ∷ pattern 0 2 ∷ pattern 1 2 ∷ pattern 8 1 ∷ []
   pub patterns-2 : patternList pairsWard 1 ≡ pattern 0 1 ∷ pattern 0 2 ∷ pattern 1 2 ∷ []
   -- by night: from 20,000,001, nurse 1 takes 1 with pair 2; no room for the common list; nurse 2 takes 0 with pair 2, and the penalty is 0
-  pub night-answers : answers (nightPhase pairsWard) (call 0 5 ∷ call 1 5 ∷ call 1 4 ∷ call 5 5 ∷ [])
-      ≡ ended End·asked 0 20000001 [] ∷ after 10000000 ∷ refuses 9 0 ∷ ended End·zero 1 0 [] ∷ []
-  pub night-steps : history (nightPhase pairsWard) (call 1000 5 ∷ []) ≡ did 1 0 2 ∷ did 0 1 2 ∷ []
+  pub night-answers : answersTo (nightPhase pairsWard) (call 0 5 ∷ call 1 5 ∷ call 1 4 ∷ call 5 5 ∷ [])
+      ≡ map advanced (ended End·asked 0 20000001 [] ∷ after 10000000 ∷ refuses 9 0 ∷ ended End·zero 1 0 [] ∷ [])
+  pub night-steps : historyOf (nightPhase pairsWard) (call 1000 5 ∷ []) ≡ did 1 0 2 ∷ did 0 1 2 ∷ []
   -- with pair 1 she would be off on day 2, which needs a nurse by day
   pub other-pair : penalty (nightPhase pairsWard) (did 1 0 1 ∷ did 0 1 2 ∷ []) ≡ 1
   -- by day over those nights
   pub days-1 : dayList pairsWard 0 (pattern 1 2) ≡ 0 ∷ []
   pub days-2 : dayList pairsWard 1 (pattern 0 2) ≡ 0 ∷ 1 ∷ 2 ∷ 3 ∷ []
-  pub day-answers : answers (dayPhase pairsWard (nightOf nights)) (call 0 5 ∷ call 1 5 ∷ call 1 4 ∷ call 9 5 ∷ [])
-      ≡ ended End·asked 0 20000002 [] ∷ after 10000000 ∷ refuses 9 2 ∷ ended End·zero 1 0 roster ∷ []
-  pub day-steps : history (dayPhase pairsWard (nightOf nights)) (call 9 5 ∷ []) ≡ did 0 0 0 ∷ did 1 3 0 ∷ []
+  pub day-answers : answersTo (dayPhase pairsWard (nightOf nights)) (call 0 5 ∷ call 1 5 ∷ call 1 4 ∷ call 9 5 ∷ [])
+      ≡ map advanced (ended End·asked 0 20000002 [] ∷ after 10000000 ∷ refuses 9 2 ∷ ended End·zero 1 0 roster ∷ [])
+  pub day-steps : historyOf (dayPhase pairsWard (nightOf nights)) (call 9 5 ∷ []) ≡ did 0 0 0 ∷ did 1 3 0 ∷ []
   -- question 8: a pair with which the penalty is 1; no pair, where the penalty is 0, but no pattern of hers has none
-  pub not-at-zero : answers (dayPhase pairsWard (nightOf (pattern 1 2 ∷ pattern 0 1 ∷ []))) (call 1 5 ∷ []) ≡ refuses 8 0 ∷ []
+  pub not-at-zero : answersTo (dayPhase pairsWard (nightOf (pattern 1 2 ∷ pattern 0 1 ∷ []))) (call 1 5 ∷ []) ≡ map advanced (refuses 8 0 ∷ [])
   pub unpaired-penalty : nightPenalty pairsWard (λ i. some (nightOf (map unpaired (1 ∷ 0 ∷ [])) i)) ≡ 0
-  pub not-hers : answers (dayPhase pairsWard (nightOf (map unpaired (1 ∷ 0 ∷ [])))) (call 1 5 ∷ []) ≡ refuses 8 0 ∷ []
+  pub not-hers : answersTo (dayPhase pairsWard (nightOf (map unpaired (1 ∷ 0 ∷ [])))) (call 1 5 ∷ []) ≡ map advanced (refuses 8 0 ∷ [])
   -- the check: the roster; Nn/- and --//, where nurse 1 has no pair at rest, which is fine in the same ward without pairs
   pub roster-checked : checkSays pairsFile roster ≡ Passed
   pub no-pair-at-rest : checkSays pairsFile (78 ∷ 110 ∷ 47 ∷ 45 ∷ 45 ∷ 45 ∷ 47 ∷ 47 ∷ []) ≡ Broken
   pub fine-without : checkSays (bodyOf toPairs) (78 ∷ 110 ∷ 47 ∷ 45 ∷ 45 ∷ 45 ∷ 47 ∷ 47 ∷ []) ≡ Passed
   -- night pattern and pair together are in use, given up and least: the same nights with another pair are another pattern
-  pub together : history (nightPhase oneNurse) (call 5 5 ∷ []) ≡ did 0 0 2 ∷ did 0 0 1 ∷ did 0 8 1 ∷ did 0 0 2 ∷ did 0 0 1 ∷ []
-  pub together-answers : answers (nightPhase oneNurse) (ones 5 5) ≡ after 2 ∷ after 2 ∷ after 3 ∷ after 2 ∷ after 2 ∷ []
+  pub together : historyOf (nightPhase oneNurse) (call 5 5 ∷ []) ≡ did 0 0 2 ∷ did 0 0 1 ∷ did 0 8 1 ∷ did 0 0 2 ∷ did 0 0 1 ∷ []
+  pub together-answers : answersTo (nightPhase oneNurse) (ones 5 5) ≡ map advanced (after 2 ∷ after 2 ∷ after 3 ∷ after 2 ∷ after 2 ∷ [])
   -- "none": each nurse has one pattern
-  pub none-answers : answers (nightPhase workedPair) (call 9 4 ∷ call 1 4 ∷ []) ≡ ended End·none 2 2 [] ∷ ended End·none 0 2 [] ∷ []
-  pub none-steps : history (nightPhase workedPair) (call 9 4 ∷ []) ≡ did 1 0 1 ∷ did 0 0 1 ∷ []
+  pub none-answers : answersTo (nightPhase workedPair) (call 9 4 ∷ call 1 4 ∷ []) ≡ map advanced (ended End·none 2 2 [] ∷ ended End·none 0 2 [] ∷ [])
+  pub none-steps : historyOf (nightPhase workedPair) (call 9 4 ∷ []) ≡ did 1 0 1 ∷ did 0 0 1 ∷ []
 
 pub pairs-worked : PairsWorked
-unfolding toPairs workedWard encode decode read check failedBy bytesOf readWard bodyOf nightPhase dayPhase nightsOpen commonFits listsFit firstOver upTo answers history advance reply extend run refusal given next penalty allowed common hers inCommon starts follow shifted through lastRun marksAllow sumTo numberOf filter all upFrom blockAt block groupsAt memberSets needsAt needs tailAt pattern daysOf pairOf pairNumbers inPair atRestOn pairFits freeOn ownPattern withPairs patternList rowState availableOn dutyOn onDuty members shortOn overOn unplacedIn nightParts nightPenalty dayParts dayPenalty dayList dayRule choice rowDuty same anyOf freeOf windowsHold rests letters rowLettersOf letter isLetter firstBad misplaced checkLetters checkOver holds rowsHold rowHolds lettersIn sameRow daysHold dayHolds dutyHolds groupHolds lettered
+unfolding toPairs workedWard encode decode read check failedBy bytesOf readWard bodyOf nightPhase dayPhase nightsOpen commonFits listsFit firstOver upTo act answers session advance reply extend run refusal given next penalty allowed common hers inCommon starts follow shifted through lastRun marksAllow sumTo numberOf filter all upFrom blockAt block groupsAt memberSets needsAt needs tailAt pattern daysOf pairOf pairNumbers inPair atRestOn pairFits freeOn ownPattern withPairs patternList rowState availableOn dutyOn onDuty members shortOn overOn unplacedIn nightParts nightPenalty dayParts dayPenalty dayList dayRule choice rowDuty same anyOf freeOf windowsHold rests letters rowLettersOf letter isLetter firstBad misplaced checkLetters checkOver holds rowsHold rowHolds lettersIn sameRow daysHold dayHolds dutyHolds groupHolds lettered
 pairs-worked = record {
   file-read = refl;
   common-list = refl;

@@ -26,8 +26,9 @@ use Rattle.letters.specs.Letters.{letters, rowLettersOf, letter, isLetter, firs
 use Rattle.rostercheck.specs.Check.{lettered}
 use Rattle.rostercheck.specs.CodeCheck.{lettersIn, sameRow, rowHolds, rowsHold, groupHolds, dutyHolds, dayHolds, daysHold, holds}
 use Rattle.refusals.specs.Refusals.{numbered}
-use Rattle.history.specs.Phase.{Step, Call, Answer, refused, ended, End·zero, End·asked, End·none, run, refusal, given, inTurn}
-use Rattle.history.specs.History.{History, penalty, allowed, next, extend, reply, advance, answers, history}
+use Rattle.history.specs.Phase.{Step, Phase, Call, Answer, refused, ended, End·zero, End·asked, End·none, run, refusal, given, inTurn}
+use Rattle.history.specs.History.{History, penalty, allowed, next, extend, reply, advance}
+use Rattle.history.specs.Session.{Operation·advance, Answered, advanced, act, answers, session}
 use Rattle.history.specs.Record.{recordOf, mayTake, total, best, stepped, sound, proceed, replyOf}
 use Rattle.removals.specs.Removals.{noRemoval}
 use Rattle.search.specs.Stored.{view, store, allZero, unusedZero, soundStored, refusalStored, replyStored, advanceStored}
@@ -37,8 +38,16 @@ use Rattle.outcomes.specs.declared.Checked.{Checked}
 use Rattle.outcomes.specs.declared.Checked.the-variants.{Refused, Passed, Broken}
 use Rattle.planner.specs.Answers.{checkLetters, checkOver, checkSays}
 
+-- an advance of up to k steps with n places
 abbrev pub call : ℕ → ℕ → Call
-call k n = record { steps = k; places = n }
+call k n = record { steps = k; places = n; past-zero = false }
+
+-- what a list of advances answers, and the history that it leaves
+abbrev pub answersTo : Phase → List Call → List Answered
+answersTo P cs = answers P true (map Operation·advance cs)
+
+abbrev pub historyOf : Phase → List Call → History
+historyOf P cs = session P true (map Operation·advance cs) .in-hand
 
 abbrev did : ℕ → ℕ → Step
 did i p = record { nurse = i; pattern = unpaired p }
@@ -78,9 +87,9 @@ pub record WorkedThrough : Type 0 where
   pub night-first : next (nightPhase workedWard) [] ≡ some (did 0 1)
   pub night-second : next (nightPhase workedWard) (did 0 1 ∷ []) ≡ some (did 1 0)
   -- no step asked, one, too many asked, no room for the common list, as many as there are, and zero as before
-  pub night-answers : answers (nightPhase workedWard) (call 0 4 ∷ call 1 4 ∷ call 10001 4 ∷ call 1 3 ∷ call 5 4 ∷ call 5 4 ∷ [])
-      ≡ ended End·asked 0 20000001 [] ∷ ended End·asked 1 10000000 [] ∷ refuses 7 0 ∷ refuses 9 0 ∷ ended End·zero 1 0 [] ∷ ended End·zero 0 0 [] ∷ []
-  pub night-steps : history (nightPhase workedWard) (call 1000 16384 ∷ []) ≡ did 1 0 ∷ did 0 1 ∷ []
+  pub night-answers : answersTo (nightPhase workedWard) (call 0 4 ∷ call 1 4 ∷ call 10001 4 ∷ call 1 3 ∷ call 5 4 ∷ call 5 4 ∷ [])
+      ≡ map advanced (ended End·asked 0 20000001 [] ∷ ended End·asked 1 10000000 [] ∷ refuses 7 0 ∷ refuses 9 0 ∷ ended End·zero 1 0 [] ∷ ended End·zero 0 0 [] ∷ [])
+  pub night-steps : historyOf (nightPhase workedWard) (call 1000 16384 ∷ []) ≡ did 1 0 ∷ did 0 1 ∷ []
   -- by the stored record, from the file's bytes
   pub night-stored : inTurn (advanceNights workedWard) (call 1 4 ∷ call 10001 4 ∷ call 10000 4 ∷ []) allZero
       ≡ (ended End·asked 1 10000000 [] ∷ refuses 7 0 ∷ ended End·zero 1 0 [] ∷ [], store (recordOf (nightPhase workedWard) (did 1 0 ∷ did 0 1 ∷ [])))
@@ -91,9 +100,9 @@ pub record WorkedThrough : Type 0 where
   pub stored-given-up : take 3 ((store (recordOf (nightPhase workedWard) (did 0 2 ∷ did 1 0 ∷ did 0 1 ∷ []))) .removals)
       ≡ record { nurse = 1; has = true; pattern = unpaired 1 } ∷ record { nurse = 2; has = false; pattern = 0 } ∷ noRemoval ∷ []
   -- by day over those nights: from 20,000,002, nurse 2 takes 3, 10,000,000; nurse 1 takes 0, and the roster is given out
-  pub day-answers : answers (dayPhase workedWard (nightOf nights)) (call 0 5 ∷ call 1 5 ∷ call 1 4 ∷ call 9 5 ∷ [])
-      ≡ ended End·asked 0 20000002 [] ∷ ended End·asked 1 10000000 [] ∷ refuses 9 2 ∷ ended End·zero 1 0 roster ∷ []
-  pub day-steps : history (dayPhase workedWard (nightOf nights)) (call 9 5 ∷ []) ≡ did 0 0 ∷ did 1 3 ∷ []
+  pub day-answers : answersTo (dayPhase workedWard (nightOf nights)) (call 0 5 ∷ call 1 5 ∷ call 1 4 ∷ call 9 5 ∷ [])
+      ≡ map advanced (ended End·asked 0 20000002 [] ∷ ended End·asked 1 10000000 [] ∷ refuses 9 2 ∷ ended End·zero 1 0 roster ∷ [])
+  pub day-steps : historyOf (dayPhase workedWard (nightOf nights)) (call 9 5 ∷ []) ≡ did 0 0 ∷ did 1 3 ∷ []
   -- the check of the roster; with a letter of none of the five after the six; with a letter too few
   pub roster-checked : checkSays workedWard roster ≡ Passed
   pub extra-letter : checkSays workedWard (78 ∷ 110 ∷ 47 ∷ 45 ∷ 45 ∷ 47 ∷ 47 ∷ 48 ∷ []) ≡ checkRefuses 12 7
@@ -103,7 +112,7 @@ pub record WorkedThrough : Type 0 where
   pub row-unfollowed : checkSays workedWard (78 ∷ 110 ∷ 43 ∷ 45 ∷ 45 ∷ 47 ∷ []) ≡ Broken
 
 pub worked-through : WorkedThrough
-unfolding workedWard encode decode read check failedBy bytesOf readWard checkWard nightPhase dayPhase nightsOpen commonFits listsFit firstOver upTo answers history advance reply extend run refusal given next penalty allowed advanceOver advanceStored refusalStored replyStored soundStored unusedZero view store recordOf proceed replyOf best total mayTake stepped sound common nightList hers inCommon starts follow shifted through lastRun marksAllow sumTo numberOf filter all upFrom blockAt block groupsAt memberSets needsAt needs tailAt bodyOf pattern daysOf pairOf pairNumbers inPair atRestOn pairFits freeOn ownPattern withPairs patternList rowState availableOn dutyOn onDuty members shortOn overOn unplacedIn nightParts nightPenalty dayParts dayPenalty dayList dayRule choice rowDuty same anyOf freeOf windowsHold rests letters rowLettersOf letter isLetter firstBad misplaced checkLetters checkOver holds rowsHold rowHolds lettersIn sameRow daysHold dayHolds dutyHolds groupHolds lettered
+unfolding workedWard encode decode read check failedBy bytesOf readWard checkWard nightPhase dayPhase nightsOpen commonFits listsFit firstOver upTo act answers session advance reply extend run refusal given next penalty allowed advanceOver advanceStored refusalStored replyStored soundStored unusedZero view store recordOf proceed replyOf best total mayTake stepped sound common nightList hers inCommon starts follow shifted through lastRun marksAllow sumTo numberOf filter all upFrom blockAt block groupsAt memberSets needsAt needs tailAt bodyOf pattern daysOf pairOf pairNumbers inPair atRestOn pairFits freeOn ownPattern withPairs patternList rowState availableOn dutyOn onDuty members shortOn overOn unplacedIn nightParts nightPenalty dayParts dayPenalty dayList dayRule choice rowDuty same anyOf freeOf windowsHold rests letters rowLettersOf letter isLetter firstBad misplaced checkLetters checkOver holds rowsHold rowHolds lettersIn sameRow daysHold dayHolds dutyHolds groupHolds lettered
 worked-through = record {
   file-read = refl;
   numbers-checked = refl;
@@ -163,10 +172,10 @@ pub record SecondWorked : Type 0 where
   pub no-days : dayPenalty secondWard (λ i. some (unpaired 0)) ≡ 16
   pub all-days : dayPenalty secondWard (λ i. some (unpaired 63)) ≡ 4
   -- by night: step by step to zero; then too many asked, no room for the common list, and zero as before
-  pub night-answers : answers (nightPhase secondWard) (call 0 14 ∷ ones 9 14 ++ (call 10001 14 ∷ call 1 13 ∷ call 1 14 ∷ []))
-      ≡ ended End·asked 0 30000005 [] ∷ after 20000000 ∷ after 10000000 ∷ after 5 ∷ after 5 ∷ after 5 ∷ after 8 ∷ after 11 ∷ after 3
-      ∷ ended End·zero 1 0 [] ∷ refuses 7 0 ∷ refuses 9 0 ∷ ended End·zero 0 0 [] ∷ []
-  pub night-steps : history (nightPhase secondWard) (call 100 14 ∷ []) ≡ did 0 1 ∷ eightSteps
+  pub night-answers : answersTo (nightPhase secondWard) (call 0 14 ∷ ones 9 14 ++ (call 10001 14 ∷ call 1 13 ∷ call 1 14 ∷ []))
+      ≡ map advanced (ended End·asked 0 30000005 [] ∷ after 20000000 ∷ after 10000000 ∷ after 5 ∷ after 5 ∷ after 5 ∷ after 8 ∷ after 11 ∷ after 3
+      ∷ ended End·zero 1 0 [] ∷ refuses 7 0 ∷ refuses 9 0 ∷ ended End·zero 0 0 [] ∷ [])
+  pub night-steps : historyOf (nightPhase secondWard) (call 100 14 ∷ []) ≡ did 0 1 ∷ eightSteps
   -- After six steps nurse 1 may not take pattern 1, which she gave up in the last four, though it would leave the least penalty; after eight she may.
   pub barred : allowed (nightPhase secondWard) sixSteps 0 (unpaired 1) ≡ false
   pub barred-penalty : penalty (nightPhase secondWard) (did 0 1 ∷ sixSteps) ≡ 5
@@ -182,23 +191,23 @@ pub record SecondWorked : Type 0 where
   pub days-1 : dayList secondWard 0 (unpaired 1) ≡ 8 ∷ 16 ∷ 24 ∷ 32 ∷ 40 ∷ 48 ∷ []
   pub days-2 : dayList secondWard 1 (unpaired 8) ≡ 4 ∷ []
   pub days-3 : dayList secondWard 2 (unpaired 32) ≡ 18 ∷ []
-  pub day-answers : answers (dayPhase secondWard (nightOf secondNights)) (call 0 8 ∷ ones 5 8 ++ (call 1 7 ∷ call 1 3 ∷ []))
-      ≡ ended End·asked 0 30000011 [] ∷ after 20000004 ∷ after 10000001 ∷ after 1 ∷ after 1 ∷ after 1 ∷ refuses 9 3 ∷ refuses 9 1 ∷ []
+  pub day-answers : answersTo (dayPhase secondWard (nightOf secondNights)) (call 0 8 ∷ ones 5 8 ++ (call 1 7 ∷ call 1 3 ∷ []))
+      ≡ map advanced (ended End·asked 0 30000011 [] ∷ after 20000004 ∷ after 10000001 ∷ after 1 ∷ after 1 ∷ after 1 ∷ refuses 9 3 ∷ refuses 9 1 ∷ [])
   -- over other nights at penalty zero, where nurse 1 starts on day 5: no exchange is left after five steps
   pub none-days-1 : dayList secondWard 0 (unpaired 16) ≡ 4 ∷ 8 ∷ 12 ∷ []
-  pub none-answers : answers (dayPhase secondWard (nightOf (map unpaired (16 ∷ 8 ∷ 32 ∷ [])))) (call 0 5 ∷ ones 4 5 ++ (call 100 5 ∷ call 1 5 ∷ []))
-      ≡ ended End·asked 0 30000011 [] ∷ after 20000004 ∷ after 10000001 ∷ after 1 ∷ after 1 ∷ ended End·none 1 4 [] ∷ ended End·none 0 4 [] ∷ []
-  pub none-steps : history (dayPhase secondWard (nightOf (map unpaired (16 ∷ 8 ∷ 32 ∷ [])))) (call 100 5 ∷ [])
+  pub none-answers : answersTo (dayPhase secondWard (nightOf (map unpaired (16 ∷ 8 ∷ 32 ∷ [])))) (call 0 5 ∷ ones 4 5 ++ (call 100 5 ∷ call 1 5 ∷ []))
+      ≡ map advanced (ended End·asked 0 30000011 [] ∷ after 20000004 ∷ after 10000001 ∷ after 1 ∷ after 1 ∷ ended End·none 1 4 [] ∷ ended End·none 0 4 [] ∷ [])
+  pub none-steps : historyOf (dayPhase secondWard (nightOf (map unpaired (16 ∷ 8 ∷ 32 ∷ [])))) (call 100 5 ∷ [])
       ≡ did 0 4 ∷ did 0 12 ∷ did 1 4 ∷ did 0 8 ∷ did 2 18 ∷ []
   -- question 8: nights that are not at penalty zero; nights at zero, but nurse 1 has fewer than her least
-  pub not-at-zero : answers (dayPhase secondWard (nightOf (map unpaired (1 ∷ 40 ∷ 1 ∷ [])))) (call 1 10 ∷ call 10001 10 ∷ call 0 0 ∷ []) ≡ refuses 8 0 ∷ refuses 7 0 ∷ refuses 8 0 ∷ []
+  pub not-at-zero : answersTo (dayPhase secondWard (nightOf (map unpaired (1 ∷ 40 ∷ 1 ∷ [])))) (call 1 10 ∷ call 10001 10 ∷ call 0 0 ∷ []) ≡ map advanced (refuses 8 0 ∷ refuses 7 0 ∷ refuses 8 0 ∷ [])
   pub not-hers-penalty : nightPenalty secondWard (λ i. some (nightOf (map unpaired (0 ∷ 8 ∷ 32 ∷ [])) i)) ≡ 0
-  pub not-hers : answers (dayPhase secondWard (nightOf (map unpaired (0 ∷ 8 ∷ 32 ∷ [])))) (call 1 10 ∷ []) ≡ refuses 8 0 ∷ []
+  pub not-hers : answersTo (dayPhase secondWard (nightOf (map unpaired (0 ∷ 8 ∷ 32 ∷ [])))) (call 1 10 ∷ []) ≡ map advanced (refuses 8 0 ∷ [])
   -- re-dated, over the same nights: step by step to the roster
   pub redated-days-3 : dayList redatedWard 2 (unpaired 32) ≡ 2 ∷ 4 ∷ 16 ∷ 18 ∷ []
-  pub redated-answers : answers (dayPhase redatedWard (nightOf secondNights)) (call 0 11 ∷ ones 5 11 ++ (call 1 10 ∷ []))
-      ≡ ended End·asked 0 30000011 [] ∷ after 20000004 ∷ after 10000001 ∷ after 1 ∷ after 1 ∷ ended End·zero 1 0 secondRoster ∷ refuses 9 3 ∷ []
-  pub redated-steps : history (dayPhase redatedWard (nightOf secondNights)) (call 100 11 ∷ []) ≡ did 2 2 ∷ did 0 24 ∷ did 1 4 ∷ did 0 8 ∷ did 2 18 ∷ []
+  pub redated-answers : answersTo (dayPhase redatedWard (nightOf secondNights)) (call 0 11 ∷ ones 5 11 ++ (call 1 10 ∷ []))
+      ≡ map advanced (ended End·asked 0 30000011 [] ∷ after 20000004 ∷ after 10000001 ∷ after 1 ∷ after 1 ∷ ended End·zero 1 0 secondRoster ∷ refuses 9 3 ∷ [])
+  pub redated-steps : historyOf (dayPhase redatedWard (nightOf secondNights)) (call 100 11 ∷ []) ≡ did 2 2 ∷ did 0 24 ∷ did 1 4 ∷ did 0 8 ∷ did 2 18 ∷ []
   pub redated-stored : (inTurn (advanceDays redatedWard secondNights) (call 100 11 ∷ []) allZero) .0 ≡ ended End·zero 5 0 secondRoster ∷ []
   -- the check of the roster
   pub roster-checked : checkSays redatedWard secondRoster ≡ Passed
@@ -216,7 +225,7 @@ pub record SecondWorked : Type 0 where
   pub above-high : checkSays redatedWard (set secondRoster 16 45) ≡ Broken
 
 pub second-worked : SecondWorked
-unfolding secondWard encode decode read check failedBy bytesOf readWard checkWard nightPhase dayPhase nightsOpen commonFits listsFit firstOver upTo answers history advance reply extend run refusal given next penalty allowed advanceOver advanceStored refusalStored replyStored soundStored unusedZero view store recordOf proceed replyOf best total mayTake stepped sound common nightList hers inCommon starts follow shifted through lastRun marksAllow sumTo numberOf filter all upFrom blockAt block groupsAt memberSets needsAt needs tailAt bodyOf pattern daysOf pairOf pairNumbers inPair atRestOn pairFits freeOn ownPattern withPairs patternList rowState availableOn dutyOn onDuty members shortOn overOn unplacedIn nightParts nightPenalty dayParts dayPenalty dayList dayRule choice rowDuty same anyOf freeOf windowsHold rests letters rowLettersOf letter isLetter firstBad misplaced checkLetters checkOver holds rowsHold rowHolds lettersIn sameRow daysHold dayHolds dutyHolds groupHolds lettered
+unfolding secondWard encode decode read check failedBy bytesOf readWard checkWard nightPhase dayPhase nightsOpen commonFits listsFit firstOver upTo act answers session advance reply extend run refusal given next penalty allowed advanceOver advanceStored refusalStored replyStored soundStored unusedZero view store recordOf proceed replyOf best total mayTake stepped sound common nightList hers inCommon starts follow shifted through lastRun marksAllow sumTo numberOf filter all upFrom blockAt block groupsAt memberSets needsAt needs tailAt bodyOf pattern daysOf pairOf pairNumbers inPair atRestOn pairFits freeOn ownPattern withPairs patternList rowState availableOn dutyOn onDuty members shortOn overOn unplacedIn nightParts nightPenalty dayParts dayPenalty dayList dayRule choice rowDuty same anyOf freeOf windowsHold rests letters rowLettersOf letter isLetter firstBad misplaced checkLetters checkOver holds rowsHold rowHolds lettersIn sameRow daysHold dayHolds dutyHolds groupHolds lettered
 second-worked = record {
   file-read = refl;
   written-back = refl;

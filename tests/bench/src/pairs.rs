@@ -5,7 +5,7 @@ use crate::measure::least;
 use crate::subjects::PLACES;
 use compare::calls::*;
 use compare::case::{make, Case, Left};
-use compare::rounds::FRESH;
+use compare::words::FRESH;
 use std::time::Duration;
 
 /// A ward in edition one, and the same with pairs in edition two.
@@ -39,7 +39,8 @@ pub fn all() -> [Twin; 2] {
 
 /// A night advance from fresh: what it leaves, and its time.
 pub fn nights(planner: &dyn Calls, file: &[u8], k: u32) -> (Left, Duration) {
-    let case = Case::Nights { file: file.to_vec(), record: FRESH, k, places: PLACES };
+    let ask = Ask::plain(k);
+    let case = Case::Nights { file: file.to_vec(), record: FRESH, ask, places: PLACES };
     let (left, time) = make(planner, &case);
     assert_eq!(left.answer()[QUESTION], 0, "refused: {case:?}");
     (left, time)

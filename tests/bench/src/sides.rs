@@ -5,8 +5,7 @@ use crate::baseline::{self, Advanced, Baseline};
 use crate::subjects::{Subject, PLACES};
 use compare::calls::*;
 use compare::case::{make, Case, Left};
-use compare::rounds::FRESH;
-use compare::words::FLAGS;
+use compare::words::{FLAGS, FRESH};
 use std::hint::black_box;
 use std::time::{Duration, Instant};
 
@@ -47,8 +46,8 @@ impl Sides<'_> {
     }
 
     pub fn nights(&self, k: u32) -> Times {
-        let file = self.subject.file;
-        let case = Case::Nights { file: file.to_vec(), record: FRESH, k, places: PLACES };
+        let (file, ask) = (self.subject.file, Ask::plain(k));
+        let case = Case::Nights { file: file.to_vec(), record: FRESH, ask, places: PLACES };
         let [kept, same] = BASELINES.map(|baseline| {
             move |given: &mut Option<Advanced>| {
                 *given = Some(baseline.by_night(file, k, PLACES).expect("no refusal"));
@@ -58,11 +57,11 @@ impl Sides<'_> {
     }
 
     pub fn days(&self, nights: &[u32], k: u32) -> Times {
-        let file = self.subject.file;
+        let (file, ask) = (self.subject.file, Ask::plain(k));
         let mut lent = [0; NIGHTS];
         lent[..nights.len()].copy_from_slice(nights);
         let case =
-            Case::Days { file: file.to_vec(), nights: lent, record: FRESH, k, places: PLACES };
+            Case::Days { file: file.to_vec(), nights: lent, record: FRESH, ask, places: PLACES };
         let [kept, same] = BASELINES.map(|baseline| {
             move |given: &mut Option<Advanced>| {
                 *given = Some(baseline.by_day(file, nights, k, PLACES).expect("no refusal"));

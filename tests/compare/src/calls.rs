@@ -1,4 +1,4 @@
-//! The five calls of the C interface, as safe Rust.
+//! The seven calls of the C interface, as safe Rust.
 
 /// Places for a ward's numbers.
 pub const NUMBERS: usize = 4441;
@@ -9,6 +9,10 @@ pub const RECORD: usize = 401;
 pub const NIGHTS: usize = 2 * NURSES;
 /// Most letters of a roster.
 pub const ROSTER: usize = 1488;
+/// Words of an entry of the storage: one that is 0 where nothing is kept, then a record's.
+pub const ENTRY: usize = RECORD + 1;
+/// Words that a storage must have, eight entries.
+pub const STORAGE: usize = 8 * ENTRY;
 
 pub type Numbers = [u64; NUMBERS];
 pub type Words = [u32; RECORD];
@@ -32,6 +36,23 @@ pub const NONE: u64 = 3;
 pub const YES: u64 = 1;
 pub const NO: u64 = 2;
 
+/// What an advance is asked: at most k steps, past zero where the word is not 0.
+#[derive(Clone, Copy, Debug, PartialEq, Eq)]
+pub struct Ask {
+    pub k: u32,
+    pub past_zero: u32,
+}
+
+impl Ask {
+    pub fn plain(k: u32) -> Ask {
+        Ask { k, past_zero: 0 }
+    }
+
+    pub fn past(k: u32) -> Ask {
+        Ask { k, past_zero: 1 }
+    }
+}
+
 /// The memory lent to an advance.
 pub struct Handed<'a> {
     pub record: &'a mut Words,
@@ -41,14 +62,27 @@ pub struct Handed<'a> {
     pub answer: &'a mut Answer,
 }
 
+/// The memory lent to a keeping, which may not write the record, or to a return, which may not write
+/// the storage. Both can be written here, so that it is seen where a call does.
+pub struct Stored<'a> {
+    pub record: &'a mut Words,
+    pub storage: &'a mut [u32],
+    pub answer: &'a mut Answer,
+}
+
 pub trait Calls: Sync {
     fn read(&self, file: &[u8], numbers: &mut Numbers, answer: &mut Answer);
 
     fn write(&self, numbers: &Numbers, count: u64, buffer: &mut [u8], answer: &mut Answer);
 
-    fn advance_nights(&self, file: &[u8], k: u32, handed: Handed);
+    fn advance_nights(&self, file: &[u8], ask: Ask, handed: Handed);
 
-    fn advance_days(&self, file: &[u8], nights: &Nights, k: u32, handed: Handed);
+    fn advance_days(&self, file: &[u8], nights: &Nights, ask: Ask, handed: Handed);
 
     fn check(&self, file: &[u8], roster: &[u8], answer: &mut Answer);
+
+    fn keep(&self, number: u32, stored: Stored);
+
+    /// `pantheryl_return`.
+    fn bring_back(&self, number: u32, stored: Stored);
 }

@@ -8,9 +8,11 @@ use std::time::{Duration, Instant};
 pub enum Case {
     Read { file: Vec<u8> },
     Write { numbers: Box<Numbers>, count: u64, room: usize },
-    Nights { file: Vec<u8>, record: Words, k: u32, places: usize },
-    Days { file: Vec<u8>, nights: Nights, record: Words, k: u32, places: usize },
+    Nights { file: Vec<u8>, record: Words, ask: Ask, places: usize },
+    Days { file: Vec<u8>, nights: Nights, record: Words, ask: Ask, places: usize },
     Check { file: Vec<u8>, roster: Vec<u8> },
+    Keep { record: Words, number: u32, storage: Vec<u32> },
+    Return { record: Words, number: u32, storage: Vec<u32> },
 }
 
 impl Case {
@@ -21,6 +23,8 @@ impl Case {
             Case::Nights { .. } => "advance_nights",
             Case::Days { .. } => "advance_days",
             Case::Check { .. } => "check",
+            Case::Keep { .. } => "keep",
+            Case::Return { .. } => "return",
         }
     }
 }
@@ -35,6 +39,7 @@ pub struct Left {
     pub buffer: Lent<u32>,
     pub record: Lent<u32>,
     pub letters: Lent<u8>,
+    pub storage: Lent<u32>,
     /// read only
     pub file: Lent<u8>,
     /// read only
@@ -154,27 +159,39 @@ fn lend(case: &Case) -> Left {
             left.file = Lent::holding(file);
             left.letters = Lent::holding(roster);
         }
+        Case::Keep { record, storage, .. } | Case::Return { record, storage, .. } => {
+            left.record = Lent::holding(record);
+            left.storage = Lent::holding(storage);
+        }
     }
     left
 }
 
 fn call(calls: &dyn Calls, case: &Case, left: &mut Left) {
-    let Left { answer, numbers, bytes, buffer, record, letters, file, nights } = left;
+    let Left { answer, numbers, bytes, buffer, record, letters, storage, file, nights } = left;
     let answer = array_mut(answer.part_mut());
     match case {
         Case::Read { .. } => calls.read(file.part(), array_mut(numbers.part_mut()), answer),
         Case::Write { count, .. } => {
             calls.write(array(numbers.part()), *count, bytes.part_mut(), answer)
         }
-        Case::Nights { k, .. } => {
+        Case::Nights { ask, .. } => {
             let (record, buffer) = (array_mut(record.part_mut()), buffer.part_mut());
-            calls.advance_nights(file.part(), *k, Handed { record, buffer, roster: None, answer })
+            calls.advance_nights(file.part(), *ask, Handed { record, buffer, roster: None, answer })
         }
-        Case::Days { k, .. } => {
+        Case::Days { ask, .. } => {
             let (record, buffer) = (array_mut(record.part_mut()), buffer.part_mut());
             let (nights, roster) = (array(nights.part()), Some(array_mut(letters.part_mut())));
-            calls.advance_days(file.part(), nights, *k, Handed { record, buffer, roster, answer })
+            calls.advance_days(file.part(), nights, *ask, Handed { record, buffer, roster, answer })
         }
         Case::Check { .. } => calls.check(file.part(), letters.part(), answer),
+        Case::Keep { number, .. } => {
+            let (record, storage) = (array_mut(record.part_mut()), storage.part_mut());
+            calls.keep(*number, Stored { record, storage, answer })
+        }
+        Case::Return { number, .. } => {
+            let (record, storage) = (array_mut(record.part_mut()), storage.part_mut());
+            calls.bring_back(*number, Stored { record, storage, answer })
+        }
     }
 }

@@ -1,5 +1,6 @@
 //! Calls on memory that begins right after, or ends right before, a page that may not be touched:
-//! a read or write outside what was lent ends the process.
+//! a read or write outside what was lent ends the process, and so does a write to what was lent to
+//! be read only.
 
 use crate::calls::*;
 
@@ -10,6 +11,7 @@ extern "C" {
 }
 
 const NO_ACCESS: i32 = 0;
+const READ_ONLY: i32 = 1;
 const READ_WRITE: i32 = 3;
 const PRIVATE_ANONYMOUS: i32 = 0x22;
 const PAGE: usize = 4096;
@@ -51,6 +53,16 @@ impl<T: Copy> Fenced<T> {
         fenced
     }
 
+    /// From now on it may only be read.
+    fn read_only(self) -> Self {
+        let inner = self.size - 2 * PAGE;
+        if inner > 0 {
+            let first = self.pages.wrapping_add(PAGE);
+            assert_eq!(unsafe { mprotect(first, inner, READ_ONLY) }, 0);
+        }
+        self
+    }
+
     fn part(&mut self) -> &mut [T] {
         unsafe { std::slice::from_raw_parts_mut(self.part, self.length) }
     }
@@ -77,6 +89,10 @@ impl AtEdge<'_> {
         Fenced::holding(content, self.edge)
     }
 
+    fn lend_read_only<T: Copy>(&self, content: &[T]) -> Fenced<T> {
+        self.lend(content).read_only()
+    }
+
     /// An advance on copies of what it is lent, by day a roster too.
     fn advanced(&self, handed: Handed, advance: impl FnOnce(Handed)) {
         let Handed { record, buffer, roster, answer } = handed;
@@ -95,32 +111,55 @@ impl AtEdge<'_> {
 
 impl Calls for AtEdge<'_> {
     fn read(&self, file: &[u8], numbers: &mut Numbers, answer: &mut Answer) {
-        let (mut f, mut n, mut a) = (self.lend(file), self.lend(numbers), self.lend(answer));
+        let (mut f, mut n, mut a) =
+            (self.lend_read_only(file), self.lend(numbers), self.lend(answer));
         self.planner.read(f.part(), n.array(), a.array());
         numbers.copy_from_slice(n.part());
         answer.copy_from_slice(a.part());
     }
 
     fn write(&self, numbers: &Numbers, count: u64, buffer: &mut [u8], answer: &mut Answer) {
-        let (mut n, mut b, mut a) = (self.lend(numbers), self.lend(buffer), self.lend(answer));
+        let (mut n, mut b, mut a) =
+            (self.lend_read_only(numbers), self.lend(buffer), self.lend(answer));
         self.planner.write(n.array(), count, b.part(), a.array());
         buffer.copy_from_slice(b.part());
         answer.copy_from_slice(a.part());
     }
 
-    fn advance_nights(&self, file: &[u8], k: u32, handed: Handed) {
-        let mut f = self.lend(file);
-        self.advanced(handed, |lent| self.planner.advance_nights(f.part(), k, lent));
+    fn advance_nights(&self, file: &[u8], ask: Ask, handed: Handed) {
+        let mut f = self.lend_read_only(file);
+        self.advanced(handed, |lent| self.planner.advance_nights(f.part(), ask, lent));
     }
 
-    fn advance_days(&self, file: &[u8], nights: &Nights, k: u32, handed: Handed) {
-        let (mut f, mut n) = (self.lend(file), self.lend(nights));
-        self.advanced(handed, |lent| self.planner.advance_days(f.part(), n.array(), k, lent));
+    fn advance_days(&self, file: &[u8], nights: &Nights, ask: Ask, handed: Handed) {
+        let (mut f, mut n) = (self.lend_read_only(file), self.lend_read_only(nights));
+        self.advanced(handed, |lent| self.planner.advance_days(f.part(), n.array(), ask, lent));
     }
 
     fn check(&self, file: &[u8], roster: &[u8], answer: &mut Answer) {
-        let (mut f, mut l, mut a) = (self.lend(file), self.lend(roster), self.lend(answer));
+        let (mut f, mut l, mut a) =
+            (self.lend_read_only(file), self.lend_read_only(roster), self.lend(answer));
         self.planner.check(f.part(), l.part(), a.array());
+        answer.copy_from_slice(a.part());
+    }
+
+    fn keep(&self, number: u32, stored: Stored) {
+        let Stored { record, storage, answer } = stored;
+        let (mut r, mut s, mut a) =
+            (self.lend_read_only(record), self.lend(storage), self.lend(answer));
+        let lent = Stored { record: r.array(), storage: s.part(), answer: a.array() };
+        self.planner.keep(number, lent);
+        storage.copy_from_slice(s.part());
+        answer.copy_from_slice(a.part());
+    }
+
+    fn bring_back(&self, number: u32, stored: Stored) {
+        let Stored { record, storage, answer } = stored;
+        let (mut r, mut s, mut a) =
+            (self.lend(record), self.lend_read_only(storage), self.lend(answer));
+        let lent = Stored { record: r.array(), storage: s.part(), answer: a.array() };
+        self.planner.bring_back(number, lent);
+        record.copy_from_slice(r.part());
         answer.copy_from_slice(a.part());
     }
 }

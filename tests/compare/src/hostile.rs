@@ -2,10 +2,9 @@
 
 use crate::calls::*;
 use crate::case::Case;
-use crate::rounds::FRESH;
 use crate::trial::Trial;
-use crate::words::{nights_of_record, PAIRS};
-use reference::samples::*;
+use crate::words::{nights_of_record, FRESH, PAIRS};
+use reference::samples::{self, *};
 use reference::ward::parse;
 
 /// Patterns of the longest common list: 31 days, V 15, L 3, gaps 1.
@@ -20,11 +19,19 @@ const FIRST_MARK: usize = 16 + 11;
 const NO_NIGHTS: Nights = [0; NIGHTS];
 
 fn nights(file: &[u8], k: u32, places: usize) -> Case {
-    Case::Nights { file: file.to_vec(), record: FRESH, k, places }
+    Case::Nights { file: file.to_vec(), record: FRESH, ask: Ask::plain(k), places }
 }
 
 fn days(file: &[u8], nights: Nights, k: u32, places: usize) -> Case {
-    Case::Days { file: file.to_vec(), nights, record: FRESH, k, places }
+    Case::Days { file: file.to_vec(), nights, record: FRESH, ask: Ask::plain(k), places }
+}
+
+/// The same advance, going on past zero.
+fn past_zero(mut case: Case) -> Case {
+    if let Case::Nights { ask, .. } | Case::Days { ask, .. } = &mut case {
+        ask.past_zero = 1;
+    }
+    case
 }
 
 /// The same night for everybody.
@@ -75,6 +82,8 @@ pub fn all(trial: &mut Trial) {
     large_wards(trial);
     large_wards_with_pairs(trial);
     whole_searches(trial);
+    searches_past_zero(trial);
+    long_storage(trial);
 }
 
 fn long_files(trial: &mut Trial) {
@@ -174,5 +183,29 @@ fn whole_searches(trial: &mut Trial) {
         let roster = left.roster().to_vec();
         let left = trial.compare(kind, &Case::Check { file: file.to_vec(), roster });
         assert_eq!(left.answer()[OUTCOME], YES);
+    }
+}
+
+/// Many steps past zero by night and by day, among them the most that can be asked.
+fn searches_past_zero(trial: &mut Trial) {
+    let kind = "past zero";
+    trial.compare(kind, &past_zero(nights(WORKED, 10_000, 16_384)));
+    trial.compare(kind, &past_zero(nights(samples::PAIRS, 10_000, 16_384)));
+    trial.compare(kind, &past_zero(nights(STUCK, 1_000, 16_384)));
+    trial.compare(kind, &past_zero(nights(LARGE, 2, LARGE_LIST)));
+    let left = trial.compare(kind, &nights(REDATED, 1_000, 16_384));
+    let by_day = days(REDATED, nights_of_record(&left.record()), 100, 16_384);
+    let left = trial.compare(kind, &past_zero(by_day));
+    assert_eq!(left.answer()[OUTCOME..=STEPS], [ASKED, 100]);
+    trial.compare(kind, &past_zero(nights(REDATED, 600, 16_384)));
+}
+
+/// Nothing past the eight entries is looked at or written, however much there is.
+fn long_storage(trial: &mut Trial) {
+    let record = [1; RECORD];
+    for number in [0, 1, 8, 9, u32::MAX] {
+        let storage = vec![1; 1 << 20];
+        trial.compare("a long storage", &Case::Keep { record, number, storage: storage.clone() });
+        trial.compare("a long storage", &Case::Return { record: FRESH, number, storage });
     }
 }

@@ -17,6 +17,7 @@ extern "C" {
         file_len: usize,
         record: *mut u32,
         k: u32,
+        past_zero: u32,
         buffer: *mut u32,
         buffer_len: usize,
         answer: *mut u64,
@@ -27,6 +28,7 @@ extern "C" {
         nights: *const u32,
         record: *mut u32,
         k: u32,
+        past_zero: u32,
         buffer: *mut u32,
         buffer_len: usize,
         roster: *mut u8,
@@ -37,6 +39,20 @@ extern "C" {
         file_len: usize,
         roster: *const u8,
         roster_len: usize,
+        answer: *mut u64,
+    );
+    fn pantheryl_keep(
+        record: *const u32,
+        number: u32,
+        storage: *mut u32,
+        storage_len: usize,
+        answer: *mut u64,
+    );
+    fn pantheryl_return(
+        record: *mut u32,
+        number: u32,
+        storage: *const u32,
+        storage_len: usize,
         answer: *mut u64,
     );
 }
@@ -63,14 +79,15 @@ impl Calls for Library {
         }
     }
 
-    fn advance_nights(&self, file: &[u8], k: u32, handed: Handed) {
+    fn advance_nights(&self, file: &[u8], ask: Ask, handed: Handed) {
         let Handed { record, buffer, answer, .. } = handed;
         unsafe {
             pantheryl_advance_nights(
                 file.as_ptr(),
                 file.len(),
                 record.as_mut_ptr(),
-                k,
+                ask.k,
+                ask.past_zero,
                 buffer.as_mut_ptr(),
                 buffer.len(),
                 answer.as_mut_ptr(),
@@ -78,7 +95,7 @@ impl Calls for Library {
         }
     }
 
-    fn advance_days(&self, file: &[u8], nights: &Nights, k: u32, handed: Handed) {
+    fn advance_days(&self, file: &[u8], nights: &Nights, ask: Ask, handed: Handed) {
         let Handed { record, buffer, roster, answer } = handed;
         let roster = roster.expect("a day advance is lent a roster");
         unsafe {
@@ -87,7 +104,8 @@ impl Calls for Library {
                 file.len(),
                 nights.as_ptr(),
                 record.as_mut_ptr(),
-                k,
+                ask.k,
+                ask.past_zero,
                 buffer.as_mut_ptr(),
                 buffer.len(),
                 roster.as_mut_ptr(),
@@ -103,6 +121,34 @@ impl Calls for Library {
                 file.len(),
                 roster.as_ptr(),
                 roster.len(),
+                answer.as_mut_ptr(),
+            )
+        }
+    }
+
+    // What a call may only read is lent by a pointer that could be written, so that a library that
+    // does so is seen.
+    fn keep(&self, number: u32, stored: Stored) {
+        let Stored { record, storage, answer } = stored;
+        unsafe {
+            pantheryl_keep(
+                record.as_mut_ptr(),
+                number,
+                storage.as_mut_ptr(),
+                storage.len(),
+                answer.as_mut_ptr(),
+            )
+        }
+    }
+
+    fn bring_back(&self, number: u32, stored: Stored) {
+        let Stored { record, storage, answer } = stored;
+        unsafe {
+            pantheryl_return(
+                record.as_mut_ptr(),
+                number,
+                storage.as_mut_ptr(),
+                storage.len(),
                 answer.as_mut_ptr(),
             )
         }

@@ -1,28 +1,13 @@
-//! Rounds of random calls, one ward each.
+//! Rounds of random calls, one ward each: reader, writer, advances and check.
 
-use crate::by_history::ByHistory;
 use crate::calls::*;
 use crate::case::{Case, Left};
+use crate::searches::*;
 use crate::trial::Trial;
-use crate::wards::{planned, spoiled, Planned, Size};
-use crate::words::{nights_of_record, patterns_of_nights, words_of_nights, PAIRS, STEPS_AT};
+use crate::wards::{Planned, Size};
+use crate::words::{nights_of_record, words_of_nights, FRESH, PAIRS, STEPS_AT};
 use crate::{files, records, rosters};
-use reference::phase::{DayPhase, NightPhase, Phase};
 use reference::samples::Dice;
-use reference::{days, nights};
-
-pub const FRESH: Words = [0; RECORD];
-/// Longer lists are not built, only refused.
-const LONGEST: usize = 120_000;
-
-/// Half of the wards keep to their plan.
-fn any_ward(dice: &mut Dice, size: &Size) -> Planned {
-    if dice.one_in(2) {
-        spoiled(dice, size)
-    } else {
-        planned(dice, size)
-    }
-}
 
 /// The reader: the file as it is, and damaged.
 pub fn reading(trial: &mut Trial, dice: &mut Dice, size: &Size) {
@@ -78,55 +63,6 @@ fn write(dice: &mut Dice, numbers: &[u64], count: u64, room: usize) -> Case {
     Case::Write { numbers: all, count, room }
 }
 
-/// An advance of either search on one ward.
-struct Search<'a> {
-    planned: &'a Planned,
-    /// by day the choice of nights
-    nights: Option<Nights>,
-    /// places for the list or lists
-    needed: usize,
-}
-
-impl Search<'_> {
-    fn case(&self, record: &Words, k: u32, places: usize) -> Case {
-        self.case_of(self.planned.file.clone(), record, k, places)
-    }
-
-    fn case_of(&self, file: Vec<u8>, record: &Words, k: u32, places: usize) -> Case {
-        match self.nights {
-            None => Case::Nights { file, record: *record, k, places },
-            Some(nights) => Case::Days { file, nights, record: *record, k, places },
-        }
-    }
-
-    fn room(&self, dice: &mut Dice) -> usize {
-        self.needed + dice.upto(3) as usize
-    }
-}
-
-fn by_night(planned: &Planned) -> Search<'_> {
-    let needed = nights::common_count_capped(&planned.ward, LONGEST);
-    Search { planned, nights: None, needed }
-}
-
-fn by_day<'a>(planned: &'a Planned, nights: &Nights) -> Search<'a> {
-    let patterns = patterns_of_nights(nights);
-    let hers = |nurse: usize| days::count(&planned.ward, nurse, patterns[nurse]) as usize;
-    let needed = (0..planned.ward.nurse_count).map(hers).sum();
-    Search { planned, nights: Some(*nights), needed }
-}
-
-/// A choice of nights; what stands after nurse m is not to be looked at.
-fn nights_of(dice: &mut Dice, planned: &Planned, mut nights: Nights) -> Nights {
-    let m = planned.ward.nurse_count;
-    if dice.one_in(2) {
-        for at in (m..NURSES).chain(PAIRS + m..NIGHTS) {
-            nights[at] = dice.upto(u64::from(u32::MAX)) as u32;
-        }
-    }
-    nights
-}
-
 /// Night advances from fresh; then records changed, buffers too short, files damaged.
 pub fn by_nights(trial: &mut Trial, dice: &mut Dice, size: &Size) {
     let planned = any_ward(dice, size);
@@ -144,8 +80,9 @@ pub fn by_days(trial: &mut Trial, dice: &mut Dice, size: &Size) {
     if dice.one_in(2) {
         let search = by_night(&planned);
         let places = search.needed;
-        let left = trial.compare("from fresh, for the days", &search.case(&FRESH, 60, places));
-        if left.answer()[OUTCOME] == ZERO {
+        let case = search.case(&FRESH, any_ask(dice, 60), places);
+        let left = trial.compare("from fresh, for the days", &case);
+        if at_zero(&left.answer()) {
             nights = nights_of(dice, &planned, nights_of_record(&left.record()));
         }
     }
@@ -155,7 +92,7 @@ pub fn by_days(trial: &mut Trial, dice: &mut Dice, size: &Size) {
         other_nights(trial, dice, &planned, &nights, &left.record());
     }
     if dice.one_in(3) {
-        every_room(trial, &search);
+        every_room(trial, dice, &search);
     }
 }
 
@@ -177,7 +114,7 @@ fn other_nights(
         }
         let search = Search { planned, nights: Some(other), needed: LONGEST };
         let record = if dice.one_in(2) { &FRESH } else { record };
-        trial.compare("other nights", &search.case(record, 2, LONGEST));
+        trial.compare("other nights", &search.case(record, any_ask(dice, 2), LONGEST));
     }
 }
 
@@ -185,65 +122,68 @@ fn other_nights(
 fn advances(trial: &mut Trial, dice: &mut Dice, search: &Search) -> Option<Left> {
     if search.needed > LONGEST {
         let places = dice.upto(2_000) as usize;
-        trial.compare("list too long", &search.case(&FRESH, 1, places));
+        trial.compare("list too long", &search.case(&FRESH, any_ask(dice, 1), places));
         return None;
     }
     let m = search.planned.ward.nurse_count as u64;
     let steps = [dice.upto(2), dice.upto(m), m, dice.from(m, 3 * m + 9)];
-    let places = search.room(dice);
-    let mut left = trial.compare("from fresh", &search.case(&FRESH, steps[0] as u32, places));
-    for k in &steps[1..] {
+    let (ask, places) = (any_ask(dice, steps[0]), search.room(dice));
+    let mut left = trial.compare("from fresh", &search.case(&FRESH, ask, places));
+    for &k in &steps[1..] {
         if left.answer()[QUESTION] != 0 {
             break;
         }
-        let places = search.room(dice);
-        left = trial.compare("going on", &search.case(&left.record(), *k as u32, places));
+        let (ask, places) = (any_ask(dice, k), search.room(dice));
+        left = trial.compare("going on", &search.case(&left.record(), ask, places));
     }
     Some(left)
 }
 
 /// What an advance must refuse, or nearly, after the one that left this.
 fn refusals(trial: &mut Trial, dice: &mut Dice, search: &Search, left: &Left) {
-    let k = dice.upto(3) as u32;
+    let k = dice.upto(3);
     let record = &match dice.one_in(2) {
         true => records::other_flags(dice, &left.record()),
         false => left.record(),
     };
     for _ in 0..6 {
         let (kind, changed) = records::changed(dice, &search.planned.ward, record);
-        trial.compare(kind, &search.case(&changed, k, search.needed));
+        trial.compare(kind, &search.case(&changed, any_ask(dice, k), search.needed));
     }
+    let ask = any_ask(dice, k);
     // ten thousand steps are asked only where none is made
-    let most = if left.answer()[OUTCOME] == ZERO { 10_000 } else { k };
-    for (steps, k) in [
-        (1_000_000, k),
-        (1_000_001, k),
-        (u32::MAX, k),
-        (999_998, k),
-        (1_000_000 - most, most),
-        (1_000_001 - most, most),
+    let most = if at_zero(&left.answer()) { Ask::plain(10_000) } else { ask };
+    for (steps, ask) in [
+        (1_000_000, ask),
+        (1_000_001, ask),
+        (u32::MAX, ask),
+        (999_998, ask),
+        (1_000_000 - most.k, most),
+        (1_000_001 - most.k, most),
     ] {
         let mut changed = *record;
         changed[STEPS_AT] = steps;
-        trial.compare("steps near the limit", &search.case(&changed, k, search.needed));
+        trial.compare("steps near the limit", &search.case(&changed, ask, search.needed));
     }
-    for k in [10_001, u32::MAX, dice.from(10_001, 1 << 31) as u32] {
-        trial.compare("k too large", &search.case(record, k, dice.upto(9) as usize));
+    for k in [10_001, u32::MAX.into(), dice.from(10_001, 1 << 31)] {
+        let ask = any_ask(dice, k);
+        trial.compare("k too large", &search.case(record, ask, dice.upto(9) as usize));
     }
     for places in [0, search.needed.saturating_sub(1), dice.index(search.needed.max(1))] {
-        trial.compare("buffer too short", &search.case(record, k, places));
+        trial.compare("buffer too short", &search.case(record, any_ask(dice, k), places));
     }
     for _ in 0..3 {
         let (kind, file) = files::damaged(dice, &search.planned.ward.numbers);
-        trial.compare(kind, &search.case_of(file, record, k, search.needed));
+        trial.compare(kind, &search.case_of(file, record, any_ask(dice, k), search.needed));
     }
 }
 
 /// Buffers of every length from none to beyond the needed one.
-fn every_room(trial: &mut Trial, search: &Search) {
+fn every_room(trial: &mut Trial, dice: &mut Dice, search: &Search) {
     if search.needed <= 60 {
+        let ask = any_ask(dice, 3);
         for places in 0..search.needed + 3 {
-            trial.compare("every length of the buffer", &search.case(&FRESH, 3, places));
+            trial.compare("every length of the buffer", &search.case(&FRESH, ask, places));
         }
     }
 }
@@ -257,58 +197,17 @@ pub fn long_nights(trial: &mut Trial, dice: &mut Dice, size: &Size) {
 /// Many steps by day over the planned nights, to the end if there is one.
 pub fn long_days(trial: &mut Trial, dice: &mut Dice, size: &Size) {
     let planned = any_ward(dice, size);
-    let nights = nights_of(dice, &planned, words_of_nights(&planned.nights));
-    many_steps(trial, dice, &by_day(&planned, &nights));
+    let search = by_planned_day(dice, &planned);
+    many_steps(trial, dice, &search);
 }
 
 fn many_steps(trial: &mut Trial, dice: &mut Dice, search: &Search) {
     let k = dice.pick(&[100, 300, 1_000]);
     if search.needed <= LONGEST {
-        trial.compare("many steps", &search.case(&FRESH, k, search.needed));
+        let ask = any_ask(dice, k);
+        trial.compare("many steps", &search.case(&FRESH, ask, search.needed));
     }
-    every_room(trial, search);
-}
-
-/// A list of advances from fresh, refused ones between, against the history of the calls alone.
-pub fn chains(trial: &mut Trial, dice: &mut Dice, size: &Size) {
-    let planned = any_ward(dice, size);
-    let phase = NightPhase::open(&planned.ward, LONGEST);
-    if !phase.is_ok_and(|phase| everyone_has_a_pattern(&phase)) {
-        return;
-    }
-    let left = chain(trial, dice, &by_night(&planned));
-    let nights = match left {
-        Some(left) if left.answer()[OUTCOME] == ZERO => nights_of_record(&left.record()),
-        _ => words_of_nights(&planned.nights),
-    };
-    let search = by_day(&planned, &nights_of(dice, &planned, nights));
-    let short = search.needed <= 3_000;
-    let phase = DayPhase::open(&planned.ward, &patterns_of_nights(&nights), LONGEST);
-    if short && phase.is_ok_and(|phase| everyone_has_a_pattern(&phase)) {
-        chain(trial, dice, &search);
-    }
-}
-
-fn everyone_has_a_pattern(phase: &dyn Phase) -> bool {
-    (0..phase.ward().nurse_count).all(|nurse| !phase.list(nurse).is_empty())
-}
-
-/// What the last advance that was not refused left.
-fn chain(trial: &mut Trial, dice: &mut Dice, search: &Search) -> Option<Left> {
-    let history = ByHistory::default();
-    let (mut record, mut last) = (FRESH, None);
-    for _ in 0..dice.from(2, 9) {
-        let k = if dice.one_in(8) { 10_001 } else { dice.upto(7) as u32 };
-        let short = dice.one_in(5);
-        let places = if short { dice.index(search.needed + 1) } else { search.room(dice) };
-        let left =
-            trial.compare_with(&history, "list of advances", &search.case(&record, k, places));
-        record = left.record();
-        if left.answer()[QUESTION] == 0 {
-            last = Some(left);
-        }
-    }
-    last
+    every_room(trial, dice, search);
 }
 
 /// The check: the planned roster, one from a search, and those beside them.
@@ -347,8 +246,9 @@ fn check_around(
 /// A roster by both searches, if they reach zero soon.
 fn searched(trial: &mut Trial, dice: &mut Dice, planned: &Planned) -> Option<Vec<u8>> {
     let search = by_night(planned);
-    let left = trial.compare("for the check", &search.case(&FRESH, 40, search.needed));
-    if left.answer()[OUTCOME] != ZERO {
+    let case = search.case(&FRESH, any_ask(dice, 40), search.needed);
+    let left = trial.compare("for the check", &case);
+    if !at_zero(&left.answer()) {
         return None;
     }
     let nights = nights_of(dice, planned, nights_of_record(&left.record()));
@@ -356,6 +256,7 @@ fn searched(trial: &mut Trial, dice: &mut Dice, planned: &Planned) -> Option<Vec
     if search.needed > LONGEST {
         return None;
     }
-    let left = trial.compare("for the check", &search.case(&FRESH, 40, search.needed));
+    let case = search.case(&FRESH, any_ask(dice, 40), search.needed);
+    let left = trial.compare("for the check", &case);
     (left.answer()[COUNT] > 0).then(|| left.roster().to_vec())
 }

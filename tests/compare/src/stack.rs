@@ -26,15 +26,23 @@ impl Calls for SmallStack<'_> {
         with_small_stack(|| self.planner.write(numbers, count, buffer, answer));
     }
 
-    fn advance_nights(&self, file: &[u8], k: u32, handed: Handed) {
-        with_small_stack(|| self.planner.advance_nights(file, k, handed));
+    fn advance_nights(&self, file: &[u8], ask: Ask, handed: Handed) {
+        with_small_stack(|| self.planner.advance_nights(file, ask, handed));
     }
 
-    fn advance_days(&self, file: &[u8], nights: &Nights, k: u32, handed: Handed) {
-        with_small_stack(|| self.planner.advance_days(file, nights, k, handed));
+    fn advance_days(&self, file: &[u8], nights: &Nights, ask: Ask, handed: Handed) {
+        with_small_stack(|| self.planner.advance_days(file, nights, ask, handed));
     }
 
     fn check(&self, file: &[u8], roster: &[u8], answer: &mut Answer) {
         with_small_stack(|| self.planner.check(file, roster, answer));
+    }
+
+    fn keep(&self, number: u32, stored: Stored) {
+        with_small_stack(|| self.planner.keep(number, stored));
+    }
+
+    fn bring_back(&self, number: u32, stored: Stored) {
+        with_small_stack(|| self.planner.bring_back(number, stored));
     }
 }

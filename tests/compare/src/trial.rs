@@ -47,17 +47,35 @@ impl<'a> Trial<'a> {
         let (wanted, _) = make(expected, case);
         let (left, time) = make(self.tested, case);
         self.count(kind, case.call(), &wanted.answer(), time);
+        self.note(kind, case, &left, &wanted);
+        wanted
+    }
+
+    /// Notes a difference, if there is one.
+    fn note(&mut self, kind: &str, case: &Case, left: &Left, wanted: &Left) {
         if left != wanted {
             self.differences.push(format!(
                 "{} {}, {}: {}\n{}",
                 case.call(),
                 kind,
                 self.at,
-                differing(&left, &wanted),
+                differing(left, wanted),
                 short(case)
             ));
         }
-        wanted
+    }
+
+    /// Makes two calls on the tested side alone, which must leave the same: what they leave.
+    pub fn same(&mut self, kind: &'static str, case: &Case, other: &Case) -> [Left; 2] {
+        let [(left, time), (wanted, _)] = [case, other].map(|case| make(self.tested, case));
+        self.count(kind, case.call(), &wanted.answer(), time);
+        self.note(kind, case, &left, &wanted);
+        [left, wanted]
+    }
+
+    /// Makes the call on the tested side alone, where nothing is to be compared yet.
+    pub fn alone(&self, case: &Case) -> Left {
+        make(self.tested, case).0
     }
 
     fn count(&mut self, kind: &'static str, call: &'static str, answer: &Answer, time: Duration) {
@@ -67,7 +85,7 @@ impl<'a> Trial<'a> {
         *self.answers.entry((call, named(call, answer))).or_default() += 1;
     }
 
-    /// How often a call was answered so, on the expected side.
+    /// How often a call was answered so, on the expected side where there is one.
     pub fn answered(&self, call: &'static str, answer: &str) -> u64 {
         self.answers.get(&(call, answer.to_string())).copied().unwrap_or(0)
     }
@@ -103,12 +121,19 @@ fn named(call: &str, answer: &Answer) -> String {
     match (answer[QUESTION], call, answer[OUTCOME]) {
         (0, "check", YES) => "yes".into(),
         (0, "check", NO) => "no".into(),
-        (0, _, ZERO) => "zero".into(),
-        (0, _, ASKED) => "asked".into(),
-        (0, _, NONE) => "none".into(),
+        (0, _, ZERO) => ended("zero", false, answer),
+        (0, _, ASKED) => ended("asked", answer[PENALTY] == 0, answer),
+        (0, _, NONE) => ended("none", answer[PENALTY] == 0, answer),
         (0, _, _) => "done".into(),
         (question, _, _) => format!("refused {question}"),
     }
+}
+
+/// The end of an advance, which of those past zero came at zero, and whether a roster was given.
+fn ended(end: &str, at_zero: bool, answer: &Answer) -> String {
+    let at_zero = if at_zero { " at zero" } else { "" };
+    let roster = if answer[COUNT] > 0 { ", roster" } else { "" };
+    format!("{end}{at_zero}{roster}")
 }
 
 /// Which memory differs, and where first.
@@ -120,6 +145,7 @@ fn differing(left: &Left, wanted: &Left) -> String {
         first("letters", left.letters.part(), wanted.letters.part()),
         first("numbers", left.numbers.part(), wanted.numbers.part()),
         first("bytes", left.bytes.part(), wanted.bytes.part()),
+        first("storage", left.storage.part(), wanted.storage.part()),
     ];
     let parts: Vec<String> = parts.into_iter().flatten().collect();
     if parts.is_empty() {

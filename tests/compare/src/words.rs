@@ -4,6 +4,9 @@ use crate::calls::{Nights, Words, NIGHTS, NURSES, RECORD};
 use reference::pairs::Pattern;
 use reference::record::{fresh, Record, Removal, MOST_REMOVALS};
 
+/// "Fresh": all zeros.
+pub const FRESH: Words = [0; RECORD];
+
 pub const PAIRS: usize = NURSES;
 pub const FLAGS: usize = 2 * NURSES;
 pub const REMOVALS: usize = 3 * NURSES;

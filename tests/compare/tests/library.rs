@@ -3,6 +3,8 @@
 use compare::calls::Calls;
 use compare::edges::{AtEdge, Edge};
 use compare::hostile;
+use compare::keepings::{assurance, keeping};
+use compare::lists::{chains, operations};
 use compare::naive::Reference;
 use compare::rounds::*;
 use compare::session::{conclude, run, Least, Round};
@@ -11,7 +13,13 @@ use compare::trial::Trial;
 use compare::wards::*;
 
 const FILES: &[&str] = &["refused 1", "refused 2", "refused 3", "refused 4", "refused 5"];
-const ENDS: &[&str] = &["zero", "asked", "none"];
+const NIGHT_ENDS: &[&str] = &["zero", "asked", "none"];
+const DAY_ENDS: &[&str] = &["zero, roster", "asked", "none"];
+/// Of advances past zero.
+const NIGHTS_AT_ZERO: &[&str] = &["asked at zero", "none at zero"];
+const DAYS_AT_ZERO: &[&str] = &["asked at zero, roster", "none at zero, roster"];
+/// Of a keeping and a return.
+const KEPT: &[&str] = &["done", "refused 13"];
 
 fn planner() -> Box<dyn Calls> {
     compare::library().expect("target/staticlib/libpantheryl.a is missing: rt staticlib pantheryl")
@@ -62,8 +70,9 @@ fn night_advances() {
         (long_nights, SMALL, 150),
         (long_nights, MIDDLE, 10),
     ];
-    let least: [Least; 3] = [
-        ("advance_nights", ENDS, 300),
+    let least: [Least; 4] = [
+        ("advance_nights", NIGHT_ENDS, 300),
+        ("advance_nights", NIGHTS_AT_ZERO, 300),
         ("advance_nights", FILES, 200),
         ("advance_nights", &["refused 7", "refused 9", "refused 10", "refused 11"], 1_000),
     ];
@@ -84,8 +93,12 @@ fn day_advances() {
         (long_days, MIDDLE, 20),
     ];
     let refused = &["refused 7", "refused 8", "refused 9", "refused 10", "refused 11"];
-    let least: [Least; 3] =
-        [("advance_days", ENDS, 100), ("advance_days", FILES, 200), ("advance_days", refused, 500)];
+    let least: [Least; 4] = [
+        ("advance_days", DAY_ENDS, 100),
+        ("advance_days", DAYS_AT_ZERO, 100),
+        ("advance_days", FILES, 200),
+        ("advance_days", refused, 500),
+    ];
     compare_rounds("Day advances", &rounds, &least);
 }
 
@@ -93,13 +106,49 @@ fn day_advances() {
 fn lists_of_advances() {
     let rounds: [(Round, Size, u64); 3] =
         [(chains, TINY, 6_000), (chains, SMALL, 1_500), (chains, WIDE, 1_000)];
-    let least: [Least; 4] = [
-        ("advance_nights", ENDS, 100),
+    let least: [Least; 6] = [
+        ("advance_nights", NIGHT_ENDS, 100),
+        ("advance_nights", NIGHTS_AT_ZERO, 100),
         ("advance_nights", &["refused 7", "refused 9"], 300),
-        ("advance_days", ENDS, 50),
+        ("advance_days", DAY_ENDS, 50),
+        ("advance_days", DAYS_AT_ZERO, 50),
         ("advance_days", &["refused 7", "refused 9"], 300),
     ];
     compare_rounds("Lists of advances", &rounds, &least);
+}
+
+#[test]
+fn lists_of_operations() {
+    let rounds: [(Round, Size, u64); 3] =
+        [(operations, TINY, 1_500), (operations, SMALL, 300), (operations, WIDE, 300)];
+    let least: [Least; 6] = [
+        ("advance_nights", NIGHT_ENDS, 100),
+        ("advance_nights", NIGHTS_AT_ZERO, 100),
+        ("advance_days", DAY_ENDS, 50),
+        ("advance_days", DAYS_AT_ZERO, 50),
+        ("keep", KEPT, 1_000),
+        ("return", KEPT, 1_000),
+    ];
+    compare_rounds("Lists of operations", &rounds, &least);
+}
+
+#[test]
+fn keepings_and_returns() {
+    let rounds: [(Round, Size, u64); 6] = [
+        (keeping, TINY, 1_500),
+        (keeping, SMALL, 600),
+        (keeping, WIDE, 600),
+        (keeping, MONTH, 6),
+        (assurance, TINY, 1_500),
+        (assurance, SMALL, 600),
+    ];
+    let least: [Least; 4] = [
+        ("keep", KEPT, 2_000),
+        ("return", KEPT, 2_000),
+        ("advance_nights", &["zero", "asked", "none", "refused 11"], 50),
+        ("advance_days", &["zero, roster", "asked", "none", "refused 11"], 30),
+    ];
+    compare_rounds("Keepings and returns", &rounds, &least);
 }
 
 #[test]
@@ -125,7 +174,7 @@ fn hostile_calls() {
 }
 
 /// Every kind of call, on wards of several sizes.
-const EVERY_CALL: [(Round, Size, u64); 12] = [
+const EVERY_CALL: [(Round, Size, u64); 15] = [
     (reading, WIDE, 60),
     (reading, FULL, 1),
     (writing, WIDE, 60),
@@ -138,6 +187,9 @@ const EVERY_CALL: [(Round, Size, u64); 12] = [
     (by_days, MONTH, 1),
     (checking, WIDE, 60),
     (checking, MONTH, 1),
+    (keeping, WIDE, 60),
+    (keeping, FULL, 1),
+    (operations, TINY, 20),
 ];
 
 /// Every kind of call against the reference.
@@ -146,7 +198,9 @@ fn compare_calls(name: &str, planner: &dyn Calls) {
     for (round, size, times) in &EVERY_CALL {
         run(&mut trial, name, *round, size, *times);
     }
-    conclude(name, &trial, &[("check", &["yes", "no"], 50)]);
+    let least: [Least; 3] =
+        [("check", &["yes", "no"], 50), ("keep", KEPT, 50), ("return", KEPT, 50)];
+    conclude(name, &trial, &least);
 }
 
 /// All lent memory at the edge of a page: a call must stay within it.

@@ -10,11 +10,25 @@ use crate::ward::{Refusal, Ward};
 pub type Step = (usize, Pattern);
 pub type History = Vec<Step>;
 
-/// What an advance is handed: k and the number of its buffer's places.
+/// What an advance is handed: k, whether it is "told to go on past zero" (document 02, job 3), and
+/// the number of its buffer's places.
 #[derive(Clone, Copy, Debug, PartialEq, Eq)]
 pub struct Call {
     pub k: u64,
+    pub past_zero: bool,
     pub places: usize,
+}
+
+impl Call {
+    /// Zero ends it.
+    pub const fn plain(k: u64, places: usize) -> Call {
+        Call { k, past_zero: false, places }
+    }
+
+    /// It goes on past zero.
+    pub const fn past(k: u64, places: usize) -> Call {
+        Call { k, past_zero: true, places }
+    }
 }
 
 #[derive(Clone, Debug, PartialEq, Eq)]
@@ -75,14 +89,15 @@ pub fn next_step(phase: &dyn Phase, history: &[Step]) -> Option<Exchange> {
     best
 }
 
-/// Steps until zero, asked or none, in this order before each step.
-fn add_steps(phase: &dyn Phase, history: &mut History, k: u64) -> (End, u64) {
+/// Steps until zero, asked or none, in this order before each step. Past zero it "ends only with
+/// "asked" or "none", and "none" no longer depends on the penalty".
+fn add_steps(phase: &dyn Phase, history: &mut History, call: Call) -> (End, u64) {
     let mut added = 0;
     loop {
-        if penalty(phase, history).total() == 0 {
+        if !call.past_zero && penalty(phase, history).total() == 0 {
             return (End::Zero, added);
         }
-        if added == k {
+        if added == call.k {
             return (End::Asked, added);
         }
         match next_step(phase, history) {
@@ -93,8 +108,8 @@ fn add_steps(phase: &dyn Phase, history: &mut History, k: u64) -> (End, u64) {
     }
 }
 
-fn advance(phase: &dyn Phase, history: &mut History, k: u64) -> Answer {
-    let (end, added) = add_steps(phase, history, k);
+fn advance(phase: &dyn Phase, history: &mut History, call: Call) -> Answer {
+    let (end, added) = add_steps(phase, history, call);
     let in_use = all_in_use(phase.ward(), history);
     let penalty = phase.penalty(&in_use).total();
     Answer { end, added, penalty, roster: phase.roster(&in_use) }
@@ -104,7 +119,7 @@ fn advance(phase: &dyn Phase, history: &mut History, k: u64) -> Answer {
 pub fn advance_night(ward: &Ward, history: &mut History, call: Call) -> Result<Answer, Refusal> {
     ask_steps(history.len() as u64, call.k)?;
     let phase = NightPhase::open(ward, call.places)?;
-    Ok(advance(&phase, history, call.k))
+    Ok(advance(&phase, history, call))
 }
 
 /// One day advance over one choice of nights: only question 7, 8 or 9 refuses here.
@@ -116,7 +131,7 @@ pub fn advance_day(
 ) -> Result<Answer, Refusal> {
     ask_steps(history.len() as u64, call.k)?;
     let phase = DayPhase::open(ward, nights, call.places)?;
-    Ok(advance(&phase, history, call.k))
+    Ok(advance(&phase, history, call))
 }
 
 /// The whole list of night advances, with the history that it leaves.

@@ -4,7 +4,9 @@
 pub mod check;
 pub mod days;
 pub mod history;
+pub mod keeping;
 pub mod nights;
+pub mod operations;
 pub mod pairs;
 pub mod penalty;
 pub mod phase;

@@ -1,11 +1,12 @@
 //! The roster program ("A ward worked through"): a ward file to the text printed.
 
+use crate::history::Call;
 use crate::phase::End;
 use crate::record::{advance_day, advance_night, fresh, Answer};
 use crate::ward::{parse, Refusal};
 
-const STEPS: u64 = 1_000;
-const PLACES: usize = 16_384;
+/// 1,000 steps in each phase with 16,384 places.
+const CALL: Call = Call::plain(1_000, 16_384);
 
 /// Everything that the program prints for a ward file.
 pub fn run(file: &[u8]) -> String {
@@ -16,11 +17,11 @@ pub fn run(file: &[u8]) -> String {
 }
 
 fn both_phases(file: &[u8]) -> Result<String, Refusal> {
-    let night = advance_night(file, &fresh(), STEPS, PLACES)?;
+    let night = advance_night(file, &fresh(), CALL)?;
     if night.end != End::Zero {
         return Ok(left(1, &night));
     }
-    let day = advance_day(file, &night.record.patterns, &fresh(), STEPS, PLACES)?;
+    let day = advance_day(file, &night.record.patterns, &fresh(), CALL)?;
     match &day.roster {
         None => Ok(left(2, &day)),
         Some(roster) => {

@@ -1,6 +1,6 @@
 //! The search record, and advances on any record handed in (questions 7 to 11).
 
-use crate::history::{all_in_use, given_up_by_step, Step};
+use crate::history::{all_in_use, given_up_by_step, Call, Step};
 use crate::pairs::Pattern;
 use crate::phase::{ask_steps, DayPhase, End, NightPhase, Phase};
 use crate::tally::{duties_of, least_exchange, Exchange};
@@ -147,26 +147,26 @@ fn removal_good(phase: &dyn Phase, removal: &Removal) -> bool {
 /// Which exchange comes next, none where there is none.
 pub type Choice<'a> = dyn Fn(&Record) -> Option<Exchange> + 'a;
 
-fn advance(phase: &dyn Phase, record: &Record, k: u64) -> Result<Answer, Refusal> {
+fn advance(phase: &dyn Phase, record: &Record, call: Call) -> Result<Answer, Refusal> {
     let duties = duties_of(phase);
     let least = |record: &Record| {
         let in_use = record.all_in_use(phase.ward());
         least_exchange(phase, &duties, &in_use, &|nurse| record.barred(nurse))
     };
-    advance_by(phase, record, k, &least)
+    advance_by(phase, record, call, &least)
 }
 
 /// Questions 10 and 11, then steps until zero, asked or none, each as chosen.
 pub fn advance_by(
     phase: &dyn Phase,
     record: &Record,
-    k: u64,
+    call: Call,
     choice: &Choice,
 ) -> Result<Answer, Refusal> {
     ask_patterns(phase)?;
     ask_record(phase, record)?;
     let mut record = record.clone();
-    let (end, made) = make_steps(phase, &mut record, k, choice);
+    let (end, made) = make_steps(phase, &mut record, call, choice);
     let in_use = record.all_in_use(phase.ward());
     Ok(Answer {
         end,
@@ -178,15 +178,16 @@ pub fn advance_by(
     })
 }
 
-fn make_steps(phase: &dyn Phase, record: &mut Record, k: u64, choice: &Choice) -> (End, u64) {
+/// Zero is looked at unless the advance goes on past it.
+fn make_steps(phase: &dyn Phase, record: &mut Record, call: Call, choice: &Choice) -> (End, u64) {
     let ward = phase.ward();
     let mut made = 0;
     loop {
         let in_use = record.all_in_use(ward);
-        if phase.penalty(&in_use).total() == 0 {
+        if !call.past_zero && phase.penalty(&in_use).total() == 0 {
             return (End::Zero, made);
         }
-        if made == k {
+        if made == call.k {
             return (End::Asked, made);
         }
         match choice(record) {
@@ -198,14 +199,9 @@ fn make_steps(phase: &dyn Phase, record: &mut Record, k: u64, choice: &Choice) -
 }
 
 /// A night advance on a ward already read.
-pub fn advance_night_in(
-    ward: &Ward,
-    record: &Record,
-    k: u64,
-    places: usize,
-) -> Result<Answer, Refusal> {
-    ask_steps(u64::from(record.steps), k)?;
-    advance(&NightPhase::open(ward, places)?, record, k)
+pub fn advance_night_in(ward: &Ward, record: &Record, call: Call) -> Result<Answer, Refusal> {
+    ask_steps(u64::from(record.steps), call.k)?;
+    advance(&NightPhase::open(ward, call.places)?, record, call)
 }
 
 /// A day advance on a ward already read.
@@ -213,21 +209,15 @@ pub fn advance_day_in(
     ward: &Ward,
     nights: &[Pattern],
     record: &Record,
-    k: u64,
-    places: usize,
+    call: Call,
 ) -> Result<Answer, Refusal> {
-    ask_steps(u64::from(record.steps), k)?;
-    advance(&DayPhase::open(ward, nights, places)?, record, k)
+    ask_steps(u64::from(record.steps), call.k)?;
+    advance(&DayPhase::open(ward, nights, call.places)?, record, call)
 }
 
 /// A night advance: the ward as file bytes, questions 1 to 5 first.
-pub fn advance_night(
-    file: &[u8],
-    record: &Record,
-    k: u64,
-    places: usize,
-) -> Result<Answer, Refusal> {
-    advance_night_in(&parse(file)?, record, k, places)
+pub fn advance_night(file: &[u8], record: &Record, call: Call) -> Result<Answer, Refusal> {
+    advance_night_in(&parse(file)?, record, call)
 }
 
 /// A day advance: the ward as file bytes, questions 1 to 5 first.
@@ -235,8 +225,7 @@ pub fn advance_day(
     file: &[u8],
     nights: &[Pattern],
     record: &Record,
-    k: u64,
-    places: usize,
+    call: Call,
 ) -> Result<Answer, Refusal> {
-    advance_day_in(&parse(file)?, nights, record, k, places)
+    advance_day_in(&parse(file)?, nights, record, call)
 }

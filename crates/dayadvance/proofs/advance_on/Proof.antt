@@ -41,8 +41,8 @@ returns c =
     let s = start .args in
     let w = s .w .now in
     let nights = nightOf (s .nights .now) in
-    told-refused (dayPhase w nights) (s .rec) (s .k) (upTo (dayListOver w nights) (nurses w)) (s .buffer .now) _
-    (two-before w nights (s .k) _ (s .rec) (asked .first-no .ensures) (ap refusalIn (refusing .n .given .1))) (c .refuse .ensures)
+    told-refused (dayPhase w nights) (s .rec) (s .k) (s .past) (upTo (dayListOver w nights) (nurses w)) (s .buffer .now) _
+    (two-before w nights (s .k) (s .past) _ (s .rec) (asked .first-no .ensures) (ap refusalIn (refusing .n .given .1))) (c .refuse .ensures)
 
 same-length : tie.Need-same-length
 same-length c = search needs

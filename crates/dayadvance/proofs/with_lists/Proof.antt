@@ -31,12 +31,12 @@ all-lists c = let w = c .args .w .now in upTo (dayListOver w (nightOf (c .args .
 -- no question refuses
 open-at : (c : tie.After-enum-told)
     → let s = from-open c .args in
-    Open (s .w .now) (nightOf (s .nights .now)) (s .rec) (s .k) (length (s .buffer .now)) (s .counted .over)
+    Open (s .w .now) (nightOf (s .nights .now)) (s .rec) (s .k) (s .past) (length (s .buffer .now)) (s .counted .over)
 open-at c =
     let asked = at-questions c in
     let start = at-start asked in
     let s = start .args in
-    opened (s .w .now) (nightOf (s .nights .now)) (s .rec) (s .k) (start .pre .1) (start .pre .2)
+    opened (s .w .now) (nightOf (s .nights .now)) (s .rec) (s .k) (s .past) (start .pre .1) (start .pre .2)
     (sym (ap refusalIn (c .enum-told .given .1)) ∙ asked .next-no .ensures _ (start .pre .2))
 
 next-no-requires : tie.Need-next-no-requires
@@ -92,7 +92,7 @@ roster-given-requires c κs =
     let ok = open-at told in
     let front = lists-front (all-lists start) _ (filled .lists-fill .ensures .0) (filled .lists-fill .ensures .1) in (
       start .pre .0,
-      stored-zero w (dayPhase w nights) (s .k) (s .rec) (start .pre .0)
+      stored-zero w (dayPhase w nights) (s .past) (s .k) (s .rec) (start .pre .0)
           (c .advance .ensures (dayPhase w nights) (day-seeks w nights [] (start .pre .2) (ok .full) front) (ok .sound)),
     )
 
@@ -107,8 +107,8 @@ returns c =
     let s = start .args in
     let w = s .w .now in
     let nights = nightOf (s .nights .now) in
-    told-refused (dayPhase w nights) (s .rec) (s .k) (all-lists start) (s .buffer .now) _
-    (two-after w nights (s .k) _ (s .rec) (start .pre .1) (asked .next-no .ensures _ (start .pre .2)) ∙ ap refusalIn (refusing .n .given .1)) (c .refuse .ensures)
+    told-refused (dayPhase w nights) (s .rec) (s .k) (s .past) (all-lists start) (s .buffer .now) _
+    (two-after w nights (s .k) (s .past) _ (s .rec) (start .pre .1) (asked .next-no .ensures _ (start .pre .2)) ∙ ap refusalIn (refusing .n .given .1)) (c .refuse .ensures)
 
 same-length : tie.Need-same-length
 same-length c = search needs
@@ -125,7 +125,7 @@ returns-2 c =
     let nights = nightOf (s .nights .now) in
     let ok = open-at told in
     let front = lists-front (all-lists start) _ (filled .lists-fill .ensures .0) (filled .lists-fill .ensures .1) in
-    told-advanced (dayPhase w nights) (s .rec) (s .k) (all-lists start) (s .buffer .now) (advanced .advance .result) (ok .unrefused)
+    told-advanced (dayPhase w nights) (s .rec) (s .k) (s .past) (all-lists start) (s .buffer .now) (advanced .advance .result) (ok .unrefused)
     (advanced .advance .ensures (dayPhase w nights) (day-seeks w nights [] (start .pre .2) (ok .full) front) (ok .sound))
     (c .finished .ensures (dayPhase w nights) (given .roster-given .ensures)) (filled .lists-fill .ensures .1)
 

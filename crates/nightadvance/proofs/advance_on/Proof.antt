@@ -28,11 +28,11 @@ from-clear c = at-start (at-questions c)
 -- no question refuses
 unrefused : (c : tie.After-enum-told)
     → let s = from-clear c .args in
-    refusalStored (nightPhase (s .w .now)) (callOf (s .k) (length (s .buffer .now))) (s .rec) ≡ none
-unrefused c = sym (at-questions c .first-no .ensures) ∙ ap refusalIn (c .enum-told .given .1)
+    refusalStored (nightPhase (s .w .now)) (callOf (s .k) (s .past) (length (s .buffer .now))) (s .rec) ≡ none
+unrefused c = sym (at-questions c .first-no .ensures (from-clear c .args .past)) ∙ ap refusalIn (c .enum-told .given .1)
 
 passed : (c : tie.After-enum-told) → let s = from-clear c .args in Clear (s .w .now) (s .rec) (s .k) (length (s .buffer .now))
-passed c = let s = from-clear c .args in clear (s .w .now) (s .rec) (s .k) _ (unrefused c)
+passed c = let s = from-clear c .args in clear (s .w .now) (s .rec) (s .k) _ (s .past) (unrefused c)
 
 first-no-requires : tie.Need-first-no-requires
 first-no-requires c κs = search needs
@@ -85,8 +85,8 @@ returns c =
     let asked : tie.After-first-no = search in
     let start : tie.Start = search in
     let s = start .args in
-    told-refused (nightPhase (s .w .now)) (s .rec) (s .k) (commonOf (s .w .now)) (s .buffer .now) _
-    (sym (asked .first-no .ensures) ∙ ap refusalIn (refusing .n .given .1)) (c .refuse .ensures)
+    told-refused (nightPhase (s .w .now)) (s .rec) (s .k) (s .past) (commonOf (s .w .now)) (s .buffer .now) _
+    (sym (asked .first-no .ensures (s .past)) ∙ ap refusalIn (refusing .n .given .1)) (c .refuse .ensures)
 
 same-length : tie.Need-same-length
 same-length c = search needs
@@ -102,7 +102,7 @@ returns-2 c =
     let w = s .w .now in
     let x = advanced .advance .result in
     let front = list-front (commonOf w) _ (filled .fill .ensures .1) (filled .fill .ensures .0) in
-    told-advanced (nightPhase w) (s .rec) (s .k) (commonOf w) (s .buffer .now) x (unrefused told)
+    told-advanced (nightPhase w) (s .rec) (s .k) (s .past) (commonOf w) (s .buffer .now) x (unrefused told)
     (advanced .advance .ensures (nightPhase w) (night-seeks w _ front (start .pre)) (passed told .sound))
     (c .finished .ensures (nightPhase w) (at-no-roster .no-roster .ensures ∙ ap rosterOf (night-letters w x))) (filled .fill .ensures .1)
 

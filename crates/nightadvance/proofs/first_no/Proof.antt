@@ -42,8 +42,8 @@ returns c =
     let refusing : tie.After-n = search in
     let asked : tie.After-steps-asked = search in
     let start : tie.Start = search in
-    first-no _ (asked .steps-asked .ensures) (refusing .n .given .1)
-    ∙ let s = start .args in in-order (s .w .now) (s .rec) (s .k) (s .places) []
+    λ past-zero. first-no _ (asked .steps-asked .ensures) (refusing .n .given .1)
+    ∙ let s = start .args in in-order (s .w .now) (s .rec) (s .k) (s .places) [] past-zero
 
 returns-2 : tie.Need-returns-2
 returns-2 c =
@@ -52,9 +52,9 @@ returns-2 c =
     let at-enum-told : tie.After-enum-told = search in
     let at-steps-asked : tie.After-steps-asked = search in
     let start : tie.Start = search in
-    first-no _ (asked .common-asked .ensures) (refusing .n2 .given .1)
+    λ past-zero. first-no _ (asked .common-asked .ensures) (refusing .n2 .given .1)
     ∙ first-yes _ (at-steps-asked .steps-asked .ensures) (at-enum-told .enum-told .given .1)
-    ∙ let s = start .args in in-order (s .w .now) (s .rec) (s .k) (s .places) []
+    ∙ let s = start .args in in-order (s .w .now) (s .rec) (s .k) (s .places) [] past-zero
 
 returns-3 : tie.Need-returns-3
 returns-3 c =
@@ -65,10 +65,10 @@ returns-3 c =
     let at-enum-told : tie.After-enum-told = search in
     let at-steps-asked : tie.After-steps-asked = search in
     let start : tie.Start = search in
-    first-no _ (asked .nights-lacking .ensures) (refusing .n3 .given .1)
+    λ past-zero. first-no _ (asked .nights-lacking .ensures) (refusing .n3 .given .1)
     ∙ first-yes _ (common .common-asked .ensures) (passed .enum-told2 .given .1)
     ∙ first-yes _ (at-steps-asked .steps-asked .ensures) (at-enum-told .enum-told .given .1)
-    ∙ let s = start .args in in-order (s .w .now) (s .rec) (s .k) (s .places) []
+    ∙ let s = start .args in in-order (s .w .now) (s .rec) (s .k) (s .places) [] past-zero
 
 returns-4 : tie.Need-returns-4
 returns-4 c =
@@ -79,11 +79,11 @@ returns-4 c =
     let at-enum-told : tie.After-enum-told = search in
     let at-steps-asked : tie.After-steps-asked = search in
     let start : tie.Start = search in
-    c .record-asked .ensures
+    λ past-zero. c .record-asked .ensures
     ∙ first-yes _ (lacking .nights-lacking .ensures) (passed3 .enum-told3 .given .1)
     ∙ first-yes _ (common .common-asked .ensures) (passed2 .enum-told2 .given .1)
     ∙ first-yes _ (at-steps-asked .steps-asked .ensures) (at-enum-told .enum-told .given .1)
-    ∙ let s = start .args in in-order (s .w .now) (s .rec) (s .k) (s .places) _
+    ∙ let s = start .args in in-order (s .w .now) (s .rec) (s .k) (s .places) _ past-zero
 
 pub first-no-spec : {M : Type 1} → statement M
 first-no-spec =

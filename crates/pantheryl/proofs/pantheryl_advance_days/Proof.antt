@@ -21,6 +21,9 @@ record-of-requires c κs = search needs
 patterns-of-requires : tie.Need-patterns-of-requires
 patterns-of-requires c κs = search needs
 
+flag-of-requires : tie.Need-flag-of-requires
+flag-of-requires c κs = search needs
+
 advance-days-requires : tie.Need-advance-days-requires
 advance-days-requires c κs = search needs
 
@@ -54,13 +57,15 @@ returns c =
     let start : tie.Start = search in
     let s = start .args in
     let nights = over .patterns-of .result in
-    let advance : Stored → Answer × Stored = λ r. advanceDays (s .file .now) nights (callOf (s .k) (length (s .buffer .now))) r in
-    let leaving : Stored → List ℕ = λ r. dayLeft (s .file .now) nights r (s .k) (s .buffer .now) in
+    let flag : tie.After-flag-of = search in
+    let beyond = flag .flag-of .result in
+    let advance : Stored → Answer × Stored = λ r. advanceDays (s .file .now) nights (callOf (s .k) beyond (length (s .buffer .now))) r in
+    let leaving : Stored → List ℕ = λ r. dayLeft (s .file .now) nights r (s .k) beyond (s .buffer .now) in
     let done = advance-done (s .words .now) advance leaving (rec-read .record-of .ensures) (advanced .advance-days .ensures .0) (advanced .advance-days .ensures .1)
     (worded .outcome-words .ensures) (asked .is-refused .ensures) (not-true _ (at-if .if1 .taken)) (c .words-of .ensures) in
     let is = told (s .words .now) advance leaving (rec-read .record-of .ensures) (advanced .advance-days .ensures .0) (advanced .advance-days .ensures .1)
     (worded .outcome-words .ensures) (asked .is-refused .ensures) in
-    rw (← over .patterns-of .ensures) (done .0, (done .1 .0, (done .1 .1, in-roster _ (s .roster .now) is (put .put-letters .ensures))))
+    rw (← over .patterns-of .ensures, ← flag .flag-of .ensures) (done .0, (done .1 .0, (done .1 .1, in-roster _ (s .roster .now) is (put .put-letters .ensures))))
 
 same-length-2 : tie.Need-same-length-2
 same-length-2 c = search needs
@@ -76,13 +81,15 @@ returns-2 c =
     let start : tie.Start = search in
     let s = start .args in
     let nights = over .patterns-of .result in
-    let advance : Stored → Answer × Stored = λ r. advanceDays (s .file .now) nights (callOf (s .k) (length (s .buffer .now))) r in
-    let leaving : Stored → List ℕ = λ r. dayLeft (s .file .now) nights r (s .k) (s .buffer .now) in
+    let flag : tie.After-flag-of = search in
+    let beyond = flag .flag-of .result in
+    let advance : Stored → Answer × Stored = λ r. advanceDays (s .file .now) nights (callOf (s .k) beyond (length (s .buffer .now))) r in
+    let leaving : Stored → List ℕ = λ r. dayLeft (s .file .now) nights r (s .k) beyond (s .buffer .now) in
     let done = advance-refused (s .words .now) advance leaving (rec-read .record-of .ensures) (advanced .advance-days .ensures .0) (advanced .advance-days .ensures .1)
     (worded .outcome-words .ensures) (asked .is-refused .ensures) (not-false _ (c .if1 .left)) in
     let is = told (s .words .now) advance leaving (rec-read .record-of .ensures) (advanced .advance-days .ensures .0) (advanced .advance-days .ensures .1)
     (worded .outcome-words .ensures) (asked .is-refused .ensures) in
-    rw (← over .patterns-of .ensures) (done .0, (done .1 .0, (done .1 .1, in-roster _ (s .roster .now) is (put .put-letters .ensures))))
+    rw (← over .patterns-of .ensures, ← flag .flag-of .ensures) (done .0, (done .1 .0, (done .1 .1, in-roster _ (s .roster .now) is (put .put-letters .ensures))))
 
 pub pantheryl-advance-days-spec : {M : Type 1} → statement M
 pantheryl-advance-days-spec =
@@ -90,6 +97,7 @@ pantheryl-advance-days-spec =
     (tie.spec
     record-of-requires
     patterns-of-requires
+    flag-of-requires
     advance-days-requires
     outcome-words-requires
     put-letters-requires

@@ -13,6 +13,9 @@ use Rattle.pantheryl.proofs.pantheryl_advance_nights.Tie as tie
 record-of-requires : tie.Need-record-of-requires
 record-of-requires c κs = search needs
 
+flag-of-requires : tie.Need-flag-of-requires
+flag-of-requires c κs = search needs
+
 advance-nights-requires : tie.Need-advance-nights-requires
 advance-nights-requires c κs = search needs
 
@@ -35,11 +38,13 @@ returns c =
     let worded : tie.After-outcome-words = search in
     let advanced : tie.After-advance-nights = search in
     let rec-read : tie.After-record-of = search in
+    let flag : tie.After-flag-of = search in
     let start : tie.Start = search in
     let s = start .args in
-    advance-done (s .words .now) (λ (r : Stored). advanceNights (s .file .now) (callOf (s .k) (length (s .buffer .now))) r) (λ (r : Stored). nightLeft (s .file .now) r (s .k) (s .buffer .now))
+    let beyond = flag .flag-of .result in
+    rw (← flag .flag-of .ensures) (advance-done (s .words .now) (λ (r : Stored). advanceNights (s .file .now) (callOf (s .k) beyond (length (s .buffer .now))) r) (λ (r : Stored). nightLeft (s .file .now) r (s .k) beyond (s .buffer .now))
     (rec-read .record-of .ensures) (advanced .advance-nights .ensures .0) (advanced .advance-nights .ensures .1) (worded .outcome-words .ensures) (asked .is-refused .ensures)
-    (not-true _ (at-if .if1 .taken)) (c .words-of .ensures)
+    (not-true _ (at-if .if1 .taken)) (c .words-of .ensures))
 
 same-length-2 : tie.Need-same-length-2
 same-length-2 c = search needs
@@ -50,17 +55,20 @@ returns-2 c =
     let worded : tie.After-outcome-words = search in
     let advanced : tie.After-advance-nights = search in
     let rec-read : tie.After-record-of = search in
+    let flag : tie.After-flag-of = search in
     let start : tie.Start = search in
     let s = start .args in
-    advance-refused (s .words .now) (λ (r : Stored). advanceNights (s .file .now) (callOf (s .k) (length (s .buffer .now))) r) (λ (r : Stored). nightLeft (s .file .now) r (s .k) (s .buffer .now))
+    let beyond = flag .flag-of .result in
+    rw (← flag .flag-of .ensures) (advance-refused (s .words .now) (λ (r : Stored). advanceNights (s .file .now) (callOf (s .k) beyond (length (s .buffer .now))) r) (λ (r : Stored). nightLeft (s .file .now) r (s .k) beyond (s .buffer .now))
     (rec-read .record-of .ensures) (advanced .advance-nights .ensures .0) (advanced .advance-nights .ensures .1) (worded .outcome-words .ensures) (asked .is-refused .ensures)
-    (not-false _ (c .if1 .left))
+    (not-false _ (c .if1 .left)))
 
 pub pantheryl-advance-nights-spec : {M : Type 1} → statement M
 pantheryl-advance-nights-spec =
     tie.close
     (tie.spec
     record-of-requires
+    flag-of-requires
     advance-nights-requires
     outcome-words-requires
     is-refused-requires

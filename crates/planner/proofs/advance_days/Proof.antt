@@ -62,7 +62,7 @@ returns c =
     let reading : tie.After-read = search in
     let start : tie.Start = search in
     let s = start .args in
-    file-refused (λ (w : List ℕ). dayPhase w (nightOf (s .nights .now))) (λ (x : Read). listsOf x (s .nights .now)) (s .file .now) (s .rec) (s .k) (s .buffer .now)
+    file-refused (λ (w : List ℕ). dayPhase w (nightOf (s .nights .now))) (λ (x : Read). listsOf x (s .nights .now)) (s .file .now) (s .rec) (s .k) (s .past) (s .buffer .now)
     (reading-bad (s .file .now) _ (reading .read .ensures) (refusing .answer .given .1)) (c .refuse .ensures)
 
 same-length : tie.Need-same-length
@@ -77,7 +77,7 @@ returns-2 c =
     let start : tie.Start = search in
     let body : tie.After-body = search in
     let s = start .args in
-    file-advanced (λ (w : List ℕ). dayPhase w (nightOf (s .nights .now))) (λ (x : Read). listsOf x (s .nights .now)) (s .file .now) (s .rec) (s .k) (s .buffer .now)
+    file-advanced (λ (w : List ℕ). dayPhase w (nightOf (s .nights .now))) (λ (x : Read). listsOf x (s .nights .now)) (s .file .now) (s .rec) (s .k) (s .past) (s .buffer .now)
     (λ w. upTo (dayLists w (s .nights .now)) (nurses w)) (λ ws. refl)
     (reading-good (s .file .now) _ (reading .read .ensures) (told .enum-told .given .1)) (body .body .ensures) (advanced .advance-on .ensures)
 

@@ -59,7 +59,7 @@ returns c =
     let reading : tie.After-read = search in
     let start : tie.Start = search in
     let s = start .args in
-    file-refused nightPhase listOf (s .file .now) (s .rec) (s .k) (s .buffer .now)
+    file-refused nightPhase listOf (s .file .now) (s .rec) (s .k) (s .past) (s .buffer .now)
     (reading-bad (s .file .now) _ (reading .read .ensures) (refusing .answer .given .1)) (c .refuse .ensures)
 
 same-length : tie.Need-same-length
@@ -74,7 +74,7 @@ returns-2 c =
     let start : tie.Start = search in
     let body : tie.After-body = search in
     let s = start .args in
-    file-advanced nightPhase listOf (s .file .now) (s .rec) (s .k) (s .buffer .now) commonOf (λ ws. refl)
+    file-advanced nightPhase listOf (s .file .now) (s .rec) (s .k) (s .past) (s .buffer .now) commonOf (λ ws. refl)
     (reading-good (s .file .now) _ (reading .read .ensures) (told .enum-told .given .1)) (body .body .ensures) (advanced .advance-on .ensures)
 
 pub advance-nights-spec : {M : Type 1} → statement M

@@ -1,6 +1,9 @@
 -- `roster::show_roster` keeps within its letters.
-use mathlib.Core.Path.{sym}
+use mathlib.Core.Path.{_≡_, sym}
+use native.Mathlib.Omega.{arith}
+use lib.ListN.{length}
 use lib.Seq.{length-take-le}
+use Rattle.fields.specs.Sizes.{letterPlaces}
 use borrow.Author.Needs.{needs}
 use Rattle.roster.proofs.show_roster.Statement.{statement}
 use Rattle.roster.proofs.show_roster.Tie as tie
@@ -8,10 +11,15 @@ use Rattle.roster.proofs.show_roster.Tie as tie
 days-of-requires : tie.Need-days-of-requires
 days-of-requires c κs = search needs
 
+array-share-prefix-letters : tie.Need-array-share-prefix-letters
+array-share-prefix-letters c = search needs
+
 slice-aggregate-show-rows : tie.Need-slice-aggregate-show-rows
 slice-aggregate-show-rows c =
     let at-then1 : tie.Then1 = search in
-    sym (length-take-le _ _ (at-then1 .if1 .taken))
+    let start : tie.Start = search in
+    let l : length (start .args .t2) ≡ letterPlaces = search needs in
+    sym (length-take-le _ _ (omega (arith, l, at-then1 .if1 .taken)))
 
 show-rows-requires : tie.Need-show-rows-requires
 show-rows-requires c κs = search needs
@@ -38,4 +46,4 @@ returns : tie.Need-returns
 returns c = search needs
 
 pub show-roster-spec : {M : Type 1} → statement M
-show-roster-spec = tie.close (tie.spec days-of-requires slice-aggregate-show-rows show-rows-requires slice-aggregate-write-all write-all-requires number-requires number-requires-2 slice-aggregate-write-all-2 write-all-requires-2 returns)
+show-roster-spec = tie.close (tie.spec days-of-requires array-share-prefix-letters slice-aggregate-show-rows show-rows-requires slice-aggregate-write-all write-all-requires number-requires number-requires-2 slice-aggregate-write-all-2 write-all-requires-2 returns)

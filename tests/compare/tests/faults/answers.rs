@@ -2,8 +2,7 @@
 
 use crate::faulty::{Fault, Named};
 use compare::calls::*;
-use compare::rounds::FRESH;
-use compare::words::{removal_at, FLAGS, PAIRS, REMOVAL, REMOVALS, STEPS_AT};
+use compare::words::{removal_at, FLAGS, FRESH, PAIRS, REMOVAL, REMOVALS, STEPS_AT};
 
 fn refused(handed: &Handed) -> bool {
     handed.answer[QUESTION] != 0

@@ -1,8 +1,9 @@
 //! The roster check: the worked roster, its spoilings, and rosters given out.
 
 use crate::check::{check, check_in, row_follows};
+use crate::history::Call;
 use crate::pairs::Pattern;
-use crate::phase::{DayPhase, End, NightPhase, Phase};
+use crate::phase::{DayPhase, NightPhase, Phase};
 use crate::record::{advance_day, advance_day_in, advance_night, advance_night_in, fresh};
 use crate::samples::*;
 use crate::ward::parse;
@@ -56,8 +57,9 @@ fn every_roster_of_the_worked_ward() {
 
 #[test]
 fn redated_roster() {
-    let night = advance_night(REDATED, &fresh(), 1000, 16_384).unwrap();
-    let day = advance_day(REDATED, &night.record.patterns, &fresh(), 1000, 16_384).unwrap();
+    let night = advance_night(REDATED, &fresh(), Call::plain(1000, 16_384)).unwrap();
+    let nights = night.record.patterns;
+    let day = advance_day(REDATED, &nights, &fresh(), Call::plain(1000, 16_384)).unwrap();
     let roster = day.roster.unwrap();
     assert_eq!(check(REDATED, &roster), Ok(true));
     let mut spoiled = roster.clone();
@@ -84,13 +86,16 @@ fn rosters_given_out_are_good() {
     let mut given = 0;
     for _ in 0..400 {
         let ward = random_ward(&mut dice, 4, 9);
-        let Ok(night) = advance_night_in(&ward, &fresh(), 30, 100_000) else { continue };
-        if night.end != End::Zero {
+        let [by_night, by_day] =
+            [(); 2].map(|()| Call { k: 30, past_zero: dice.one_in(3), places: 100_000 });
+        let Ok(night) = advance_night_in(&ward, &fresh(), by_night) else { continue };
+        if night.penalty != 0 {
             continue;
         }
         let nights = night.record.patterns;
-        let Ok(day) = advance_day_in(&ward, &nights, &fresh(), 30, 100_000) else { continue };
-        assert_eq!(day.roster.is_some(), day.end == End::Zero);
+        let Ok(day) = advance_day_in(&ward, &nights, &fresh(), by_day) else { continue };
+        // whatever its end
+        assert_eq!(day.roster.is_some(), day.penalty == 0);
         if let Some(roster) = day.roster {
             assert_eq!(check_in(&ward, &roster), Ok(true));
             given += 1;

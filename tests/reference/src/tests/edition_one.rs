@@ -1,5 +1,6 @@
 //! Calls as edition one has them: a pattern is a number, without a pair.
 
+use crate::history::Call;
 use crate::pairs::Pattern;
 use crate::penalty::Penalty;
 use crate::record::{self, Answer, Record};
@@ -58,8 +59,7 @@ pub fn advance_day(
     file: &[u8],
     nights: &[u32],
     record: &Record,
-    k: u64,
-    places: usize,
+    call: Call,
 ) -> Result<Answer, Refusal> {
-    record::advance_day(file, &patterns(nights), record, k, places)
+    record::advance_day(file, &patterns(nights), record, call)
 }

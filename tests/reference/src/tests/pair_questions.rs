@@ -1,6 +1,7 @@
 //! Questions 8 to 11 over patterns with pairs (document 02, job 2).
 
 use super::pair_lists::pattern;
+use crate::history::Call;
 use crate::pairs::Pattern;
 use crate::record::{advance_day, advance_night, fresh, Answer, Record, Removal};
 use crate::samples::*;
@@ -12,7 +13,7 @@ fn no(question: u32, place: u64) -> Refusal {
 
 fn day(nights: [(u32, u32); 2], record: &Record, places: usize) -> Result<Answer, Refusal> {
     let nights = nights.map(|(days, pair)| pattern(days, pair));
-    advance_day(PAIRS, &nights, record, 0, places)
+    advance_day(PAIRS, &nights, record, Call::plain(0, places))
 }
 
 #[test]
@@ -27,19 +28,19 @@ fn question_8() {
     assert_eq!(day([(1, 1), (0, 2)], &fresh(), 0), Err(no(8, 0)));
     // the worked ward has no pairs
     let nights = |pair| [pattern(1, 0), pattern(0, pair)];
-    assert!(advance_day(WORKED, &nights(0), &fresh(), 0, 5).is_ok());
-    assert_eq!(advance_day(WORKED, &nights(1), &fresh(), 0, 5), Err(no(8, 0)));
+    assert!(advance_day(WORKED, &nights(0), &fresh(), Call::plain(0, 5)).is_ok());
+    assert_eq!(advance_day(WORKED, &nights(1), &fresh(), Call::plain(0, 5)), Err(no(8, 0)));
     // entries after nurse m are not looked at
     let mut nights = [pattern(u32::MAX, u32::MAX); 48];
     (nights[0], nights[1]) = (pattern(1, 2), pattern(0, 2));
-    assert!(advance_day(PAIRS, &nights, &fresh(), 0, 5).is_ok());
+    assert!(advance_day(PAIRS, &nights, &fresh(), Call::plain(0, 5)).is_ok());
 }
 
 /// The buffer is for night patterns by night and for day patterns by day: pairs need no place.
 #[test]
 fn question_9() {
-    assert_eq!(advance_night(PAIRS, &fresh(), 0, 4), Err(no(9, 0)));
-    assert!(advance_night(PAIRS, &fresh(), 0, 5).is_ok());
+    assert_eq!(advance_night(PAIRS, &fresh(), Call::plain(0, 4)), Err(no(9, 0)));
+    assert!(advance_night(PAIRS, &fresh(), Call::plain(0, 5)).is_ok());
     assert_eq!(day([(1, 2), (0, 2)], &fresh(), 0), Err(no(9, 1)));
     assert_eq!(day([(1, 2), (0, 2)], &fresh(), 4), Err(no(9, 2)));
 }
@@ -50,7 +51,7 @@ fn question_10() {
     let with_marks = |nurse: usize, marks: [u64; 4]| {
         let mut numbers = PAIRS_NUMBERS;
         numbers[29 + 15 * (nurse - 1)..][..4].copy_from_slice(&marks);
-        advance_night(&file_of(&numbers), &fresh(), 0, 5).map(|answer| answer.penalty)
+        advance_night(&file_of(&numbers), &fresh(), Call::plain(0, 5)).map(|answer| answer.penalty)
     };
     assert_eq!(with_marks(1, [0, 0, 4, 0]), Err(no(10, 1)));
     assert_eq!(with_marks(2, [0, 0, 2, 0]), Err(no(10, 2)));
@@ -75,7 +76,7 @@ fn question_11() {
     let refused = |change: &dyn Fn(&mut Record)| {
         let mut record = after(2);
         change(&mut record);
-        advance_night(PAIRS, &record, 0, 5) == Err(no(11, 0))
+        advance_night(PAIRS, &record, Call::plain(0, 5)) == Err(no(11, 0))
     };
     let removal = |nurse, given_up, pattern| Removal { nurse, given_up, pattern };
     let placed = |record: &mut Record, nurse: usize, pattern: Pattern| {
@@ -122,7 +123,7 @@ fn question_11_without_pairs() {
     let refused = |pair| {
         let mut record = after(2);
         (record.placed[0], record.patterns[0]) = (true, pattern(1, pair));
-        advance_night(WORKED, &record, 0, 4) == Err(no(11, 0))
+        advance_night(WORKED, &record, Call::plain(0, 4)) == Err(no(11, 0))
     };
     assert!(!refused(0));
     assert!(refused(1));

@@ -11,7 +11,7 @@ use crate::samples::*;
 use crate::ward::{parse, Ward};
 use crate::{nights, ward};
 
-const CALL: Call = Call { k: 10, places: 20 };
+const CALL: Call = Call::plain(10, 20);
 
 /// Nurse (from 1), night and pair of each step.
 fn steps(history: &History) -> Vec<(usize, u32, u32)> {
@@ -50,12 +50,13 @@ fn steps_of_the_ward_with_two_pairs() {
 
 #[test]
 fn record_of_the_ward_with_two_pairs() {
-    let night = record::advance_night(PAIRS, &fresh(), 10, 5).unwrap();
+    let night = record::advance_night(PAIRS, &fresh(), Call::plain(10, 5)).unwrap();
     assert_eq!((night.end, night.made, night.penalty), (End::Zero, 2, 0));
     // pairs are not listed
     assert_eq!(night.buffer, [0, 1, 2, 4, 8]);
     assert_eq!(night.record.patterns[..3], [pattern(1, 2), pattern(0, 2), pattern(0, 0)]);
-    let day = record::advance_day(PAIRS, &night.record.patterns, &fresh(), 10, 5).unwrap();
+    let day =
+        record::advance_day(PAIRS, &night.record.patterns, &fresh(), Call::plain(10, 5)).unwrap();
     assert_eq!(day.buffer, [0, 0, 1, 2, 3]);
     assert_eq!(day.record.patterns[..3], [0, 3, 0].map(Pattern::from));
     assert_eq!(day.roster.unwrap(), b"Nn//--//");
@@ -76,14 +77,14 @@ fn both_together() {
     let mut history = History::new();
     let mut penalties = Vec::new();
     for _ in 0..5 {
-        let call = Call { k: 1, places: 5 };
+        let call = Call::plain(1, 5);
         let answer = history::advance_night(&ward, &mut history, call).unwrap();
         assert_eq!((answer.end, answer.added), (End::Asked, 1));
         penalties.push(answer.penalty);
     }
     assert_eq!(steps(&history), [(1, 0, 1), (1, 0, 2), (1, 8, 1), (1, 0, 1), (1, 0, 2)]);
     assert_eq!(penalties, [2, 2, 3, 2, 2]);
-    let call = Call { k: 5, places: 5 };
+    let call = Call::plain(5, 5);
     let (answers, whole) = history::all_nights(&ward, &[call]);
     assert_eq!(whole, history);
     assert_eq!(answers[0].as_ref().unwrap().end, End::Asked);
@@ -140,11 +141,12 @@ fn no_pairs_as_edition_one() {
     for _ in 0..100 {
         let old = random_numbers(&mut dice, 4, 8);
         let [one, two] = [old.clone(), with_pairs(&old, &[])].map(|numbers| file_of(&numbers));
-        let night = record::advance_night(&one, &fresh(), 20, 1_000);
-        assert_eq!(night, record::advance_night(&two, &fresh(), 20, 1_000));
+        let call = Call { k: 20, past_zero: dice.one_in(2), places: 10_000 };
+        let night = record::advance_night(&one, &fresh(), call);
+        assert_eq!(night, record::advance_night(&two, &fresh(), call));
         let Ok(night) = night else { continue };
         let nights = &night.record.patterns;
-        let day = |file: &[u8]| record::advance_day(file, nights, &fresh(), 20, 10_000);
+        let day = |file: &[u8]| record::advance_day(file, nights, &fresh(), call);
         assert_eq!(day(&one), day(&two));
     }
 }

@@ -115,11 +115,11 @@ fn writer_places_are_indexes() {
 }
 
 fn night(record: &Record, k: u64, places: usize) -> Result<Answer, Refusal> {
-    advance_night(WORKED, record, k, places)
+    advance_night(WORKED, record, Call::plain(k, places))
 }
 
 fn day(nights: [u32; 2], record: &Record, k: u64, places: usize) -> Result<Answer, Refusal> {
-    advance_day(WORKED, &nights, record, k, places)
+    advance_day(WORKED, &nights, record, Call::plain(k, places))
 }
 
 /// A record with steps so far and its two removals.
@@ -134,8 +134,9 @@ fn after(steps: u32) -> Record {
 
 #[test]
 fn advances_ask_the_ward_first() {
-    assert_eq!(advance_night(b"", &fresh(), 10_001, 0), Err(no(1, 0)));
-    assert_eq!(advance_day(&WORKED[..3], &[0; 48], &fresh(), 10_001, 0), Err(no(1, 3)));
+    assert_eq!(advance_night(b"", &fresh(), Call::plain(10_001, 0)), Err(no(1, 0)));
+    let cut = &WORKED[..3];
+    assert_eq!(advance_day(cut, &[0; 48], &fresh(), Call::plain(10_001, 0)), Err(no(1, 3)));
     assert_eq!(check(b"", b"?"), Err(no(1, 0)));
 }
 
@@ -163,7 +164,7 @@ fn question_8() {
     // entries after nurse m are not looked at
     let mut nights = [u32::MAX; 48];
     (nights[0], nights[1]) = (1, 0);
-    assert!(advance_day(WORKED, &nights, &fresh(), 0, 5).is_ok());
+    assert!(advance_day(WORKED, &nights, &fresh(), Call::plain(0, 5)).is_ok());
 }
 
 #[test]
@@ -186,9 +187,9 @@ fn question_10() {
     (numbers[38], numbers[41]) = (0, 3);
     let mut bad = fresh();
     bad.patterns[47] = 1.into();
-    assert_eq!(advance_night(&file_of(&numbers), &bad, 0, 4), Err(no(10, 2)));
-    assert_eq!(advance_night(&file_of(&numbers), &bad, 0, 3), Err(no(9, 0)));
-    assert_eq!(advance_day(DEAD_ENDS, &[0; 48], &bad, 0, 0), Err(no(10, 1)));
+    assert_eq!(advance_night(&file_of(&numbers), &bad, Call::plain(0, 4)), Err(no(10, 2)));
+    assert_eq!(advance_night(&file_of(&numbers), &bad, Call::plain(0, 3)), Err(no(9, 0)));
+    assert_eq!(advance_day(DEAD_ENDS, &[0; 48], &bad, Call::plain(0, 0)), Err(no(10, 1)));
 }
 
 #[test]
@@ -197,8 +198,8 @@ fn question_9_of_a_later_nurse_before_10() {
     let mut numbers = WORKED_NUMBERS;
     (numbers[25], numbers[26]) = (3, 3);
     let file = file_of(&numbers);
-    assert_eq!(advance_day(&file, &[1, 0], &fresh(), 0, 3), Err(no(9, 2)));
-    assert_eq!(advance_day(&file, &[1, 0], &fresh(), 0, 4), Err(no(10, 1)));
+    assert_eq!(advance_day(&file, &[1, 0], &fresh(), Call::plain(0, 3)), Err(no(9, 2)));
+    assert_eq!(advance_day(&file, &[1, 0], &fresh(), Call::plain(0, 4)), Err(no(10, 1)));
 }
 
 #[test]
@@ -257,10 +258,10 @@ fn question_12() {
 fn a_refused_advance_adds_nothing() {
     let ward = worked();
     let mut history = History::new();
-    let refused = history::advance_night(&ward, &mut history, Call { k: 2, places: 3 });
+    let refused = history::advance_night(&ward, &mut history, Call::plain(2, 3));
     assert_eq!(refused, Err(no(9, 0)));
     assert!(history.is_empty());
     let nights = [0, 0].map(Pattern::from);
-    let refused = history::advance_day(&ward, &nights, &mut history, Call { k: 2, places: 5 });
+    let refused = history::advance_day(&ward, &nights, &mut history, Call::plain(2, 5));
     assert_eq!(refused, Err(no(8, 0)));
 }

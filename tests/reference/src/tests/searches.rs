@@ -28,16 +28,16 @@ fn worked_day_penalties() {
 }
 
 /// Nurse and number of each step, without pairs.
-fn steps(history: &History) -> Vec<(usize, u32)> {
+pub fn steps(history: &History) -> Vec<(usize, u32)> {
     history.iter().map(|step| (step.0, step.1.days)).collect()
 }
 
 #[test]
 fn worked_steps() {
-    let (_, history) = history::all_nights(&worked(), &[Call { k: 10, places: 4 }]);
+    let (_, history) = history::all_nights(&worked(), &[Call::plain(10, 4)]);
     assert_eq!(steps(&history), [(0, 1), (1, 0)]);
     let nights = [1, 0].map(Pattern::from);
-    let (answers, history) = history::all_days(&worked(), &nights, &[Call { k: 10, places: 5 }]);
+    let (answers, history) = history::all_days(&worked(), &nights, &[Call::plain(10, 5)]);
     assert_eq!(steps(&history), [(1, 3), (0, 0)]);
     let answer = answers[0].clone().unwrap();
     assert_eq!(answer.end, End::Zero);
@@ -46,15 +46,16 @@ fn worked_steps() {
 
 #[test]
 fn worked_record() {
-    let answer = record::advance_night(WORKED, &fresh(), 1, 4).unwrap();
+    let answer = record::advance_night(WORKED, &fresh(), Call::plain(1, 4)).unwrap();
     assert_eq!((answer.end, answer.made, answer.penalty), (End::Asked, 1, 10_000_000));
     assert_eq!(answer.buffer, [0, 1, 2, 4]);
-    let answer = record::advance_night(WORKED, &answer.record, 10, 4).unwrap();
+    let answer = record::advance_night(WORKED, &answer.record, Call::plain(10, 4)).unwrap();
     assert_eq!((answer.end, answer.made, answer.penalty), (End::Zero, 1, 0));
     assert_eq!(answer.record.removals[0].nurse, 2);
     assert_eq!(answer.record.removals[1].nurse, 1);
     assert_eq!(answer.roster, None);
-    let day = record::advance_day(WORKED, &answer.record.patterns, &fresh(), 10, 5).unwrap();
+    let nights = answer.record.patterns;
+    let day = record::advance_day(WORKED, &nights, &fresh(), Call::plain(10, 5)).unwrap();
     assert_eq!(day.buffer, [0, 0, 1, 2, 3]);
     assert_eq!(day.roster.unwrap(), b"Nn/--/");
 }
@@ -106,28 +107,30 @@ fn unplaced_rows() {
 #[test]
 fn stuck_ends_with_none() {
     let ward = crate::ward::parse(STUCK).unwrap();
-    let (answers, history) = history::all_nights(&ward, &[Call { k: 1000, places: 16_384 }]);
+    let (answers, history) = history::all_nights(&ward, &[Call::plain(1000, 16_384)]);
     let answer = answers[0].clone().unwrap();
     assert_eq!((answer.end, answer.penalty, answer.added), (End::None, 88, 7));
-    let by_record = record::advance_night(STUCK, &fresh(), 1000, 16_384).unwrap();
+    let by_record = record::advance_night(STUCK, &fresh(), Call::plain(1000, 16_384)).unwrap();
     assert_eq!(by_record.record, record_of(&ward, &history));
 }
 
-fn random_calls(dice: &mut Dice) -> Vec<Call> {
+pub fn random_calls(dice: &mut Dice) -> Vec<Call> {
     let call = |dice: &mut Dice| Call {
         k: if dice.upto(9) == 0 { 10_001 } else { dice.upto(6) },
+        past_zero: dice.one_in(2),
         places: if dice.upto(3) == 0 { dice.upto(60) as usize } else { 100_000 },
     };
     (0..dice.from(1, 6)).map(|_| call(dice)).collect()
 }
 
-/// One search by record beside one by history: same answers, same record.
+/// One search by record beside one by history: same answers, same record. What the last advance
+/// left, and its penalty.
 fn compare(
     ward: &Ward,
     calls: &[Call],
     by_history: &dyn Fn(&mut History, Call) -> Result<history::Answer, crate::ward::Refusal>,
     by_record: &dyn Fn(&Record, Call) -> Result<record::Answer, crate::ward::Refusal>,
-) -> (Record, Option<End>) {
+) -> (Record, Option<u64>) {
     let (mut history, mut record, mut last) = (History::new(), fresh(), None);
     for &call in calls {
         match (by_history(&mut history, call), by_record(&record, call)) {
@@ -135,7 +138,7 @@ fn compare(
                 assert_eq!((answer.end, answer.made), (expected.end, expected.added));
                 assert_eq!((answer.penalty, &answer.roster), (expected.penalty, &expected.roster));
                 assert_eq!(answer.record, record_of(ward, &history));
-                last = Some(answer.end);
+                last = Some(answer.penalty);
                 record = answer.record;
             }
             (expected, answer) => assert_eq!(expected.unwrap_err(), answer.unwrap_err()),
@@ -144,7 +147,7 @@ fn compare(
     (record, last)
 }
 
-fn everyone_has_a_pattern(phase: &dyn Phase) -> bool {
+pub fn everyone_has_a_pattern(phase: &dyn Phase) -> bool {
     (0..phase.ward().nurse_count).all(|nurse| !phase.list(nurse).is_empty())
 }
 
@@ -174,13 +177,13 @@ fn runs(dice: &mut Dice, wards: u32, draw: impl Fn(&mut Dice) -> Ward) -> [u32; 
         }
         night_runs += 1;
         let calls = random_calls(dice);
-        let (record, end) = compare(
+        let (record, penalty) = compare(
             &ward,
             &calls,
             &|history, call| history::advance_night(&ward, history, call),
-            &|record, call| record::advance_night_in(&ward, record, call.k, call.places),
+            &|record, call| record::advance_night_in(&ward, record, call),
         );
-        if end != Some(End::Zero) {
+        if penalty != Some(0) {
             continue;
         }
         let nights = record.patterns;
@@ -189,13 +192,13 @@ fn runs(dice: &mut Dice, wards: u32, draw: impl Fn(&mut Dice) -> Ward) -> [u32; 
         }
         day_runs += 1;
         let calls = random_calls(dice);
-        let (_, end) = compare(
+        let (_, penalty) = compare(
             &ward,
             &calls,
             &|history, call| history::advance_day(&ward, &nights, history, call),
-            &|record, call| record::advance_day_in(&ward, &nights, record, call.k, call.places),
+            &|record, call| record::advance_day_in(&ward, &nights, record, call),
         );
-        rosters += u32::from(end == Some(End::Zero));
+        rosters += u32::from(penalty == Some(0));
     }
     [night_runs, day_runs, rosters]
 }
@@ -204,7 +207,7 @@ fn runs(dice: &mut Dice, wards: u32, draw: impl Fn(&mut Dice) -> Ward) -> [u32; 
 #[test]
 fn cuts_do_not_matter() {
     let ward = crate::ward::parse(STUCK).unwrap();
-    let call = |k| Call { k, places: 16_384 };
+    let call = |k| Call::plain(k, 16_384);
     let (_, whole) = history::all_nights(&ward, &[call(7)]);
     let (_, cut) = history::all_nights(&ward, &[call(1), call(0), call(2), call(10_001), call(9)]);
     assert_eq!(whole, cut);

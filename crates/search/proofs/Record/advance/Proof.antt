@@ -1,12 +1,12 @@
 -- `search::Record::advance` meets its contract: what is left to run is the rest of the run.
 use Prim.Native.Nat.{_-_}
-use mathlib.Core.Bool.{true}
-use mathlib.Core.Path.{_≡_}
+use mathlib.Core.Bool.{true, false}
+use mathlib.Core.Path.{_≡_, sym, _∙_}
 use native.Mathlib.Omega.{arith}
 use borrow.Author.Tests.{not-true, not-false}
 use lib.ListN.{length-map}
 use borrow.Author.Needs.{needs}
-use Rattle.history.specs.Phase.{Phase}
+use Rattle.history.specs.Phase.{Phase, stops}
 use Rattle.search.specs.Stored.{Sized, soundStored}
 use Rattle.search.specs.CodeSeek.{Seeks}
 use Rattle.search.proofs.AdvanceLaws.{Running, Turn, running-start, ends-zero, ends-asked, stays-none, moves-on}
@@ -19,10 +19,10 @@ use Rattle.search.proofs.Record.step.Reads as step-reads
 use Rattle.search.proofs.slots.penalty_of.Reads as penalty-of-reads
 
 abbrev Inv-loop : tie.InvT-loop
-Inv-loop w lists stretches k which after₀ made₀ after made = (P : Phase) → Seeks (stretches .search) w lists (stretches .ends) P → soundStored P after₀ ≡ true → Running P k after₀ after made
+Inv-loop w lists stretches k past which after₀ made₀ after made = (P : Phase) → Seeks (stretches .search) w lists (stretches .ends) P → soundStored P after₀ ≡ true → Running P past k after₀ after made
 
 abbrev μ-loop : tie.MeasureT-loop
-μ-loop w lists stretches k which after₀ made₀ after made = k - made
+μ-loop w lists stretches k past which after₀ made₀ after made = k - made
 
 -- the places, each from the next
 abbrev at-start : tie.At-loop Inv-loop μ-loop → tie.Start Inv-loop μ-loop
@@ -31,18 +31,25 @@ at-start c = c .before .before .before
 abbrev at-loop : tie.After-penalty-of Inv-loop μ-loop → tie.At-loop Inv-loop μ-loop
 at-loop c = c .before
 
-abbrev at-penalty : tie.Else1 Inv-loop μ-loop → tie.After-penalty-of Inv-loop μ-loop
+abbrev at-penalty : tie.After-stops Inv-loop μ-loop → tie.After-penalty-of Inv-loop μ-loop
 at-penalty c = c .before
+
+abbrev at-stops : tie.Else1 Inv-loop μ-loop → tie.After-stops Inv-loop μ-loop
+at-stops c = c .before
+
+-- where the advance does not stop
+goes-on : (c : tie.Else1 Inv-loop μ-loop) → let penalty = at-penalty (at-stops c) in stops ((at-start (at-loop penalty)) .args .past) (penalty .penalty-of .result) ≡ false
+goes-on c = sym (at-stops c .stops .ensures) ∙ c .if1 .left
 
 -- the turn, in any phase that is served
 turn-at : (c : tie.After-penalty-of Inv-loop μ-loop) (P : Phase) → let loop = at-loop c in let a = (at-start loop) .args in
     Seeks (a .stretches .search) (a .w .now) (a .lists .now) (a .stretches .ends) P → soundStored P (a .self) ≡ true
-    → Turn P (a .k) (a .self) (loop .loop .after) (loop .loop .made) (c .penalty-of .result)
+    → Turn P (a .past) (a .k) (a .self) (loop .loop .after) (loop .loop .made) (c .penalty-of .result)
 turn-at c P s e = let loop = at-loop c in
     record { running = loop .loop .inv P s e; fits = seeks-fits s ((at-start loop) .pre .0 .0); cost = seeks-cost s (loop .loop .after) (c .penalty-of .ensures) }
 
 -- where the loop is: there is such a phase
-running-at : (c : tie.At-loop Inv-loop μ-loop) → let a = (at-start c) .args in Running ((at-start c) .pre .1 .0) (a .k) (a .self) (c .loop .after) (c .loop .made)
+running-at : (c : tie.At-loop Inv-loop μ-loop) → let a = (at-start c) .args in Running ((at-start c) .pre .1 .0) (a .past) (a .k) (a .self) (c .loop .after) (c .loop .made)
 running-at c = let served = (at-start c) .pre .1 in c .loop .inv (served .0) (served .1) (served .2)
 
 sized : (c : tie.Start Inv-loop μ-loop) → Sized (c .args .self)
@@ -51,22 +58,25 @@ sized c = record { patterns-long = search needs; placed-long = search needs; rem
 loop-holds : tie.Need-loop-holds Inv-loop μ-loop
 loop-holds c =
     let start : tie.Start Inv-loop μ-loop = search in
-    λ P s e. running-start P (start .args .k) (start .args .self) (sized start) e
+    λ P s e. running-start P (start .args .past) (start .args .k) (start .args .self) (sized start) e
 
 penalty-of-requires : tie.Need-penalty-of-requires Inv-loop μ-loop
 penalty-of-requires c κs =
     let start : tie.Start Inv-loop μ-loop = search in
     start .pre .0 .0
 
+stops-requires : tie.Need-stops-requires Inv-loop μ-loop
+stops-requires c κs = search needs
+
 returns : tie.Need-returns Inv-loop μ-loop
 returns c =
-    let at-penalty-of : tie.After-penalty-of Inv-loop μ-loop = search in
-    λ P s e. ends-zero (turn-at at-penalty-of P s e) (c .if1 .taken)
+    let stopped : tie.After-stops Inv-loop μ-loop = search in
+    λ P s e. ends-zero (turn-at (at-penalty stopped) P s e) (sym (stopped .stops .ensures) ∙ c .if1 .taken)
 
 returns-2 : tie.Need-returns-2 Inv-loop μ-loop
 returns-2 c =
     let if1 : tie.Else1 Inv-loop μ-loop = search in
-    λ P s e. ends-asked (turn-at (at-penalty if1) P s e) (if1 .if1 .left) (c .if2 .taken)
+    λ P s e. ends-asked (turn-at (at-penalty (at-stops if1)) P s e) (goes-on if1) (c .if2 .taken)
 
 step-requires : tie.Need-step-requires Inv-loop μ-loop
 step-requires c κs =
@@ -80,8 +90,7 @@ returns-3 c =
     let step : tie.After-step Inv-loop μ-loop = search in
     let if2 : tie.Else2 Inv-loop μ-loop = search in
     let if1 : tie.Else1 Inv-loop μ-loop = search in
-    let at-penalty-of : tie.After-penalty-of Inv-loop μ-loop = search in
-    λ P s e. stays-none (turn-at at-penalty-of P s e) (if1 .if1 .left) (if2 .if2 .left) (step .step .ensures P s) (not-true _ (c .if3 .taken))
+    λ P s e. stays-none (turn-at (at-penalty (at-stops if1)) P s e) (goes-on if1) (if2 .if2 .left) (step .step .ensures P s) (not-true _ (c .if3 .taken))
 
 add-made : tie.Need-add-made Inv-loop μ-loop
 add-made c =
@@ -101,8 +110,7 @@ loop-again c =
     let step : tie.After-step Inv-loop μ-loop = search in
     let if2 : tie.Else2 Inv-loop μ-loop = search in
     let if1 : tie.Else1 Inv-loop μ-loop = search in
-    let at-penalty-of : tie.After-penalty-of Inv-loop μ-loop = search in
-    λ P s e. moves-on (turn-at at-penalty-of P s e) (if1 .if1 .left) (if2 .if2 .left) (step .step .ensures P s) (not-false _ (at-else3 .if3 .left))
+    λ P s e. moves-on (turn-at (at-penalty (at-stops if1)) P s e) (goes-on if1) (if2 .if2 .left) (step .step .ensures P s) (not-false _ (at-else3 .if3 .left))
 
 pub advance-spec : {M : Type 1} → statement M
 advance-spec =
@@ -112,6 +120,7 @@ advance-spec =
     μ-loop
     loop-holds
     penalty-of-requires
+    stops-requires
     returns
     returns-2
     step-requires

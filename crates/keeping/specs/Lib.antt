@@ -1,0 +1,4 @@
+pub mod Storage
+pub mod Assurance
+pub mod Image
+pub mod Operations
