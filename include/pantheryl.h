@@ -3,7 +3,7 @@
  * A ward is handed over as the bytes of a ward file, of edition one or two. No call allocates, prints, or remembers anything but in what it
  * is lent. Every call takes any content: it either answers or refuses. The buffers of one call, record, storage and answer among them, must not
  * overlap. A pointer must not be null, also where its length is 0. A pointer with a size in its comment, as numbers [PANTHERYL_NUMBERS], points
- * to that many places, all readable and, where the call writes there, writable, whatever a count says. A call takes less than 384 KiB of stack.
+ * to that many places, all readable and, where the call writes there, writable, whatever a count says. A call takes less than 192 KiB of stack.
  *
  * A ward of edition two may have pairs, each of two days one after the other. By night a nurse's pattern is then a night pattern and the number
  * of a pair, from 1, both of whose days she has off. In a ward without pairs, of either edition, and by day the number is 0.

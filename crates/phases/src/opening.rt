@@ -41,8 +41,7 @@ fn night_penalty(w: &[u64], nights: &[u64; NURSES]) -> u64
     let mut rec = Record::fresh();
     rec.patterns = patterns;
     rec.placed = placed;
-    let cols = search::slots::columns(w, rec, Search::Nights);
-    search::slots::penalty_of(w, rec, cols, Search::Nights)
+    search::slots::penalty_of(w, rec, Search::Nights)
 }
 
 fn nights_open(w: &[u64], nights: &[u64; NURSES]) -> bool

@@ -255,7 +255,7 @@ impl Record {
         let cols = slots::columns(w, self, search);
         let mut night = cols.night;
         let mut day = cols.day;
-        let mut penalty = slots::penalty_of(w, self, cols, search);
+        let mut penalty = slots::penalty_by(w, self, cols, search);
         let mut nightly = [0u32; MARGINS];
         let mut daily = [0u32; MARGINS];
         let mut t = [0u32; TABLE];
@@ -310,8 +310,7 @@ impl Record {
         requires { Accepted w.now }
         ensures { (P : Phase) (tried : ℕ → List ℕ) → SeeksBy search w.now tried P → sound_stored P self ≡ true → reply_stored P past 0 self ≡ (answer_of P result, result.after) }
     {
-        let cols = slots::columns(w, self, search);
-        let penalty = slots::penalty_of(w, self, cols, search);
+        let penalty = slots::penalty_of(w, self, search);
         let made: u32 = 0;
         if stops(past, penalty) {
             return Advanced {
@@ -346,7 +345,7 @@ impl Record {
         requires sought_sound { SoughtSound Nights w.now (tried_by Nights w.now lists.now []) self }
         ensures { (P : Phase) → SeeksBy Nights w.now (tried_by Nights w.now lists.now []) P → sound_stored P self ≡ true → reply_stored P past k self ≡ (answer_of P result, result.after) }
     {
-        let mut own = [0u32; 32768];
+        let mut own = [0u32; 8192];
         let plan = ownlists::own_lists(w, lists, &mut own);
         self.advance_over(w, lists, &own, plan, Search::Nights, k, past)
     }

@@ -98,7 +98,7 @@ fn with_row(cols: Columns, w: &[u64], rec: Record, i: usize, search: Search) -> 
 }
 
 // Everyone's columns.
-pub fn columns(w: &[u64], rec: Record, search: Search) -> Columns
+pub(crate) fn columns(w: &[u64], rec: Record, search: Search) -> Columns
     requires { Accepted w.now }
     ensures { (slots : ℕ → Slot) → Agree w.now rec slots → Shown search w.now slots (nurses w.now) result }
 {
@@ -125,7 +125,7 @@ pub(crate) fn unplaced(rec: Record, m: usize) -> u64
 }
 
 // The penalty of a record, by its columns. That they have their lengths is told with it.
-pub fn penalty_of(w: &[u64], rec: Record, cols: Columns, search: Search) -> u64
+pub(crate) fn penalty_by(w: &[u64], rec: Record, cols: Columns, search: Search) -> u64
     requires { Accepted w.now }
     ensures costs { (slots : ℕ → Slot) → Agree w.now rec slots → Shown search w.now slots (nurses w.now) cols → result ≡ cost_of search w.now slots }
     ensures long { (length cols.night ≡ day_places) × (length cols.day ≡ day_places) }
@@ -134,4 +134,13 @@ pub fn penalty_of(w: &[u64], rec: Record, cols: Columns, search: Search) -> u64
     let unplaced = unplaced(rec, m);
     let parts = penalty::parts(w, cols, unplaced, search);
     parts.total()
+}
+
+// The penalty of a record.
+pub fn penalty_of(w: &[u64], rec: Record, search: Search) -> u64
+    requires { Accepted w.now }
+    ensures { (slots : ℕ → Slot) → Agree w.now rec slots → result ≡ cost_of search w.now slots }
+{
+    let cols = columns(w, rec, search);
+    penalty_by(w, rec, cols, search)
 }

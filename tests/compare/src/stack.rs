@@ -4,7 +4,7 @@ use crate::calls::*;
 use std::thread;
 
 /// What the C header says is enough.
-pub const STACK: usize = 384 * 1024;
+pub const STACK: usize = 192 * 1024;
 
 pub struct SmallStack<'a> {
     pub planner: &'a dyn Calls,

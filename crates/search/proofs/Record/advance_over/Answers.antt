@@ -11,10 +11,10 @@ pub loop-plan-init : goal.loop-plan-init
 loop-plan-init c =
     let z : Sized c.args.self = search rules in (
       record { shows = c.columns-cols.ensures },
-      c.penalty_of-penalty.ensures.long.0,
-      c.penalty_of-penalty.ensures.long.1,
+      c.penalty_by-penalty.ensures.long.0,
+      c.penalty_by-penalty.ensures.long.1,
       room_fresh _,
-      λ P s e. turn_start s c.requires.accepted.0 c.args.self z e c.args.past c.args.k (λ slots q. c.penalty_of-penalty.ensures.costs slots q (c.columns-cols.ensures slots q)),
+      λ P s e. turn_start s c.requires.accepted.0 c.args.self z e c.args.past c.args.k (λ slots q. c.penalty_by-penalty.ensures.costs slots q (c.columns-cols.ensures slots q)),
     )
 
 pub returns-then-stops : goal.returns-then-stops
