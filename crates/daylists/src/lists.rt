@@ -15,6 +15,8 @@ pub struct Ends {
     pub ends: [usize; ENDS],
 }
 
+// Not inlined, here and below: the table would stay on the stack while steps are made.
+#[inline(never)]
 pub fn lists_count(w: &[u64], nights: &[u64; NURSES], places: usize) -> Ends
     requires accepted { Accepted w.now }
     requires places_bound { places < 2305843009213693952 }
@@ -39,6 +41,7 @@ pub fn lists_count(w: &[u64], nights: &[u64; NURSES], places: usize) -> Ends
 }
 
 // Writes all lists, where there is room.
+#[inline(never)]
 pub fn lists_fill(w: &[u64], nights: &[u64; NURSES], buf: &mut [u32]) -> usize
     requires accepted { Accepted w.now }
     requires w_in_bounds { length (up_to (day_lists w.now nights.now) (nurses w.now)) ≤ length buf.old }

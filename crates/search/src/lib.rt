@@ -328,7 +328,8 @@ impl Record {
         }
     }
 
-    // By night, everyone's own list in so many places as small wards want.
+    // By night, everyone's own list in so many places as small wards want. Not inlined, so that the array takes no stack by day.
+    #[inline(never)]
     fn advance_small(self, w: &[u64], lists: &[u32], k: u32, past: bool) -> Advanced
         requires accepted { Accepted w.now × (lists.now ≡ common_of w.now) × (self.steps + k ≤ 1000000) }
         requires sought_sound { SoughtSound Nights w.now (tried_by Nights w.now lists.now []) self }
@@ -340,12 +341,13 @@ impl Record {
     }
 
     // And in more.
+    #[inline(never)]
     fn advance_large(self, w: &[u64], lists: &[u32], k: u32, past: bool) -> Advanced
         requires accepted { Accepted w.now × (lists.now ≡ common_of w.now) × (self.steps + k ≤ 1000000) }
         requires sought_sound { SoughtSound Nights w.now (tried_by Nights w.now lists.now []) self }
         ensures { (P : Phase) → SeeksBy Nights w.now (tried_by Nights w.now lists.now []) P → sound_stored P self ≡ true → reply_stored P past k self ≡ (answer_of P result, result.after) }
     {
-        let mut own = [0u32; 8192];
+        let mut own = [0u32; 20480];
         let plan = ownlists::own_lists(w, lists, &mut own);
         self.advance_over(w, lists, &own, plan, Search::Nights, k, past)
     }
