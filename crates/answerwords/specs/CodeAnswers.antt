@@ -1,18 +1,16 @@
--- What the code gives of an advance's outcome.
-use Rattle.std.specs.Prelude.{ℕ, Bool, true, false, List}
-use Rattle.outcomes.specs.declared.Outcome.{Outcome}
-use Rattle.outcomes.specs.declared.Outcome.TheVariants.{Refused, Zero, Asked, None}
-use Rattle.answerwords.specs.AnswerWords.{refusal_words, done_words}
+-- The words that the code gives of a count that is read or written, and of what an advance hands back.
+use Rattle.std.specs.Prelude.{ℕ, List}
+use Rattle.std.specs.declared.result.Result.{Result}
+use Rattle.std.specs.declared.result.Result.TheVariants.{Ok, Err}
+use Rattle.refusals.specs.declared.Refusal.{Refusal}
+use Rattle.search.specs.CodeSeek.{end_by}
+use Rattle.outcomes.specs.declared.Advance.{Advance}
+use Rattle.answerwords.specs.AnswerWords.{refusal_words, done_words, end_word}
 
--- the words of an advance's outcome
-abbrev pub outcome_words : Outcome → ℕ → ℕ → ℕ → List ℕ
-outcome_words (Refused n) steps penalty count = refusal_words n
-outcome_words Zero steps penalty count = done_words 1 steps penalty count
-outcome_words Asked steps penalty count = done_words 2 steps penalty count
-outcome_words None steps penalty count = done_words 3 steps penalty count
+abbrev pub counted_words : Result ℕ Refusal → List ℕ
+counted_words (Err n) = refusal_words n
+counted_words (Ok count) = done_words 0 0 0 count
 
-abbrev pub is_refused : Outcome → Bool
-is_refused (Refused n) = true
-is_refused Zero = false
-is_refused Asked = false
-is_refused None = false
+abbrev pub result_words : Result Advance Refusal → List ℕ
+result_words (Err n) = refusal_words n
+result_words (Ok x) = done_words (end_word (end_by x.ending)) x.steps x.penalty x.roster.count

@@ -19,27 +19,14 @@ use Rattle.numbers.proofs.MemberLaws.{Each}
 use Rattle.history.specs.Phase.{Step, Phase, offers_to, offers, exchanges, least}
 use Rattle.history.specs.Record.{Record, may_take, cost_after, best}
 use Rattle.history.specs.Claim.{NotAfter}
-use Rattle.best.specs.CodeBest.{improves, considered, over_list, over_nurses, best_over, found}
-use Rattle.best.specs.declared.Best.{Best}
-use Rattle.best.specs.declared.Best.TheVariants.{Nothing, Exchange}
+use Rattle.std.specs.Prelude.{Some, None}
+use Rattle.best.specs.CodeBest.{Best, exchange, improves, considered, over_list, over_nurses, best_over, found}
 use Rattle.history.proofs.ChooseLaws.{First, least_none, least_first, step_path, offers_to_only, offers_only, range_only}
-
--- ---- one exchange more
-
-module _ (may : ℕ → Bool) (c i : ℕ) (b : Best) (p : ℕ) where
-  pub considered_barred : {u : Bool} → u ≡ may p → u ≡ false → b ≡ considered may (λ q. c) i b p
-  considered_barred e f = rw (sym e ∙ f)
-
-  pub considered_worse : {u t : Bool} → u ≡ may p → u ≡ true → t ≡ improves b c → t ≡ false → b ≡ considered may (λ q. c) i b p
-  considered_worse e f g h = rw (sym e ∙ f, sym g ∙ h)
-
-  pub considered_better : {u t : Bool} → u ≡ may p → u ≡ true → t ≡ improves b c → t ≡ true → Exchange i p c ≡ considered may (λ q. c) i b p
-  considered_better e f g h = rw (sym e ∙ f, sym g ∙ h)
 
 -- what costs no less improves no more
 pub improves_less : (b : Best) {c d : ℕ} → c ≤ d → improves b c ≡ false → improves b d ≡ false
-improves_less Nothing l e = e
-improves_less (Exchange j q x) {c} {d} l e = le-ltb d x (omega (arith, ltb-false c x e))
+improves_less None l e = e
+improves_less (Some b) {c} {d} l e = le-ltb d b.cost (omega (arith, ltb-false c b.cost e))
 
 -- ---- the loop over a list
 
@@ -65,10 +52,10 @@ module _ (may : ℕ → Bool) (cost : ℕ → ℕ) (i : ℕ) where
       ap (λ (x : Best). over_list may cost i x ps) (stays (may p) refl)
       ∙ over_none b ps (λ k l. f (suc k) (suc-le-suc l))
     where
-      same : (t : Bool) → t ≡ false → cond t (Exchange i p (cost p)) b ≡ b
+      same : (t : Bool) → t ≡ false → cond t (exchange i p (cost p)) b ≡ b
       same t e = rw e
 
-      stays : (u : Bool) → may p ≡ u → cond u (cond (improves b (cost p)) (Exchange i p (cost p)) b) b ≡ b
+      stays : (u : Bool) → may p ≡ u → cond u (cond (improves b (cost p)) (exchange i p (cost p)) b) b ≡ b
       stays true e = same (improves b (cost p)) (f 0 (omega arith) e)
       stays false e = refl
 
@@ -93,7 +80,7 @@ module _ (may : ℕ → Bool) (cost : ℕ → ℕ) (i : ℕ) where
     same false x = refl
 
     pub turn_considered : {c : ℕ} {b' : Best} → c ≡ cost (get_or ps k 0) → b' ≡ considered may (λ q. c) i b (get_or ps k 0) → b' ≡ over_list may cost i b₀ (take (k + 1) ps)
-    turn_considered q s = turn _ (ap (λ (x : ℕ). cond (may here) (cond (improves b x) (Exchange i here x) b) b) (sym q) ∙ sym s)
+    turn_considered q s = turn _ (ap (λ (x : ℕ). cond (may here) (cond (improves b x) (exchange i here x) b) b) (sym q) ∙ sym s)
 
     pub turn_worse : {c : ℕ} {t : Bool} → c ≡ cost (get_or ps k 0) → t ≡ improves b c → t ≡ false → b ≡ over_list may cost i b₀ (take (k + 1) ps)
     turn_worse q s f =
@@ -102,12 +89,6 @@ module _ (may : ℕ → Bool) (cost : ℕ → ℕ) (i : ℕ) where
 
     pub turn_barred : {u : Bool} → u ≡ may (get_or ps k 0) → u ≡ false → b ≡ over_list may cost i b₀ (take (k + 1) ps)
     turn_barred q f = turn b (rw (sym q ∙ f))
-
-    pub turn_better : {c : ℕ} {t u : Bool} → c ≡ cost (get_or ps k 0) → t ≡ improves b c → t ≡ true → u ≡ may (get_or ps k 0) → u ≡ true
-        → Exchange i (get_or ps k 0) c ≡ over_list may cost i b₀ (take (k + 1) ps)
-    turn_better q s f r g =
-        let y : improves b (cost here) ≡ true = ap (improves b) (sym q) ∙ sym s ∙ f in
-        turn (Exchange i here _) (rw (sym r ∙ g, y, q))
 
 -- what a test keeps of a list: the test asked beside what she may take
 pub over_filter : (t may : ℕ → Bool) (cost : ℕ → ℕ) (i : ℕ) (b : Best) (ps : List ℕ)
@@ -118,14 +99,14 @@ over_filter t may cost i b (p ∷ ps) = go (t p) refl (over_filter t may cost i 
   where
     go : (u : Bool) → t p ≡ u → over_list may cost i b (filter t ps) ≡ over_list (λ p. t p && may p) cost i b ps
         → over_list may cost i (considered may cost i b p) (filter t ps) ≡ over_list (λ p. t p && may p) cost i (considered may cost i b p) ps
-        → over_list may cost i b (cond u (p ∷ filter t ps) (filter t ps)) ≡ over_list (λ p. t p && may p) cost i (cond (u && may p) (cond (improves b (cost p)) (Exchange i p (cost p)) b) b) ps
+        → over_list may cost i b (cond u (p ∷ filter t ps) (filter t ps)) ≡ over_list (λ p. t p && may p) cost i (cond (u && may p) (cond (improves b (cost p)) (exchange i p (cost p)) b) b) ps
     go true e x y = y
     go false e x y = x
 
 -- ---- the loop over the nurses
 
 module _ (may : ℕ → ℕ → Bool) (cost : ℕ → ℕ → ℕ) (lists : ℕ → List ℕ) where
-  pub nurses_none : Nothing ≡ over_nurses may cost lists 0
+  pub nurses_none : None ≡ over_nurses may cost lists 0
   unfolding over_nurses
   nurses_none = refl
 
@@ -190,12 +171,12 @@ module _ (may : ℕ → ℕ → Bool) where
 -- ---- the first of least cost
 
 best_of : (Step → ℕ) → Option Step → Best
-best_of cost none = Nothing
-best_of cost (some s) = Exchange s.nurse s.pattern (cost s)
+best_of cost none = None
+best_of cost (some s) = exchange s.nurse s.pattern (cost s)
 
 -- one more exchange, after the best so far
 abbrev better : (Step → ℕ) → Best → Step → Best
-better cost b s = cond (improves b (cost s)) (Exchange s.nurse s.pattern (cost s)) b
+better cost b s = cond (improves b (cost s)) (exchange s.nurse s.pattern (cost s)) b
 
 -- a list of exchanges in order
 walk : (Step → ℕ) → Best → List Step → Best
@@ -295,14 +276,14 @@ module _ (may : ℕ → ℕ → Bool) (cost : Step → ℕ) where
       ∙ ap (λ (k : ℕ). offers patterns may (up_from 0 m) ++ (offers_to may k (patterns k) ++ [])) (zero-add m)
       ∙ ap (λ (x : List Step). offers patterns may (up_from 0 m) ++ x) (append-nil (offers_to may m (patterns m)))
 
-  nurses_walk : (patterns : ℕ → List ℕ) (m : ℕ) → over_nurses may costs patterns m ≡ walk cost Nothing (offers patterns may (up_from 0 m))
+  nurses_walk : (patterns : ℕ → List ℕ) (m : ℕ) → over_nurses may costs patterns m ≡ walk cost None (offers patterns may (up_from 0 m))
   unfolding over_nurses walk up_from
   nurses_walk patterns zero = refl
   nurses_walk patterns (suc m) =
       ap (λ (b : Best). over_list (may m) (costs m) m b (patterns m)) (nurses_walk patterns m)
-      ∙ list_walk m (walk cost Nothing (offers patterns may (up_from 0 m))) (patterns m)
-      ∙ sym (walk_append cost Nothing (offers patterns may (up_from 0 m)) (offers_to may m (patterns m)))
-      ∙ ap (walk cost Nothing) (sym (offers_more patterns m))
+      ∙ list_walk m (walk cost None (offers patterns may (up_from 0 m))) (patterns m)
+      ∙ sym (walk_append cost None (offers patterns may (up_from 0 m)) (offers_to may m (patterns m)))
+      ∙ ap (walk cost None) (sym (offers_more patterns m))
 
 found_of : (cost : Step → ℕ) (o : Option Step) → found (best_of cost o) ≡ o
 unfolding best_of

@@ -1,19 +1,26 @@
 -- The best exchange as loops find it: nurse by nurse, and each nurse's list in order. proofs/BestLaws shows that it is the one that a step takes.
-use Rattle.std.specs.Prelude.{ℕ, zero, suc, Bool, true, cond, List, [], ◌∷◌, ltb}
+use Rattle.std.specs.Prelude.{ℕ, zero, suc, Bool, true, cond, List, [], ◌∷◌, ltb, Option as StoredOption, Some, None}
 use Rattle.std.proofs.Math.Option.{Option, none, some}
 use Rattle.history.specs.Phase.{Step, Phase}
 use Rattle.history.specs.Record.{Record, may_take, cost_after}
-use Rattle.best.specs.declared.Best.{Best}
-use Rattle.best.specs.declared.Best.TheVariants.{Nothing, Exchange}
+use Rattle.best.specs.declared.Exchange.{Exchange}
+
+-- the best so far, if there is one
+abbrev pub Best : Type 0
+Best = StoredOption Exchange
+
+-- nurse i with p at cost c
+abbrev pub exchange : ℕ → ℕ → ℕ → Best
+exchange i p c = Some (record { nurse = i; pattern = p; cost = c })
 
 -- does an exchange that costs so much go before the best so far?
 abbrev pub improves : Best → ℕ → Bool
-improves Nothing c = true
-improves (Exchange j q d) c = ltb c d
+improves None c = true
+improves (Some b) c = ltb c b.cost
 
 -- one more: nurse i with p, if she may take it, where it costs less than the best so far
 abbrev pub considered : (ℕ → Bool) → (ℕ → ℕ) → ℕ → Best → ℕ → Best
-considered may cost i b p = cond (may p) (cond (improves b (cost p)) (Exchange i p (cost p)) b) b
+considered may cost i b p = cond (may p) (cond (improves b (cost p)) (exchange i p (cost p)) b) b
 
 -- a list of hers in order
 unfoldable pub over_list : (ℕ → Bool) → (ℕ → ℕ) → ℕ → Best → List ℕ → Best
@@ -22,7 +29,7 @@ over_list may cost i b (p ∷ ps) = over_list may cost i (considered may cost i 
 
 -- the first m nurses in turn, each with her own list
 unfoldable pub over_nurses : (ℕ → ℕ → Bool) → (ℕ → ℕ → ℕ) → (ℕ → List ℕ) → ℕ → Best
-over_nurses may cost lists zero = Nothing
+over_nurses may cost lists zero = None
 over_nurses may cost lists (suc m) = over_list (may m) (cost m) m (over_nurses may cost lists m) (lists m)
 
 -- what it costs, over all, that nurse i takes p
@@ -35,5 +42,5 @@ best_over P r m = over_nurses (may_take r) (cost_in P r) P.patterns m
 
 -- the exchange that was found
 abbrev pub found : Best → Option Step
-found Nothing = none
-found (Exchange i p c) = some (record { nurse = i; pattern = p })
+found None = none
+found (Some b) = some (record { nurse = b.nurse; pattern = b.pattern })

@@ -4,27 +4,17 @@
 ghost use Rattle.std.specs.Prelude.{◌≡◌};
 ghost use Rattle.best.specs.CodeBest.{improves};
 
-// The best exchange so far, with the penalty that it results in.
+// An exchange, with the penalty that it results in. The best so far is an option of one.
 #[derive(Clone, Copy)]
-pub enum Best {
-    Nothing,
-    Exchange {
-        nurse: usize,
-        pattern: u64,
-        cost: u64,
-    },
+pub struct Exchange {
+    pub nurse: usize,
+    pub pattern: u64,
+    pub cost: u64,
 }
 
 // Whether an exchange that comes later and costs so much goes before the best so far.
-pub fn improves(best: Best, cost: u64) -> bool
+pub fn improves(best: Option<Exchange>, cost: u64) -> bool
     ensures { result ≡ improves best cost }
 {
-    match best {
-        Best::Nothing => true,
-        Best::Exchange {
-            nurse: _,
-            pattern: _,
-            cost: least,
-        } => cost < least,
-    }
+    best.is_none_or(|held| cost < held.cost)
 }

@@ -22,7 +22,8 @@ use history::Search;
 use letters::written::Roster;
 use outcomes::Advance;
 use phases::{opening, questions};
-use refusals::{Answer, question};
+use refusals::Refusal;
+use refusals::question::Question;
 use search::{Advanced, Record, Stretches};
 
 // The roster that an advance gives out: at penalty zero that of the nights and its days, else none.
@@ -38,47 +39,39 @@ fn roster_given(w: &[u64], nights: &[u64; NURSES], x: Advanced) -> Roster
 }
 
 // Questions 7 and 8.
-fn first_no(rec: Record, w: &[u64], nights: &[u64; NURSES], k: u32) -> Answer
+fn first_no(rec: Record, w: &[u64], nights: &[u64; NURSES], k: u32) -> Result<(), Refusal>
     requires { Accepted w.now }
     ensures { refusal_in result ≡ before_lists w.now (night_of nights.now) k rec }
 {
-    match questions::steps_asked(rec.steps, k) {
-        Answer::No(n) => Answer::No(n),
-        Answer::Yes => opening::nights_asked(w, nights),
-    }
+    questions::steps_asked(rec.steps, k)?;
+    opening::nights_asked(w, nights)
 }
 
 // Question 10, by where the lists of m nurses end.
-fn days_lacking(ends: [usize; ENDS], m: usize) -> Answer
+fn days_lacking(ends: [usize; ENDS], m: usize) -> Result<(), Refusal>
     requires { m ≤ nurse_places }
     ensures { (lists : ℕ → List ℕ) → EndsOf lists m ends → refusal_in result ≡ lacking lists (up_from 0 m) }
 {
-    let mut i: usize = 0;
-    while i < m {
-        if ends[i] < ends[i + 1] {
-            i += 1;
-        } else {
-            return refusals::no(question::PATTERNS, i + 1);
+    for i in 0..m {
+        if ends[i + 1] <= ends[i] {
+            return Err(Question::Patterns.at(i + 1));
         }
     }
-    Answer::Yes
+    Ok(())
 }
 
 // Questions 9, 10 and 11, by where the lists end.
-fn next_no(rec: Record, w: &[u64], nights: &[u64; NURSES], counted: Ends) -> Answer
+fn next_no(rec: Record, w: &[u64], nights: &[u64; NURSES], counted: Ends) -> Result<(), Refusal>
     requires { Accepted w.now }
     ensures { (places : ℕ) → Counted (day_lists w.now nights.now) (nurses w.now) places counted.over counted.ends → refusal_in result ≡ after_lists w.now (night_of nights.now) places rec }
 {
     let m = fields::nurses(w);
     let over = counted.over;
     if over < m {
-        return refusals::no(question::LISTS, over + 1);
+        return Err(Question::Lists.at(over + 1));
     }
-    let ends = counted.ends;
-    match days_lacking(ends, m) {
-        Answer::No(n) => Answer::No(n),
-        Answer::Yes => questions::record_asked(w, nights, Search::Days, rec),
-    }
+    days_lacking(counted.ends, m)?;
+    questions::record_asked(w, nights, Search::Days, rec)
 }
 
 // The day advance once questions 7 and 8 are answered and the lists are counted.
@@ -90,25 +83,21 @@ fn with_lists(
     past: bool,
     counted: Ends,
     buffer: &mut [u32],
-) -> Advance
+) -> Result<Advance, Refusal>
     requires { Accepted w.now × (before_lists w.now (night_of nights.now) k rec ≡ none) × Counted (day_lists w.now nights.now) (nurses w.now) (length buffer.old) counted.over counted.ends }
     ensures says { result ≡ advance_of (advance_stored (day_phase w.now (night_of nights.now)) (call_of k past (length buffer.old)) rec) }
     ensures leaves { buffer.new ≡ left_by (advance_stored (day_phase w.now (night_of nights.now)) (call_of k past (length buffer.old)) rec).0 (up_to (day_lists w.now nights.now) (nurses w.now)) buffer.old }
 {
-    match next_no(rec, w, nights, counted) {
-        Answer::No(n) => outcomes::refuse(rec, n),
-        Answer::Yes => {
-            let len = daylists::lists::lists_fill(w, nights, buffer);
-            let ends = counted.ends;
-            let stretches = Stretches {
-                search: Search::Days,
-                ends,
-            };
-            let x = rec.advance(w, &buffer[..len], stretches, k, past);
-            let roster = roster_given(w, nights, x);
-            outcomes::finished(x, roster)
-        }
-    }
+    next_no(rec, w, nights, counted)?;
+    let len = daylists::lists::lists_fill(w, nights, buffer);
+    let ends = counted.ends;
+    let stretches = Stretches {
+        search: Search::Days,
+        ends,
+    };
+    let x = rec.advance(w, &buffer[..len], stretches, k, past);
+    let roster = roster_given(w, nights, x);
+    Ok(outcomes::finished(x, roster))
 }
 
 // The day advance, every question answered before the first store.
@@ -119,16 +108,12 @@ pub fn advance_on(
     k: u32,
     past: bool,
     buffer: &mut [u32],
-) -> Advance
+) -> Result<Advance, Refusal>
     requires { Accepted w.now }
     ensures says { result ≡ advance_of (advance_stored (day_phase w.now (night_of nights.now)) (call_of k past (length buffer.old)) rec) }
     ensures leaves { buffer.new ≡ left_by (advance_stored (day_phase w.now (night_of nights.now)) (call_of k past (length buffer.old)) rec).0 (up_to (day_lists w.now nights.now) (nurses w.now)) buffer.old }
 {
-    match first_no(rec, w, nights, k) {
-        Answer::No(n) => outcomes::refuse(rec, n),
-        Answer::Yes => {
-            let counted = daylists::lists::lists_count(w, nights, buffer.len());
-            with_lists(rec, w, nights, k, past, counted, buffer)
-        }
-    }
+    first_no(rec, w, nights, k)?;
+    let counted = daylists::lists::lists_count(w, nights, buffer.len());
+    with_lists(rec, w, nights, k, past, counted, buffer)
 }

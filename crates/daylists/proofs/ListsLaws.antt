@@ -158,13 +158,14 @@ module _ (f : ℕ → List ℕ) (m places over at : ℕ) (ends : List ℕ) (c : 
         all_fit = λ k. absurd (omega arith);
       }
 
-  pub counted_all : m ≤ over → Counted f m places over ends
-  counted_all h =
+  pub counted_all : {all : ℕ} → m ≤ over → all ≡ m → Counted f m places all ends
+  counted_all {all} h q =
       let s : over ≡ m = omega (arith, c.over_most) in
-      record {
+      let here : all ≡ over = omega arith in
+      rw here (record {
         over_is = sym (c.answer ∙ over_done f places m over h);
         over_most = c.over_most;
         ends_are = c.ends_are;
         too_long = λ k. absurd (omega arith);
         all_fit = λ k. omega (arith, ap (λ (x : ℕ). length (up_to f x)) s, c.at_is, c.fits);
-      }
+      })

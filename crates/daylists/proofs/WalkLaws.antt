@@ -3,26 +3,44 @@ use mathlib.Core.Path.{◌≡◌, refl, sym, ap, ap₂, ◌∙◌, subst}
 use mathlib.Core.Bool.{Bool, true, false, cond}
 use mathlib.Core.List.{List, [], ◌∷◌, ◌++◌}
 use Prim.Native.Nat.{ℕ, zero, suc, ◌+◌, ◌-◌, ◌*◌, ◌/◌, ◌%◌, ◌^◌, ◌≤◌, ◌<◌, min}
-use native.Mathlib.Nat.{zero-div, div-one, one-mul, zero-mul}
+use native.Mathlib.Nat.{zero-div, div-one}
 use native.Mathlib.Numerals.{sub-one}
 use native.Mathlib.Omega.{arith}
 use native.Mathlib.Decide.{dec_lt}
-use borrow.Author.Tests.{lt-ltb, le-ltb}
+use borrow.Author.Tests.{lt-ltb}
 use lib.Bits.{bit_or}
-use lib.Pow.{pow_pos, shl-shr}
-use lib.ListN.{length, get_or, set, length-append, length-set}
+use lib.Pow.{shl-shr, shl_exact}
+use lib.ListN.{length, get_or, set, take, drop, length-set}
+use lib.Seq.{take-suc-set}
+use Rattle.std.proofs.lemmas.List.{drop-set-lt, take-append-drop}
+use native.Mathlib.Numerals.{add-one}
+use mathlib.Core.List.{append_assoc}
+use native.Mathlib.Nat.{add-zero, zero-add}
 use lib.Seq.{get_or-set_same, get_or-set_other}
+use Rattle.fields.specs.Sizes.{day_places}
 use Rattle.numbers.specs.Range.{up_from, all}
 use Rattle.numbers.specs.Sum.{one_if}
 use Rattle.numbers.specs.Digits.{bit, has, number_of}
-use Rattle.numbers.proofs.DigitLaws.{bit_lt, bit_is, number_lt, number_has, number_zero, number_suc}
+use Rattle.numbers.proofs.DigitLaws.{bit_lt, bit_is, number_has}
 use Rattle.numbers.proofs.HalfLaws.{pow_half, low_half, high_half}
-use Rattle.numbers.proofs.BufferLaws.{Halves}
 use Rattle.days.specs.Days.{is_rest, windows_hold}
 use Rattle.days.specs.CodeMonth.{duty_at, rest_on}
-use Rattle.daylists.specs.CodeWalk.{Filled, Idle, Inside, may_choose, step_holds, first_hold, branch, reach, onward, opens, walked}
+use Rattle.daylists.specs.CodeWalk.{Filled, Idle, Inside, may_choose, step_holds, first_hold, branch, reach, onward, opens, walked, Written}
 use Rattle.days.specs.declared.month.Month.{Month}
-use Rattle.daylists.proofs.LocalLaws.{choice_next, choice_few, rest_low, rest_high}
+use Rattle.daylists.proofs.LocalLaws.{choice_next, choice_few, choice_many, rest_low, rest_high}
+
+-- ---- how many choices of n days there are, up to 64
+
+module _ (n : ℕ) (few : n ≤ day_places) {top : ℕ} (e : top ≡ min ((1 * 2 ^ n) % 2 ^ 64) 64) where
+  pub top_is : top ≡ min (2 ^ n) 64
+  top_is = omega (arith, e, shl_exact {a = 1} 1 n 64 (omega arith) (omega arith))
+
+  module _ {s : ℕ} (h : s < top) where
+    pub choice_small : s < 64
+    choice_small = omega arith
+
+    pub choice_inside : s < 2 ^ n
+    choice_inside = omega (arith, top_is)
 
 module _ (m : Month) (row : List ℕ) where
   -- ---- one day
@@ -31,15 +49,6 @@ module _ (m : Month) (row : List ℕ) where
     pub step_late : m.days < d + 7 → true ≡ step_holds m row d q
     unfolding step_holds
     step_late h = rw (lt-ltb m.days (d + 7) h)
-
-    pub step_window : {v x : Bool} → d + 7 ≤ m.days → v ≡ may_choose m q (d + 6) → v ≡ true
-        → x ≡ windows_hold (duty_at row q) m.longest (d + 13) → x ≡ step_holds m row d q
-    unfolding step_holds
-    step_window h e y w = rw (le-ltb m.days (d + 7) h, ← e, y) w
-
-    pub step_no : {v : Bool} → d + 7 ≤ m.days → v ≡ may_choose m q (d + 6) → v ≡ false → false ≡ step_holds m row d q
-    unfolding step_holds
-    step_no h e y = rw (le-ltb m.days (d + 7) h, ← e, y)
 
   -- ---- the table
 
@@ -62,23 +71,6 @@ module _ (m : Month) (row : List ℕ) where
     reach_none y = rw (← g, y)
 
   module _ (d x found : ℕ) where
-    pub kept_none : found ≡ 0 → 0 ≡ cond (step_holds m row d (x * 2 ^ d)) found 0
-    kept_none e = rw e (none (step_holds m row d (x * 2 ^ d)))
-      where
-        none : (b : Bool) → ◌≡◌ {A = ℕ} 0 (cond b 0 0)
-        none true = refl
-        none false = refl
-
-    pub kept_yes : {q : ℕ} {v : Bool} → q ≡ x * 2 ^ d → v ≡ step_holds m row d q → v ≡ true → found ≡ cond (step_holds m row d (x * 2 ^ d)) found 0
-    kept_yes e h y = rw (← e, ← h, y)
-
-    pub kept_no : {q : ℕ} {v : Bool} → q ≡ x * 2 ^ d → v ≡ step_holds m row d q → v ≡ false → 0 ≡ cond (step_holds m row d (x * 2 ^ d)) found 0
-    kept_no e h y = rw (← e, ← h, y)
-
-    -- on a day that has no step all are kept
-    pub kept_late : m.days < d + 7 → found ≡ cond (step_holds m row d (x * 2 ^ d)) found 0
-    kept_late h = rw (← step_late d (x * 2 ^ d) h)
-
     kept_onward : (s : ℕ) {v : ℕ} → x % 64 ≡ s → found ≡ reach m row d s → v ≡ cond (step_holds m row d (x * 2 ^ d)) found 0 → v ≡ onward m row d x
     unfolding onward
     kept_onward s e f k = rw (e, ← f) k
@@ -120,36 +112,7 @@ module _ (m : Month) (row : List ℕ) where
             rw (day, seven, place)
             (get_or-set_same (set ways (128 * d + s) v) (128 * d + s + 64) u 0 (simp length-set h) ∙ kept_onward d (s + 64) found s (omega arith) e k)
 
-    -- the same on the first day
-    pub filled_first : (s : ℕ) {found v u : ℕ} → s < 64 → Filled m row ways s → s + 64 < length ways → found ≡ reach m row 0 s
-        → v ≡ cond (step_holds m row 0 (s * 2 ^ 0)) found 0 → u ≡ cond (step_holds m row 0 ((s + 64) * 2 ^ 0)) found 0
-        → Filled m row (set (set ways s v) (s + 64) u) (s + 1)
-    filled_first s {v = v} {u = u} l f h e g k =
-        let z : 128 * 0 + s ≡ s = omega arith in
-        let y : 64 * 0 + s ≡ s = omega arith in
-        subst (λ (i : ℕ). Filled m row (set (set ways s v) (s + 64) u) (i + 1)) y
-        (subst (λ (i : ℕ). Filled m row (set (set ways i v) (i + 64) u) (64 * 0 + s + 1)) z
-        (filled_turn 0 s l (filled_less s (64 * 0 + s) f (omega arith)) (omega arith) e g k))
-
-    -- so late that no seventh day is left, without it alone
-    pub filled_late : (d s : ℕ) {v : ℕ} → m.days < d + 7 → s < 2 ^ (m.days - d) → Filled m row ways (64 * d + s) → 128 * d + s < length ways → v ≡ reach m row d s
-        → Filled m row (set ways (128 * d + s) v) (64 * d + s + 1)
-    filled_late d s {v} late l f h e = record { entry = λ b x i j n. at b x i j n (dec_lt (64 * b + x % 64) (64 * d + s)) }
-      where
-        at : (b x : ℕ) → x < 128 → x < 2 ^ (m.days - b) → 64 * b + x % 64 < 64 * d + s + 1 → Dec (64 * b + x % 64 < 64 * d + s)
-            → get_or (set ways (128 * d + s) v) (128 * b + x) 0 ≡ onward m row b x
-        at b x i j n (yes q) =
-            let few : 2 ^ (m.days - d) ≤ 64 = choice_few m.days d late in
-            get_or-set_other ways (128 * d + s) (128 * b + x) v 0 (λ z. absurd (omega arith)) ∙ f.entry b x i j q
-        at b x i j n (no q) =
-            let few : 2 ^ (m.days - d) ≤ 64 = choice_few m.days d late in
-            let day : b ≡ d = omega arith in
-            let in_month : x < 2 ^ (m.days - d) = subst (λ (k : ℕ). x < 2 ^ (m.days - k)) day j in
-            let six : x ≡ s = omega arith in
-            rw (day, six) (get_or-set_same ways (128 * d + s) v 0 h ∙ kept_onward d s v s (omega arith) e (kept_late d s v late))
-
-    -- and all its choices are done
-    pub filled_day : (d s : ℕ) → m.days < d + 7 → 2 ^ (m.days - d) ≤ s → Filled m row ways (64 * d + s) → Filled m row ways (64 * d + 64)
+    filled_day : (d s : ℕ) → m.days < d + 7 → 2 ^ (m.days - d) ≤ s → Filled m row ways (64 * d + s) → Filled m row ways (64 * d + 64)
     filled_day d s late l f = record { entry = λ b x i j n. at b x i j n (dec_lt (64 * b + x % 64) (64 * d + s)) }
       where
         at : (b x : ℕ) → x < 128 → x < 2 ^ (m.days - b) → 64 * b + x % 64 < 64 * d + 64 → Dec (64 * b + x % 64 < 64 * d + s) → get_or ways (128 * b + x) 0 ≡ onward m row b x
@@ -160,17 +123,13 @@ module _ (m : Month) (row : List ℕ) where
             let in_month : x < 2 ^ (m.days - d) = subst (λ (k : ℕ). x < 2 ^ (m.days - k)) day j in
             absurd (omega arith)
 
-    -- the first day's
-    pub filled_start : (s : ℕ) {top : ℕ} → top ≡ 2 ^ min 6 m.days → top ≤ s → Filled m row ways s → Filled m row ways 64
-    filled_start s e l f = go (dec_lt m.days 6)
+    -- all choices of the day are done
+    pub filled_end : (d s : ℕ) {top : ℕ} → top ≡ min (2 ^ (m.days - d)) 64 → top ≤ s → Filled m row ways (64 * d + s) → Filled m row ways (64 * d + 64)
+    filled_end d s e l f = go (dec_lt m.days (d + 7))
       where
-        go : Dec (m.days < 6) → Filled m row ways 64
-        go (yes h) =
-            let k : min 6 m.days ≡ m.days - 0 = omega arith in
-            filled_day 0 s (omega arith) (omega (arith, e, ap (λ (x : ℕ). 2 ^ x) k)) (filled_less s (64 * 0 + s) f (omega arith))
-        go (no h) =
-            let k : min 6 m.days ≡ 6 = omega arith in
-            filled_less s 64 f (omega (arith, e, ap (λ (x : ℕ). 2 ^ x) k))
+        go : Dec (m.days < d + 7) → Filled m row ways (64 * d + 64)
+        go (yes h) = filled_day d s h (omega (arith, choice_few m.days d h)) f
+        go (no h) = filled_less (64 * d + s) (64 * d + 64) f (omega (arith, choice_many m.days d (omega arith)))
 
     reach_next : (d s : ℕ) {rest : ℕ} → suc d ≤ m.days → s < 64 → s < 2 ^ (m.days - suc d) → Filled m row ways (64 * suc d) → rest ≡ rest_on row 0 d
         → bit_or (get_or ways (128 * d + 2 * s) 0 / 2 ^ rest) (get_or ways (128 * d + 2 * s + 1) 0) ≡ reach m row (suc d) s
@@ -196,36 +155,13 @@ module _ (m : Month) (row : List ℕ) where
 abbrev pub resting : List ℕ → ℕ → Bool
 resting row d = is_rest (duty_at row 0 (d + 7))
 
--- the set of the first d days
-pub record IdleAt (row : List ℕ) (n d idle : ℕ) : Type 0 where
-  pub at_most : d ≤ n
-  pub is : idle ≡ number_of (resting row) d
-
-pub idle_start : (row : List ℕ) (n : ℕ) → IdleAt row n 0 0
-idle_start row n = record { at_most = omega arith; is = sym (number_zero (resting row)) }
-
-one_if_times : (b : Bool) (x : ℕ) → one_if b * x ≡ cond b x 0
-one_if_times true x = one-mul x
-one_if_times false x = zero-mul x
-
-module _ {row : List ℕ} {n d idle : ℕ} (h : IdleAt row n d idle) where
-  pub idle_turn : {r x : ℕ} → d < n → r ≡ rest_on row 0 d → x ≡ r * 2 ^ d → IdleAt row n (d + 1) (idle + x)
-  unfolding rest_on
-  idle_turn l e g = record {
-    at_most = omega arith;
-    is = rw (h.is, g, e, one_if_times (resting row d) (2 ^ d), number_suc (resting row) d);
-  }
-
-  pub idle_most : idle < 2 ^ d
-  idle_most = rw h.is (number_lt (resting row) d)
-
-  pub idle_end : n ≤ d → Idle row n idle
-  unfolding rest_on
-  idle_end l = record {
-    rest = λ k j.
-        let e : has idle k ≡ resting row k = rw h.is (number_has (resting row) d k (omega arith)) in
-        bit_is idle k ∙ ap one_if e;
-  }
+pub idle_is : (row : List ℕ) (n idle : ℕ) → idle ≡ number_of (resting row) n → Idle row n idle
+unfolding rest_on
+idle_is row n idle e = record {
+  rest = λ d l.
+      let h : has idle d ≡ resting row d = rw e (number_has (resting row) n d l) in
+      bit_is idle d ∙ ap one_if h;
+}
 
 -- ---- the walk
 
@@ -260,13 +196,6 @@ module _ {ways : List ℕ} {left a r : ℕ} (idle : ℕ) (n : Node ways left a r
       → walked ways idle left a r ≡ walked ways idle (left - 1) a (r + bit idle (left - 1)) ++ walked ways idle (left - 1) (a + b) r
   node_lists e = node_is ways idle left a r n.more ∙ rw (n.goes, e)
 
-  pub node_halves : {b : ℕ} (buf : List ℕ) → b ≡ 2 ^ (left - 1) → length (walked ways idle left a r) ≤ length buf
-      → Halves (walked ways idle left a r) (walked ways idle (left - 1) a (r + bit idle (left - 1))) (walked ways idle (left - 1) (a + b) r) buf
-  node_halves buf e h = record { whole = node_lists e; room = h }
-
-  pub low_fits : length (walked ways idle (left - 1) a (r + bit idle (left - 1))) ≤ length (walked ways idle left a r)
-  low_fits = omega (arith, simp length-append at (ap length (node_lists refl)))
-
   module _ (inside : Inside left a r) where
     pub low_inside : Inside (left - 1) a (r + bit idle (left - 1))
     low_inside = record {
@@ -280,6 +209,48 @@ module _ {ways : List ℕ} {left a r : ℕ} (idle : ℕ) (n : Node ways left a r
       fits = omega (arith, e, inside.fits, pow_half left n.more);
     }
 
-    -- the number with the day is one of 32 bits
-    pub high_most : {b : ℕ} → b ≡ 2 ^ (left - 1) → a + b < 2 ^ 32
-    high_most e = omega (arith, e, inside.fits, pow_half left n.more, pow_pos (left - 1))
+-- ---- what the walk puts into a room
+
+module _ {R : Type 0} (Put : R → ℕ → ℕ → R → Type 0) where
+  pub none_put : (s : R) (i : ℕ) (L : List ℕ) → length L ≡ 0 → Written Put s i L s
+  unfolding Written
+  none_put s i [] e = refl
+  none_put s i (x ∷ L) e = absurd (omega arith)
+
+  pub one_put : (s t : R) (i x : ℕ) (L : List ℕ) → L ≡ x ∷ [] → Put s i x t → Written Put s i L t
+  unfolding Written
+  one_put s t i x L e p = rw e (t, p, refl)
+
+  both_put : (A B : List ℕ) (s u t : R) (i j : ℕ) → Written Put s i A u → j ≡ i + length A → Written Put u j B t → Written Put s i (A ++ B) t
+  unfolding Written
+  both_put [] B s u t i j f e g =
+      let h : j ≡ i = omega arith in
+      rw (← f, ← h) g
+  both_put (x ∷ A) B s u t i j f e g = (f.0, f.1, both_put A B f.0 u t (i + 1) j f.2 (omega arith) g)
+
+  pub more_put : (L A B : List ℕ) (s u t : R) (i j : ℕ) → L ≡ A ++ B → Written Put s i A u → j ≡ i + length A → Written Put u j B t → Written Put s i L t
+  more_put L A B s u t i j w f e g = rw w (both_put A B s u t i j f e g)
+
+-- where the room is seen as a list in which each one put is set
+module _ {R : Type 0} (Put : R → ℕ → ℕ → R → Type 0) (view : R → List ℕ) (sets : (s : R) (i q : ℕ) (t : R) → Put s i q t → view t ≡ set (view s) i q) where
+  written_from : (L : List ℕ) (s t : R) (i : ℕ) → Written Put s i L t → i + length L ≤ length (view s)
+      → view t ≡ take i (view s) ++ (L ++ drop (i + length L) (view s))
+  unfolding Written
+  written_from [] s t i f h = rw (f, add-zero i) (sym (take-append-drop i (view s)))
+  written_from (x ∷ L) s t i f h =
+      let xs = view s in
+      let one = sets s i x f.0 f.1 in
+      let next : i + 1 + length L ≡ i + suc (length L) = omega arith in
+      written_from L f.0 t (i + 1) f.2 (omega (arith, ap length one, length-set xs i x))
+      ∙ rw (one, add-one i, take-suc-set xs i x (omega arith), ← add-one i, drop-set-lt (i + 1 + length L) xs i x (omega arith), next)
+      (append_assoc (take i xs) (x ∷ []) (L ++ drop (i + suc (length L)) xs))
+
+  pub written_list : (L : List ℕ) (s t : R) → Written Put s 0 L t → length L ≤ length (view s) → view t ≡ L ++ drop (length L) (view s)
+  written_list L s t f h = written_from L s t 0 f (omega arith) ∙ ap (λ (k : ℕ). L ++ drop k (view s)) (zero-add (length L))
+
+-- what each one put keeps
+pub written_keeps : {R N : Type 0} (Put : R → ℕ → ℕ → R → Type 0) (name : R → N) → ((s : R) (i q : ℕ) (t : R) → Put s i q t → name t ≡ name s)
+    → (L : List ℕ) (s t : R) (i : ℕ) → Written Put s i L t → name t ≡ name s
+unfolding Written
+written_keeps Put name keeps [] s t i f = ap name f
+written_keeps Put name keeps (x ∷ L) s t i f = written_keeps Put name keeps L f.0 t (i + 1) f.2 ∙ keeps s i x f.0 f.1

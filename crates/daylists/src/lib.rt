@@ -10,6 +10,7 @@ ghost use Rattle.fields.specs.Fields.{Accepted, nurses};
 ghost use Rattle.days.specs.Days.{day_list};
 
 use reach::WAYS;
+use walk::{Cap, Places};
 
 // How many patterns nurse i's day list has, but no more than cap. The table lent may hold anything.
 pub(crate) fn day_count(w: &[u64], i: usize, c: u64, cap: usize, ways: &mut [u64; WAYS]) -> usize
@@ -17,12 +18,10 @@ pub(crate) fn day_count(w: &[u64], i: usize, c: u64, cap: usize, ways: &mut [u64
     requires i_bound { i < nurses w.now }
     ensures { result ≡ min cap (length (day_list w.now i c)) }
 {
-    let s = days::nurse_sheet(w, i, c);
-    let month = s.month;
-    let row = s.row;
-    reach::write_table(&month, &row, ways);
-    let idle = reach::idle_days(&row, month.days);
-    walk::count(ways, idle, month.days, 0, 0, cap)
+    let sheet = days::nurse_sheet(w, i, c);
+    reach::write_table(&sheet, ways);
+    let idle = reach::idle_days(&sheet);
+    walk::walk(ways, idle, sheet.month.days, 0, 0, 0, &mut Cap(cap))
 }
 
 // Writes nurse i's day list from the buffer's start, which has the room. The table lent may hold anything.
@@ -39,10 +38,9 @@ pub(crate) fn day_fill(
     ensures value { result ≡ length (day_list w.now i c) }
     ensures buf_after { buf.new ≡ day_list w.now i c ++ drop (length (day_list w.now i c)) buf.old }
 {
-    let s = days::nurse_sheet(w, i, c);
-    let month = s.month;
-    let row = s.row;
-    reach::write_table(&month, &row, ways);
-    let idle = reach::idle_days(&row, month.days);
-    walk::fill(ways, idle, month.days, 0, 0, buf)
+    let sheet = days::nurse_sheet(w, i, c);
+    reach::write_table(&sheet, ways);
+    let idle = reach::idle_days(&sheet);
+    let mut room = Places { list: buf };
+    walk::walk(ways, idle, sheet.month.days, 0, 0, 0, &mut room)
 }

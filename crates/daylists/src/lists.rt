@@ -26,18 +26,16 @@ pub fn lists_count(w: &[u64], nights: &[u64; NURSES], places: usize) -> Ends
     let mut ends = [0usize; ENDS];
     let mut ways = [0u64; WAYS];
     let mut at: usize = 0;
-    let mut over: usize = 0;
-    while over < m {
+    for i in 0..m {
         let room = places - at;
-        let found = crate::day_count(w, over, nights[over], room + 1, &mut ways);
+        let found = crate::day_count(w, i, nights[i], room + 1, &mut ways);
         if room < found {
-            return Ends { over, ends };
+            return Ends { over: i, ends };
         }
-        at = at + found;
-        over = over + 1;
-        ends[over] = at;
+        at += found;
+        ends[i + 1] = at;
     }
-    Ends { over, ends }
+    Ends { over: m, ends }
 }
 
 // Writes all lists, where there is room.
@@ -51,10 +49,8 @@ pub fn lists_fill(w: &[u64], nights: &[u64; NURSES], buf: &mut [u32]) -> usize
     let m = fields::nurses(w);
     let mut ways = [0u64; WAYS];
     let mut used: usize = 0;
-    let mut i: usize = 0;
-    while i < m {
-        used = used + crate::day_fill(w, i, nights[i], &mut ways, &mut buf[used..]);
-        i = i + 1;
+    for i in 0..m {
+        used += crate::day_fill(w, i, nights[i], &mut ways, &mut buf[used..]);
     }
     used
 }

@@ -1,10 +1,11 @@
 // The walk over the days from the last to the first, not worked before worked. The days before `left` are undecided, the others
 // make the number `from`, with so many rests.
-ghost use Rattle.std.specs.Prelude.{◌≡◌, ◌++◌, ◌≤◌, min, length, drop};
-ghost use Rattle.daylists.specs.CodeWalk.{opens, walked, Inside};
+ghost use Rattle.std.specs.Prelude.{◌≡◌, ℕ, ◌+◌, ◌≤◌, ◌<◌, min, length, set};
+ghost use Rattle.std.proofs.Common.{rules};
+ghost use Rattle.daylists.specs.CodeWalk.{opens, walked, Written, Inside};
 
 use crate::reach::WAYS;
-use days::rule;
+use numbers::Set;
 
 // Whether a pattern may remain. With no day left to decide, whether the pattern is hers.
 fn goes_on(ways: &[u64; WAYS], left: usize, from: u64, rests: u64) -> bool
@@ -12,61 +13,97 @@ fn goes_on(ways: &[u64; WAYS], left: usize, from: u64, rests: u64) -> bool
     ensures { result ≡ opens ways.now left from rests }
 {
     let at = 128 * left + ((from >> left) % 128) as usize;
-    rule::has(ways[at], rests as usize)
+    ways[at].has(rests as usize)
 }
 
-// How many patterns there are below, but no more than cap.
-pub(crate) fn count(
+// What becomes of the walk's patterns: each has a place, as far as there are places.
+pub(crate) trait Room {
+    // How many places there are.
+    ghost places: { Self → ℕ };
+
+    // What q at place i makes of the room.
+    ghost Put: { Self → ℕ → ℕ → Self → Type 0 };
+
+    fn places(&self) -> usize
+        ensures { result ≡ places self.now };
+
+    fn put(&mut self, i: usize, q: u32)
+        requires { i < places self.old }
+        ensures { Put self.old i q self.new };
+
+    ghost keeps: { (s : Self) (i q : ℕ) (t : Self) → Put s i q t → places t ≡ places s };
+}
+
+// Counts the patterns, up to so many.
+#[derive(Clone, Copy)]
+pub(crate) struct Cap(pub usize);
+
+impl Room for Cap {
+    ghost places = { λ s. s.0 };
+
+    ghost Put = { λ s i q t. t ≡ s };
+
+    ghost keeps = { λ s i q t e. Prim.search rules };
+
+    fn places(&self) -> usize {
+        self.0
+    }
+
+    fn put(&mut self, _i: usize, _q: u32) {}
+}
+
+// Writes each pattern at its place.
+#[derive(Drop)]
+pub(crate) struct Places<'a> {
+    pub list: &'a mut [u32],
+}
+
+impl Room for Places<'_> {
+    ghost places = { λ s. length s.list.now };
+
+    ghost Put = { λ s i q t. (t.list.ghost_name ≡ s.list.ghost_name) × (t.list.now ≡ set s.list.now i q) };
+
+    ghost keeps = { λ s i q t e. Prim.search rules };
+
+    fn places(&self) -> usize {
+        self.list.len()
+    }
+
+    fn put(&mut self, i: usize, q: u32) {
+        self.list[i] = q;
+    }
+}
+
+// Puts the patterns below at the places from `at` on, those without the next day before those with it, and answers the place
+// after them. It ends where the places do.
+pub(crate) fn walk<R: Room>(
     ways: &[u64; WAYS],
     idle: u64,
     left: usize,
     from: u64,
     rests: u64,
-    cap: usize,
-) -> usize
-    requires { Inside left from rests }
-    ensures { result ≡ min cap (length (walked ways.now idle left from rests)) }
-{
-    if cap == 0 {
-        return 0;
-    }
-    if goes_on(ways, left, from, rests) {
-        if left == 0 {
-            return 1;
-        }
-        let day = left - 1;
-        let with = from + (numbers::bit(day as u64) as u64);
-        let rested = rests + (idle >> day) % 2;
-        let low = count(ways, idle, day, from, rested, cap);
-        return low + count(ways, idle, day, with, rests, cap - low);
-    }
-    0
-}
-
-// Writes the patterns below from the buffer's start: those without the next day, and in the rest of the buffer those with it.
-pub(crate) fn fill(
-    ways: &[u64; WAYS],
-    idle: u64,
-    left: usize,
-    from: u64,
-    rests: u64,
-    buf: &mut [u32],
+    at: usize,
+    room: &mut R,
 ) -> usize
     requires inside { Inside left from rests }
-    requires rests_in_bounds { length (walked ways.now idle left from rests) ≤ length buf.old }
-    ensures value { result ≡ length (walked ways.now idle left from rests) }
-    ensures buf_after { buf.new ≡ walked ways.now idle left from rests ++ drop (length (walked ways.now idle left from rests)) buf.old }
+    requires at_most { at ≤ R.places room.old }
+    ensures value { result ≡ min (R.places room.old) (at + length (walked ways.now idle left from rests)) }
+    ensures places { R.places room.new ≡ R.places room.old }
+    ensures written { at + length (walked ways.now idle left from rests) ≤ R.places room.old → Written R.Put room.old at (walked ways.now idle left from rests) room.new }
 {
-    if goes_on(ways, left, from, rests) {
-        if left == 0 {
-            buf[0] = from as u32;
-            return 1;
-        }
-        let day = left - 1;
-        let with = from + (numbers::bit(day as u64) as u64);
-        let rested = rests + (idle >> day) % 2;
-        let low = fill(ways, idle, day, from, rested, buf);
-        return low + fill(ways, idle, day, with, rests, &mut buf[low..]);
+    if at == room.places() {
+        return at;
     }
-    0
+    if !goes_on(ways, left, from, rests) {
+        return at;
+    }
+    if left == 0 {
+        room.put(at, from as u32);
+        return at + 1;
+    }
+    let day = left - 1;
+    let with = from + (1u64 << day);
+    let rested = rests + (idle >> day) % 2;
+    let next = walk(ways, idle, day, from, rested, at, room);
+    walk(ways, idle, day, with, rests, next, room)
 }

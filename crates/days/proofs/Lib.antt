@@ -1,3 +1,4 @@
+pub mod ChainLaws
 pub mod RuleLaws
 pub mod MonthLaws
 pub mod WindowLaws

@@ -33,8 +33,5 @@ pub fn is_day_pattern(w: &[u64], i: usize, c: u64, q: u32) -> bool
     requires i_bound { i < nurses w.now }
     ensures { result ≡ day_rule_of w.now i c q }
 {
-    let s = nurse_sheet(w, i, c);
-    let month = s.month;
-    let row = s.row;
-    rule::rule_holds(month, &row, q as u64)
+    nurse_sheet(w, i, c).rule_holds(u64::from(q))
 }

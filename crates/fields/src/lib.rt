@@ -12,6 +12,7 @@ ghost use Rattle.fields.specs.Fields as of;
 ghost use Rattle.fields.specs.Fields.{Accepted};
 
 // A ward's body, which every other function here takes: its numbers, from edition two on without the 0 and the edition that they begin with.
+#[tactic(auto, unfolding(crate::specs::Fields::body_of))]
 pub fn body(ws: &[u64]) -> &[u64]
     requires { 2 ≤ length ws.now }
     ensures { result.now ≡ of.body_of ws.now }
@@ -71,6 +72,7 @@ pub fn weight(w: &[u64], k: usize) -> u64
 }
 
 // Nurse i's numbers, which `nurse` reads.
+#[tactic(auto, unfolding(crate::specs::Fields::block, crate::specs::Fields::block_at))]
 pub fn block(w: &[u64], i: usize) -> &[u64]
     requires { Accepted w.now × (i < of.nurses w.now) }
     ensures { result.now ≡ of.block w.now i }
@@ -82,6 +84,7 @@ pub fn block(w: &[u64], i: usize) -> &[u64]
 }
 
 // Where the groups begin.
+#[tactic(auto, unfolding(crate::specs::Fields::groups_at))]
 fn groups_at(w: &[u64]) -> usize
     requires { Accepted w.now }
     ensures { result ≡ of.groups_at w.now }
@@ -92,6 +95,7 @@ fn groups_at(w: &[u64]) -> usize
 }
 
 // The groups' members, each a set.
+#[tactic(auto, unfolding(crate::specs::Fields::member_sets, crate::specs::Fields::groups_at))]
 pub fn member_sets(w: &[u64]) -> &[u64]
     requires { Accepted w.now }
     ensures { result.now ≡ of.member_sets w.now }
@@ -102,6 +106,7 @@ pub fn member_sets(w: &[u64]) -> &[u64]
 }
 
 // A day's numbers, which `day` reads.
+#[tactic(auto, unfolding(crate::specs::Fields::needs, crate::specs::Fields::needs_at))]
 pub fn needs(w: &[u64], d: usize) -> &[u64]
     requires { Accepted w.now × (d < of.days w.now) }
     ensures { result.now ≡ of.needs w.now d }
@@ -114,6 +119,7 @@ pub fn needs(w: &[u64], d: usize) -> &[u64]
 }
 
 // Where the days end.
+#[tactic(auto, unfolding(crate::specs::Fields::tail_at, crate::specs::Fields::needs_at))]
 fn tail_at(w: &[u64]) -> usize
     requires { Accepted w.now }
     ensures { (result ≡ of.tail_at w.now) × (result ≤ length w.now) }

@@ -30,11 +30,9 @@ pub fn rules_of(w: &[u64]) -> Rules
 pub fn gap_after(r: Rules, run: u64) -> u64
     ensures { result ≡ gap r run }
 {
-    if run <= 1 {
-        return r.g1;
+    match run {
+        0 | 1 => r.g1,
+        2 => r.g2,
+        _ => r.g3,
     }
-    if run == 2 {
-        return r.g2;
-    }
-    r.g3
 }

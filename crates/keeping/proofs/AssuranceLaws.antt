@@ -40,8 +40,9 @@ assurance = record {
       let h = may_of storage n e in
       let after = kept_all meanwhile (kept_in storage n kept) in
       let t = through n meanwhile (kept_in storage n kept) o (kept_may storage n kept z n ∙ h) in
-      answered_yes after n in_hand (returns_kept after n in_hand kept z t.0 (t.1 ∙ kept_same storage n kept z h));
-  zeros = λ words n in_hand. answered_no (replicate words 0) n in_hand (returns_nothing (replicate words 0) n in_hand (zero_at words (entry_at n)));
+      let y = returns_kept after n in_hand kept z t.0 (t.1 ∙ kept_same storage n kept z h) in
+      (answered_yes after n in_hand y, y.1);
+  zeros = λ words n in_hand. let y = returns_nothing (replicate words 0) n in_hand (zero_at words (entry_at n)) in (answered_no (replicate words 0) n in_hand y, y.1);
   same_length = kept_long;
 }
 

@@ -4,7 +4,7 @@ use mathlib.Core.Path.{◌≡◌, refl, sym, ap, ◌∙◌}
 use mathlib.Core.Logic.{◌≢◌}
 use mathlib.Core.Bool.{Bool, true, false, ◌&&◌, and-false}
 use mathlib.Core.List.{List, [], ◌∷◌, ◌++◌}
-use mathlib.Core.Option.{none, some}
+use mathlib.Core.Option.{Option, none, some}
 use native.Mathlib.Omega.{arith}
 use native.Mathlib.Nat.{add-zero}
 use lib.Dec.{leb}
@@ -13,8 +13,11 @@ use lib.Seq.{drop-drop, get_or-take, get_or-drop}
 use borrow.Author.Tests.{leb-true, leb-false}
 use Rattle.numbers.proofs.RangeLaws.{and_parts}
 use Rattle.refusals.specs.Questions as question
-use Rattle.refusals.specs.Refusals.{numbered, answer_by}
-use Rattle.refusals.specs.declared.Answer.TheVariants.{Yes, No}
+use Rattle.refusals.specs.Refusals.{numbered}
+use Rattle.refusals.specs.declared.Refusal.{Refusal}
+use Rattle.refusals.proofs.OrderLaws.{unless_none}
+use Rattle.std.specs.declared.result.Result.{Result}
+use Rattle.std.specs.declared.result.Result.TheVariants.{Ok, Err}
 use Rattle.history.specs.Session.{keep_number}
 use Rattle.history.proofs.SessionLaws.{storable}
 use Rattle.search.specs.Stored.{Sized}
@@ -125,13 +128,23 @@ ReturnsNot storage n other = (return_no storage n ≡ some (numbered question.st
 pub return_may : (storage : List ℕ) (n : ℕ) → may_return storage n ≡ true → may_keep storage n ≡ true
 return_may storage n h = (and_parts (may_keep storage n) (is_kept storage n) h).0
 
+module _ (storage : List ℕ) (n : ℕ) where
+  pub brought_back : may_return storage n ≡ true → returned_of storage n ≡ Ok (record_at storage n)
+  unfolding return_no
+  brought_back h = rw (returned_of, return_no, h)
+
+  pub brought_nothing : may_return storage n ≡ false → returned_of storage n ≡ Err (numbered question.storage 0)
+  unfolding return_no
+  brought_nothing h = rw (returned_of, return_no, h)
+
+  answered_by : (o : Option Refusal) {r : Stored} → ◌≡◌ {A = Result Stored Refusal} (elim o [ none ↦ Ok (record_at storage n) | some x ↦ Err x ]) (Ok r) → o ≡ none
+  answered_by none e = refl
+  answered_by (some x) e = let z : ◌≡◌ {A = ℕ} 0 1 = cc in absurd (omega arith)
+
+  pub answered_none : {r : Stored} → returned_of storage n ≡ Ok r → return_no storage n ≡ none
+  answered_none e = answered_by (return_no storage n) e
+
 module _ (storage : List ℕ) (n : ℕ) (other : Stored) where
-  pub answered_yes : {r : Stored} → Returns storage n other r → returned_of storage n other ≡ record { after = r; answer = Yes }
-  answered_yes y = λ i. record { after = y.1 i; answer = answer_by (y.0 i) }
-
-  pub answered_no : ReturnsNot storage n other → returned_of storage n other ≡ record { after = other; answer = No (numbered question.storage 0) }
-  answered_no y = λ i. record { after = y.1 i; answer = answer_by (y.0 i) }
-
   pub returned_not : may_return storage n ≡ false → ReturnsNot storage n other
   unfolding return_no returned_to
   returned_not h = (rw h, rw h)
@@ -139,6 +152,16 @@ module _ (storage : List ℕ) (n : ℕ) (other : Stored) where
   pub returned_is : may_return storage n ≡ true → Returns storage n other (record_at storage n)
   unfolding return_no returned_to
   returned_is h = (rw h, rw h)
+
+  may_of : return_no storage n ≡ none → may_return storage n ≡ true
+  unfolding return_no
+  may_of e = unless_none (may_return storage n) question.storage 0 e
+
+  pub answered_yes : {r : Stored} → Returns storage n other r → returned_of storage n ≡ Ok r
+  answered_yes y = let h = may_of y.0 in brought_back storage n h ∙ ap Ok (sym (returned_is h).1 ∙ y.1)
+
+  pub answered_no : ReturnsNot storage n other → returned_of storage n ≡ Err (numbered question.storage 0)
+  answered_no y = rw (returned_of, y.0)
 
   pub returns_not : may_keep storage n ≡ false → ReturnsNot storage n other
   returns_not h = returned_not (rw h)

@@ -1,13 +1,14 @@
 -- Storage for eight records under the numbers 1 to 8, in 32-bit words: each number has an entry, a word that is 0 where nothing is kept and then a record's words.
 use Rattle.std.specs.Prelude.{ℕ, ◌+◌, ◌-◌, ◌*◌, Bool, cond, not, ◌&&◌, List, ◌∷◌, ◌++◌, leb, eqb, length, get_or, take, drop}
-use Rattle.std.proofs.Math.Option.{Option}
+use Rattle.std.proofs.Math.Option.{Option, none, some}
+use Rattle.std.specs.declared.result.Result.{Result}
+use Rattle.std.specs.declared.result.Result.TheVariants.{Ok, Err}
 use Rattle.refusals.specs.Questions as question
-use Rattle.refusals.specs.Refusals.{answer_by, unless}
+use Rattle.refusals.specs.Refusals.{unless}
 use Rattle.refusals.specs.declared.Refusal.{Refusal}
 use Rattle.history.specs.Session.{keep_number}
 use Rattle.search.specs.declared.Record.{Record as Stored}
 use Rattle.recordwords.specs.Words.{record_words, record_of_words, words_of_record}
-use Rattle.keeping.specs.declared.Returned.{Returned}
 
 -- the words of an entry, and of all eight
 abbrev pub entry_words : ℕ
@@ -57,9 +58,10 @@ return_no storage n = unless (may_return storage n) question.storage 0
 unfoldable pub record_at : List ℕ → ℕ → Stored
 record_at storage n = record_of_words (take record_words (drop (entry_at n + 1) storage))
 
--- the record after it; a refused one hands back the record in hand
+-- the record after it; a refused one leaves the record in hand
 unfoldable pub returned_to : List ℕ → ℕ → Stored → Stored
 returned_to storage n r = cond (may_return storage n) (record_at storage n) r
 
-abbrev pub returned_of : List ℕ → ℕ → Stored → Returned
-returned_of storage n r = record { after = returned_to storage n r; answer = answer_by (return_no storage n) }
+-- what it answers: the record that was kept, or question 13
+abbrev pub returned_of : List ℕ → ℕ → Result Stored Refusal
+returned_of storage n = elim (return_no storage n) [ none ↦ Ok (record_at storage n) | some x ↦ Err x ]

@@ -9,20 +9,14 @@ ghost use Rattle.recordwords.specs.Words.{record_words, words_of_record};
 ghost use Rattle.keeping.specs.Storage.{entry_words, entry_at, has_room, may_return, keep_no, kept_in, returned_of};
 
 use recordwords::WORDS;
-use refusals::{Answer, question};
+use refusals::Refusal;
+use refusals::question::Question;
 use search::Record;
 
 // The words of an entry, the first of which says whether something is kept; and of all eight.
 const ENTRY: usize = 402;
 
 pub const STORAGE: usize = 3216;
-
-// The record after a return, and whether it was refused.
-#[derive(Clone, Copy)]
-pub struct Returned {
-    pub after: Record,
-    pub answer: Answer,
-}
 
 // Whether storage of so many words has room for eight records, and the number is 1 to 8.
 fn may_keep(words: usize, number: u32) -> bool
@@ -45,9 +39,7 @@ fn entry_of(rec: Record) -> [u32; ENTRY]
 {
     let words = recordwords::words_of(rec);
     let mut entry = [1u32; ENTRY];
-    for i in 0..WORDS {
-        entry[i + 1] = words[i];
-    }
+    entry[1..].copy_from_slice(&words);
     entry
 }
 
@@ -56,9 +48,7 @@ fn put_entry(storage: &mut [u32], at: usize, entry: [u32; ENTRY])
     requires { at + entry_words ≤ length storage.old }
     ensures { storage.new ≡ paste storage.old at entry entry_words }
 {
-    for i in 0..ENTRY {
-        storage[at + i] = entry[i];
-    }
+    storage[at..at + ENTRY].copy_from_slice(&entry);
 }
 
 // A record's words, from `at` on.
@@ -67,9 +57,7 @@ fn words_at(storage: &[u32], at: usize) -> [u32; WORDS]
     ensures { result ≡ take record_words (drop at storage.now) }
 {
     let mut words = [0u32; WORDS];
-    for i in 0..WORDS {
-        words[i] = storage[at + i];
-    }
+    words.copy_from_slice(&storage[at..at + WORDS]);
     words
 }
 
@@ -77,42 +65,27 @@ fn words_at(storage: &[u32], at: usize) -> [u32; WORDS]
 fn may_return(storage: &[u32], number: u32) -> bool
     ensures { result ≡ may_return storage.now number }
 {
-    if may_keep(storage.len(), number) {
-        let at = entry_at(number);
-        return storage[at] != 0;
-    }
-    false
+    may_keep(storage.len(), number) && storage[entry_at(number)] != 0
 }
 
 // Keeps the record under the number, in place of what was kept there; or question 13. A refused call leaves the storage as it was.
-pub fn keep(rec: Record, number: u32, storage: &mut [u32]) -> Answer
+pub fn keep(rec: Record, number: u32, storage: &mut [u32]) -> Result<(), Refusal>
     ensures says { result ≡ answer_by (keep_no storage.old number) }
     ensures leaves { storage.new ≡ kept_in storage.old number rec }
 {
-    if may_keep(storage.len(), number) {
-        let at = entry_at(number);
-        let entry = entry_of(rec);
-        put_entry(storage, at, entry);
-        return Answer::Yes;
+    if !may_keep(storage.len(), number) {
+        return Err(Question::Storage.at(0));
     }
-    refusals::no(question::STORAGE, 0)
+    put_entry(storage, entry_at(number), entry_of(rec));
+    Ok(())
 }
 
-// The record kept under the number; or question 13, and the record in hand.
-pub fn bring_back(rec: Record, number: u32, storage: &[u32]) -> Returned
-    ensures { result ≡ returned_of storage.now number rec }
+// The record kept under the number; or question 13.
+pub fn bring_back(number: u32, storage: &[u32]) -> Result<Record, Refusal>
+    ensures { result ≡ returned_of storage.now number }
 {
-    if may_return(storage, number) {
-        let at = entry_at(number);
-        let words = words_at(storage, at + 1);
-        let after = recordwords::record_of(words);
-        return Returned {
-            after,
-            answer: Answer::Yes,
-        };
+    if !may_return(storage, number) {
+        return Err(Question::Storage.at(0));
     }
-    Returned {
-        after: rec,
-        answer: refusals::no(question::STORAGE, 0),
-    }
+    Ok(recordwords::record_of(words_at(storage, entry_at(number) + 1)))
 }

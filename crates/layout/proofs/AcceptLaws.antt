@@ -4,8 +4,11 @@ use mathlib.Core.Path.{◌≡◌, refl, ap, ◌∙◌}
 use mathlib.Core.List.{List, [], ◌∷◌}
 use native.Mathlib.Omega.{arith}
 use lib.ListN.{length, get_or, drop}
+use Rattle.std.specs.declared.result.Result.{Result}
+use Rattle.std.specs.declared.result.Result.TheVariants.{Ok, Err}
 use Rattle.codec.specs.declared.Number.{Number}
-use Rattle.codec.specs.declared.Number.TheVariants.{Value, Ended, Long}
+use Rattle.codec.specs.declared.Fault.{Fault}
+use Rattle.codec.specs.declared.Fault.TheVariants.{Ended, Long}
 use Rattle.codec.specs.Groups.{decode}
 use Rattle.layout.specs.Grammar.{Grammar, done, number, failed_by, Read, good, bad, prepend, on_pass, on_number, read, check}
 use Rattle.layout.specs.CodeWant.{Within}
@@ -58,10 +61,10 @@ read_checked (number f k) at i bs ws e = go (decode bs) refl e (λ v used us. re
     passed : (v : ℕ) (us : List ℕ) → failed_by f v ≡ 0 → check (k v) (i + 1) us ≡ good us → check (number f k) i (v ∷ us) ≡ good (v ∷ us)
     passed v us q h = rw (q, h)
 
-    go : (n : Number) → decode bs ≡ n → on_number f at n (λ v used. prepend (v ∷ []) (read (k v) (at + used) (drop used bs))) ≡ good ws
+    go : (n : Result Number Fault) → decode bs ≡ n → on_number f at n (λ v used. prepend (v ∷ []) (read (k v) (at + used) (drop used bs))) ≡ good ws
         → ((v used : ℕ) (us : List ℕ) → read (k v) (at + used) (drop used bs) ≡ good us → check (k v) (i + 1) us ≡ good us) → check (number f k) i ws ≡ good ws
-    go (Value v used) d x on =
-        let l = let_through (failed_by f v) at v (read (k v) (at + used) (drop used bs)) ws x in
-        rw l.1.2 (passed v l.1.0 l.0 (on v used l.1.0 l.1.1))
-    go Ended d x on = let z : ◌≡◌ {A = ℕ} 0 1 = cc in absurd (omega arith)
-    go Long d x on = let z : ◌≡◌ {A = ℕ} 0 1 = cc in absurd (omega arith)
+    go (Ok n) d x on =
+        let l = let_through (failed_by f n.value) at n.value (read (k n.value) (at + n.used) (drop n.used bs)) ws x in
+        rw l.1.2 (passed n.value l.1.0 l.0 (on n.value n.used l.1.0 l.1.1))
+    go (Err Ended) d x on = let z : ◌≡◌ {A = ℕ} 0 1 = cc in absurd (omega arith)
+    go (Err Long) d x on = let z : ◌≡◌ {A = ℕ} 0 1 = cc in absurd (omega arith)

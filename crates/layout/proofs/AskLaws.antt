@@ -1,24 +1,32 @@
--- What `failed_by` is after a duty, for the returns of `ask`.
-use Prim.Native.Nat.{ℕ, ◌≤◌}
-use mathlib.Core.Path.{◌≡◌}
-use borrow.Author.Tests.{le-ltb, eq-eqb, ne_eqb}
+-- What `failed_by` is at the returns of `ask`.
+use Prim.Native.Nat.{ℕ, ◌≤◌, ◌<◌}
+use mathlib.Core.Path.{◌≡◌, refl}
+use mathlib.Core.Logic.{◌⊎◌, inl, inr}
+use mathlib.Core.Bool.{Bool, true, false, not, beq, cond}
+use borrow.Author.Tests.{le-ltb, lt-ltb}
+use lib.Dec.{eqb}
+use Rattle.std.specs.declared.option.Option.TheVariants.{None, Some}
 use Rattle.layout.specs.declared.Field.{Field}
-use Rattle.layout.specs.declared.Rule.TheVariants.{After}
 use Rattle.layout.specs.Grammar.{failed_by}
 
-module _ (f : Field) (v d : ℕ) (lo : f.least ≤ v) (hi : v ≤ f.most) (e : f.rule ≡ After d) where
-  pub second_day : d ≡ 2 → v ≡ 3 → 0 ≡ failed_by f v
+module _ (f : Field) (v : ℕ) where
+  pub outside : (v < f.least) ⊎ ((f.least ≤ v) × (f.most < v)) → 3 ≡ failed_by f v
   unfolding failed_by
-  second_day p q = simp (le-ltb _ _ lo, le-ltb _ _ hi, e, eq-eqb _ _ p, eq-eqb _ _ q)
+  outside (inl h) = simp (lt-ltb _ _ h)
+  outside (inr (lo, h)) = simp (le-ltb _ _ lo, lt-ltb _ _ h)
 
-  pub no_second_day : d ≡ 2 → (v ≡ 3 → ⊥) → 4 ≡ failed_by f v
-  unfolding failed_by
-  no_second_day p q = simp (le-ltb _ _ lo, le-ltb _ _ hi, e, eq-eqb _ _ p, ne_eqb _ _ q)
+  module _ (lo : f.least ≤ v) (hi : v ≤ f.most) where
+    pub in_range : f.after ≡ None → 0 ≡ failed_by f v
+    unfolding failed_by
+    in_range e = simp (le-ltb _ _ lo, le-ltb _ _ hi, e)
 
-  pub no_first_day : (d ≡ 2 → ⊥) → v ≡ 3 → 4 ≡ failed_by f v
-  unfolding failed_by
-  no_first_day p q = simp (le-ltb _ _ lo, le-ltb _ _ hi, e, ne_eqb _ _ p, eq-eqb _ _ q)
-
-  pub other_day : (d ≡ 2 → ⊥) → (v ≡ 3 → ⊥) → 0 ≡ failed_by f v
-  unfolding failed_by
-  other_day p q = simp (le-ltb _ _ lo, le-ltb _ _ hi, e, ne_eqb _ _ p, ne_eqb _ _ q)
+    -- a duty, by whether it is a 3 as its place asks
+    pub duty_asked : (d : ℕ) (b : Bool) → f.after ≡ Some d → not (beq (eqb d 2) (eqb v 3)) ≡ b → cond b 4 0 ≡ failed_by f v
+    unfolding failed_by
+    duty_asked d b e p = simp (le-ltb _ _ lo, le-ltb _ _ hi, e, ← p) (same (eqb d 2) (eqb v 3))
+      where
+        same : (x y : Bool) → cond {A = ℕ} (not (beq x y)) 4 0 ≡ cond (cond x y (not y)) 0 4
+        same true true = refl
+        same true false = refl
+        same false true = refl
+        same false false = refl

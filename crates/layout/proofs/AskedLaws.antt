@@ -6,16 +6,16 @@ use mathlib.Core.Bool.{Bool, true, false, not, cond}
 use native.Mathlib.Omega.{arith}
 use borrow.Author.Tests.{ltb-true, ltb-false, eqb-true, eqb-false, lt-ltb, le-ltb}
 use lib.Dec.{ltb, eqb}
-use Rattle.layout.specs.declared.Rule.{Rule}
-use Rattle.layout.specs.declared.Rule.TheVariants.{Any, After}
+use Rattle.std.specs.declared.option.Option.{Option}
+use Rattle.std.specs.declared.option.Option.TheVariants.{None, Some}
 use Rattle.layout.specs.declared.Field.{Field}
 use Rattle.layout.specs.Grammar.{failed_by, fits}
 use Rattle.layout.specs.Faults.{InRange, FitsBefore, NumberFault, out_of_range, unfit}
 use Rattle.layout.proofs.GrammarLaws.{in_range}
 
-fits_before : (r : Rule) (v : ℕ) → fits r v ≡ true → FitsBefore r v
-fits_before Any v e = tt
-fits_before (After d) v e = go (eqb d 2) (eqb v 3) refl refl e
+fits_before : (r : Option ℕ) (v : ℕ) → fits r v ≡ true → FitsBefore r v
+fits_before None v e = tt
+fits_before (Some d) v e = go (eqb d 2) (eqb v 3) refl refl e
   where
     go : (x y : Bool) → eqb d 2 ≡ x → eqb v 3 ≡ y → cond x y (not y) ≡ true → (d ≡ 2) ↔ (v ≡ 3)
     go true true p q h = (λ _. eqb-true v 3 q, λ _. eqb-true d 2 p)
@@ -23,9 +23,9 @@ fits_before (After d) v e = go (eqb d 2) (eqb v 3) refl refl e
     go false true p q h = let z : ◌≡◌ {A = ℕ} 0 1 = cc in absurd (omega arith)
     go false false p q h = (λ z. absurd (eqb-false d 2 p z), λ z. absurd (eqb-false v 3 q z))
 
-before_fits : (r : Rule) (v : ℕ) → FitsBefore r v → fits r v ≡ true
-before_fits Any v h = refl
-before_fits (After d) v h = go (eqb d 2) (eqb v 3) refl refl
+before_fits : (r : Option ℕ) (v : ℕ) → FitsBefore r v → fits r v ≡ true
+before_fits None v h = refl
+before_fits (Some d) v h = go (eqb d 2) (eqb v 3) refl refl
   where
     go : (x y : Bool) → eqb d 2 ≡ x → eqb v 3 ≡ y → cond x y (not y) ≡ true
     go true true p q = refl
@@ -34,34 +34,34 @@ before_fits (After d) v h = go (eqb d 2) (eqb v 3) refl refl
     go false false p q = refl
 
 -- a number in its range can fail only what its rule asks
-in_its_range : (f : Field) (v : ℕ) → InRange f v → failed_by f v ≡ cond (fits f.rule v) 0 4
+in_its_range : (f : Field) (v : ℕ) → InRange f v → failed_by f v ≡ cond (fits f.after v) 0 4
 unfolding failed_by
 in_its_range f v r = simp (le-ltb v f.least r.0, le-ltb f.most v r.1)
 
-pub asked_none : (f : Field) (v : ℕ) → failed_by f v ≡ 0 → InRange f v × FitsBefore f.rule v
+pub asked_none : (f : Field) (v : ℕ) → failed_by f v ≡ 0 → InRange f v × FitsBefore f.after v
 asked_none f v e =
     let r = in_range f v e in
-    (r, fits_before f.rule v (go (fits f.rule v) (sym (in_its_range f v r) ∙ e)))
+    (r, fits_before f.after v (go (fits f.after v) (sym (in_its_range f v r) ∙ e)))
   where
     go : (b : Bool) → cond {A = ℕ} b 0 4 ≡ 0 → b ≡ true
     go true h = refl
     go false h = absurd (omega arith)
 
-pub none_asked : (f : Field) (v : ℕ) → InRange f v → FitsBefore f.rule v → failed_by f v ≡ 0
-none_asked f v r h = in_its_range f v r ∙ simp (before_fits f.rule v h)
+pub none_asked : (f : Field) (v : ℕ) → InRange f v → FitsBefore f.after v → failed_by f v ≡ 0
+none_asked f v r h = in_its_range f v r ∙ simp (before_fits f.after v h)
 
 pub asked_fault : (f : Field) (v q : ℕ) → failed_by f v ≡ suc q → NumberFault f v (suc q)
 unfolding failed_by
-asked_fault f v q e = go (ltb v f.least) (ltb f.most v) (fits f.rule v) refl refl refl e
+asked_fault f v q e = go (ltb v f.least) (ltb f.most v) (fits f.after v) refl refl refl e
   where
-    go : (a b c : Bool) → ltb v f.least ≡ a → ltb f.most v ≡ b → fits f.rule v ≡ c
+    go : (a b c : Bool) → ltb v f.least ≡ a → ltb f.most v ≡ b → fits f.after v ≡ c
         → cond {A = ℕ} a 3 (cond b 3 (cond c 0 4)) ≡ suc q → NumberFault f v (suc q)
     go true b c p r s h = subst (NumberFault f v) h (out_of_range (inl (ltb-true _ _ p)))
     go false true c p r s h = subst (NumberFault f v) h (out_of_range (inr (ltb-true _ _ r)))
     go false false true p r s h = absurd (omega arith)
     go false false false p r s h =
         subst (NumberFault f v) h
-        (unfit (ltb-false _ _ p, ltb-false _ _ r) (λ t. let z : ◌≡◌ {A = ℕ} 0 1 = let y : false ≡ true = sym s ∙ before_fits f.rule v t in cc in absurd (omega arith)))
+        (unfit (ltb-false _ _ p, ltb-false _ _ r) (λ t. let z : ◌≡◌ {A = ℕ} 0 1 = let y : false ≡ true = sym s ∙ before_fits f.after v t in cc in absurd (omega arith)))
 
 pub fault_asked : (f : Field) (v q : ℕ) → NumberFault f v q → failed_by f v ≡ q
 unfolding failed_by
@@ -71,10 +71,10 @@ fault_asked f v q (out_of_range (inr h)) = simp (lt-ltb f.most v h) (same (ltb v
     same : (b : Bool) → cond {A = ℕ} b 3 3 ≡ 3
     same true = refl
     same false = refl
-fault_asked f v q (unfit r h) = in_its_range f v r ∙ go (fits f.rule v) refl
+fault_asked f v q (unfit r h) = in_its_range f v r ∙ go (fits f.after v) refl
   where
-    go : (b : Bool) → fits f.rule v ≡ b → cond {A = ℕ} b 0 4 ≡ 4
-    go true e = absurd (h (fits_before f.rule v e))
+    go : (b : Bool) → fits f.after v ≡ b → cond {A = ℕ} b 0 4 ≡ 4
+    go true e = absurd (h (fits_before f.after v e))
     go false e = refl
 
 -- a fault has a question

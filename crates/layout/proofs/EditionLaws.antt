@@ -9,35 +9,36 @@ use lib.ListN.{drop}
 use lib.Dec.{ltb}
 use Rattle.refusals.specs.Refusals.{numbered}
 use Rattle.refusals.specs.Questions as question
+use Rattle.std.specs.declared.result.Result.{Result}
+use Rattle.std.specs.declared.result.Result.TheVariants.{Ok, Err}
 use Rattle.codec.specs.declared.Number.{Number}
-use Rattle.codec.specs.declared.Number.TheVariants.{Value, Ended, Long}
-use Rattle.codec.specs.Groups.{decode, decode_groups, final, under}
+use Rattle.codec.specs.declared.Fault.{Fault}
+use Rattle.codec.specs.declared.Fault.TheVariants.{Ended, Long}
+use Rattle.codec.specs.Groups.{value, decode, decode_groups, final, under}
 use Rattle.layout.specs.Grammar.{failed_by, bad, prepend, on_pass, on_number, read, check}
 use Rattle.layout.specs.Layout.{range, sizes, first, ward, ward_one}
 use Rattle.layout.specs.Editions.{Later, Editions}
 
 -- ---- a number that is read as 0 is the byte 0
 
-abbrev NotZero : Number → Type 0
-NotZero (Value v used) = 1 ≤ v
-NotZero Ended = Unit
-NotZero Long = Unit
+abbrev NotZero : Result Number Fault → Type 0
+NotZero (Ok n) = 1 ≤ n.value
+NotZero (Err fault) = Unit
 
 last_some : (least b : ℕ) → (least ≤ b → 1 ≤ b) → NotZero (final least b)
 unfolding final
 last_some least b h = go (ltb b least) refl
   where
-    go : (x : Bool) → ltb b least ≡ x → NotZero (cond x Long (Value b 1))
+    go : (x : Bool) → ltb b least ≡ x → NotZero (cond x (Err Long) (value b 1))
     go true e = tt
     go false e = h (ltb-false b least e)
 
-under_some : (b : ℕ) (n : Number) → NotZero n → NotZero (under b n)
+under_some : (b : ℕ) (n : Result Number Fault) → NotZero n → NotZero (under b n)
 unfolding under
-under_some b (Value v used) h = omega arith
-under_some b Ended h = tt
-under_some b Long h = tt
+under_some b (Ok n) h = omega arith
+under_some b (Err fault) h = tt
 
-either_some : (x : Bool) (n k : Number) → NotZero n → NotZero k → NotZero (cond x n k)
+either_some : (x : Bool) (n k : Result Number Fault) → NotZero n → NotZero k → NotZero (cond x n k)
 either_some true n k p q = p
 either_some false n k p q = q
 
@@ -46,7 +47,7 @@ more_some : (more : ℕ) (bs : List ℕ) → NotZero (decode_groups more 1 bs)
 unfolding decode_groups
 more_some zero [] = tt
 more_some (suc more) [] = tt
-more_some zero (b ∷ bs) = either_some (ltb b 128) (final 1 b) Long (last_some 1 b (λ l. l)) tt
+more_some zero (b ∷ bs) = either_some (ltb b 128) (final 1 b) (Err Long) (last_some 1 b (λ l. l)) tt
 more_some (suc more) (b ∷ bs) =
     either_some (ltb b 128) (final 1 b) (under b (decode_groups more 1 bs)) (last_some 1 b (λ l. l)) (under_some b (decode_groups more 1 bs) (more_some more bs))
 
@@ -64,14 +65,19 @@ same_failed : (v : ℕ) → failed_by (range 0 48) (suc v) ≡ failed_by (range 
 unfolding failed_by
 same_failed v = simp (le-ltb (suc v) 0 (omega arith), le-ltb (suc v) 1 (omega arith))
 
-same_reading : (file : List ℕ) (n : Number) → NotZero n
+same_reading : (file : List ℕ) (n : Result Number Fault) → NotZero n
     → on_number (range 0 48) 0 n (λ v used. prepend (v ∷ []) (read (first v) (0 + used) (drop used file)))
     ≡ on_number (range 1 48) 0 n (λ v used. prepend (v ∷ []) (read (sizes 1 v) (0 + used) (drop used file)))
-same_reading file (Value zero used) h = absurd (omega arith)
-same_reading file (Value (suc v) used) h =
-    ap (λ (q : ℕ). on_pass q 0 (prepend (suc v ∷ []) (read (sizes 1 (suc v)) (0 + used) (drop used file)))) (same_failed v)
-same_reading file Ended h = refl
-same_reading file Long h = refl
+same_reading file (Ok n) h = go n.value n.used h
+  where
+    go : (v used : ℕ) → 1 ≤ v
+        → on_pass (failed_by (range 0 48) v) 0 (prepend (v ∷ []) (read (first v) (0 + used) (drop used file)))
+        ≡ on_pass (failed_by (range 1 48) v) 0 (prepend (v ∷ []) (read (sizes 1 v) (0 + used) (drop used file)))
+    go zero used l = absurd (omega arith)
+    go (suc v) used l =
+        ap (λ (q : ℕ). on_pass q 0 (prepend (suc v ∷ []) (read (sizes 1 (suc v)) (0 + used) (drop used file)))) (same_failed v)
+same_reading file (Err Ended) h = refl
+same_reading file (Err Long) h = refl
 
 read_same : (file : List ℕ) → (Later file → ⊥) → read ward 0 file ≡ read ward_one 0 file
 unfolding read ward ward_one

@@ -60,7 +60,7 @@ here {g} {ws} {a} {q} i x e h =
     let t : i ≡ x = ap (λ (m : Refusal). m.place) n in
     (0, omega arith, record { taken = []; left = g; rest = ws; numbers = refl; place = refl; takes = none_yet; fault = subst (NumbersFault g ws) s h })
 
-later : {f : Field} {k : ℕ → Grammar} {w : ℕ} {ws : List ℕ} {q : ℕ} (i x : ℕ) → InRange f w → FitsBefore f.rule w
+later : {f : Field} {k : ℕ → Grammar} {w : ℕ} {ws : List ℕ} {q : ℕ} (i x : ℕ) → InRange f w → FitsBefore f.after w
     → (p : ℕ) × (x ≡ i + 1 + p) × ListFault (k w) ws q p → (p : ℕ) × (x ≡ i + p) × ListFault (number f k) (w ∷ ws) q p
 later {w = w} i x r h t =
     let l = t.2 in (

@@ -2,33 +2,20 @@
 use Prim.Native.Nat.{ℕ, zero, suc, ◌≤◌, ◌<◌, ◌-◌}
 use mathlib.Core.Path.{◌≡◌, ◌∙◌, refl, sym, ap}
 use native.Mathlib.Omega.{arith}
-use borrow.Author.Tests.{lt-ltb, le-ltb}
 use Rattle.layout.specs.declared.Cursor.{Cursor}
 use Rattle.layout.specs.declared.Place.{Place}
-use Rattle.layout.specs.declared.Place.TheVariants.{Edition, Days, Gap, Tabu, Weight, FirstDuty, NextDuty, LeastNightsOf, Mark, Members, NightNeed, NightLow, PairCount, PairDay, End}
+use Rattle.layout.specs.declared.Place.TheVariants.{Gap, Tabu, Weight, FirstDuty, NextDuty, LeastNightsOf, Mark, Members, NightNeed, NightLow, PairDay, End}
 use Rattle.layout.specs.Grammar.{Grammar}
-use Rattle.layout.specs.CodeWant.{wanted, after}
+use Rattle.layout.specs.CodeWant.{after}
 use Rattle.layout.specs.Layout
-use Rattle.layout.specs.CodePlace.{tree_at, tree, moved, sized, inner_left, outer_left, turn, nights_on}
+use Rattle.layout.specs.CodePlace.{tree_at, tree, moved, inner_left, outer_left, turn, nights_on}
 
 pub tree_at_lem : (c : Cursor) {p : Place} → c.place ≡ p → tree_at p c ≡ tree c
 unfolding tree
 tree_at_lem c e = ap (λ (p : Place). tree_at p c) (sym e)
 
-pub wanted_at_lem : (c : Cursor) {p : Place} → c.place ≡ p → wanted (tree_at p c) ≡ wanted (tree c)
-wanted_at_lem c e = ap wanted (tree_at_lem c e)
-
 pub after_at : (c : Cursor) (v : ℕ) {p : Place} → c.place ≡ p → after (tree_at p c) v ≡ after (tree c) v
 after_at c v e = ap (λ (g : Grammar). after g v) (tree_at_lem c e)
-
--- the end stays the end
-pub ended :
-    (c : Cursor) (v : ℕ)
-    → c.place ≡ End
-    → tree (record { place = c.place; outer = c.outer; inner = c.inner; before = v; head = c.head }) ≡ after (tree c) v
-ended c v e =
-    let d : Cursor = record { place = c.place; outer = c.outer; inner = c.inner; before = v; head = c.head } in
-    sym (tree_at_lem d e) ∙ after_at c v e
 
 -- where k turns are left, as the code finds it out
 pub turn_again : (k : ℕ) (next : ℕ → Cursor) (rest : Cursor) → 0 < k → next (k - 1) ≡ turn k next rest
@@ -91,22 +78,3 @@ module _ (c : Cursor) (k : ℕ) (rest : Cursor) {r : Cursor} where
   pub pairs_left : r ≡ turn k (inner_left PairDay c) rest → rest ≡ moved End c → tree r ≡ Layout.pairs c.head k c.before
   unfolding tree inner_left
   pairs_left e over = turned k _ rest (λ (i : ℕ). Layout.pairs c.head i c.before) e (ap tree over) (λ j. refl)
-
--- what an edition has after the days, and what is left after the first number
-module _ (c : Cursor) {r : Cursor} where
-  pub older : c.head.edition < 2 → r ≡ moved End c → tree r ≡ Layout.two c.head
-  unfolding tree
-  older h e = ap tree e ∙ simp (lt-ltb _ _ h)
-
-  pub from_two : 2 ≤ c.head.edition → r ≡ moved PairCount c → tree r ≡ Layout.two c.head
-  unfolding tree
-  from_two h e = ap tree e ∙ simp (le-ltb _ _ h)
-
-  pub later_edition : (v : ℕ) → v ≡ 0 → r ≡ moved Edition c → tree r ≡ Layout.first v
-  unfolding tree
-  later_edition v h e = ap tree e ∙ sym (ap Layout.first h)
-
-  pub edition_one : (v : ℕ) → (v ≡ 0 → ⊥) → r ≡ sized v 0 0 1 Days c → tree r ≡ Layout.first v
-  unfolding tree
-  edition_one zero n e = absurd (n refl)
-  edition_one (suc v) n e = ap tree e

@@ -1,19 +1,12 @@
 -- Powers of two below 2 ^ 50, as the code makes them.
-use Prim.Native.Nat.{ℕ, ◌-◌, ◌*◌, ◌%◌, ◌^◌, ◌≤◌, ◌<◌}
-use mathlib.Core.Path.{◌≡◌}
-use native.Mathlib.Nat.{one-mul, mod-eq_of_lt, lt_of_not-le}
+use Prim.Native.Nat.{ℕ, ◌-◌, ◌^◌, ◌≤◌, ◌<◌}
+use native.Mathlib.Nat.{lt_of_not-le}
 use native.Mathlib.Decide.{dec_le}
 use native.Mathlib.Omega.{arith}
-use lib.Pow.{pow_mono, pow_pos}
+use lib.Pow.{pow_mono}
 
 pub small_power : (m : ℕ) → 2 ^ m - 1 < 2 ^ 49 → m < 64
 small_power m h = elim (dec_le m 49) [ yes p ↦ omega arith | no p ↦ high (lt_of_not-le p) ]
   where
     high : 49 < m → m < 64
     high p = let q : 2 ^ 50 ≤ 2 ^ m = pow_mono p in absurd (omega arith)
-
-pub bit_at : (m : ℕ) → 2 ^ m - 1 < 2 ^ 49 → (1 * 2 ^ m) % 2 ^ 64 ≡ 2 ^ m
-bit_at m h = rw one-mul (mod-eq_of_lt (omega (arith, h)))
-
-pub bit_some : (m : ℕ) → 2 ^ m - 1 < 2 ^ 49 → 1 ≤ (1 * 2 ^ m) % 2 ^ 64
-bit_some m h = rw (bit_at m h) (pow_pos m)

@@ -6,9 +6,12 @@ use native.Mathlib.Omega.{arith}
 use lib.ListN.{length, drop, length-append}
 use lib.Seq.{drop-append_seam}
 use Rattle.refusals.specs.Refusals.{numbered}
+use Rattle.std.specs.declared.result.Result.{Result}
+use Rattle.std.specs.declared.result.Result.TheVariants.{Ok, Err}
 use Rattle.codec.specs.declared.Number.{Number}
-use Rattle.codec.specs.declared.Number.TheVariants.{Value, Ended, Long}
-use Rattle.codec.specs.Groups.{encode, decode}
+use Rattle.codec.specs.declared.Fault.{Fault}
+use Rattle.codec.specs.declared.Fault.TheVariants.{Ended, Long}
+use Rattle.codec.specs.Groups.{encode, value, decode}
 use Rattle.codec.proofs.NumberLaws.{AllBytes, all_drop, number_read}
 use Rattle.codec.proofs.BytesLaws.{cut_off_when, too_long_when, stands_value, value_stands, value_used}
 use Rattle.layout.specs.declared.Field.{Field}
@@ -30,7 +33,7 @@ unfolding bytes_of
 here {g} {bs} at h = (0, omega arith, record { taken = []; left = g; rest = bs; bytes = refl; place = refl; takes = none_yet; fault = h })
 
 module _ (f : Field) (k : ℕ → Grammar) (at : ℕ) (bs : List ℕ) (a : AllBytes bs) where
-  value_told : (v used : ℕ) → decode bs ≡ Value v used → (q : ℕ) → failed_by f v ≡ q → (r : Read) → Told (k v) (at + used) (drop used bs) r
+  value_told : (v used : ℕ) → decode bs ≡ value v used → (q : ℕ) → failed_by f v ≡ q → (r : Read) → Told (k v) (at + used) (drop used bs) r
       → Told (number f k) at bs (on_pass q at (prepend (v ∷ []) r))
   unfolding bytes_of
   value_told v used d zero e (good ws) t =
@@ -58,11 +61,11 @@ module _ (f : Field) (k : ℕ → Grammar) (at : ℕ) (bs : List ℕ) (a : AllBy
       )
   value_told v used d (suc q) e r t = here at (BytesFault.wrong_number (value_stands bs v used a d) (asked_fault f v q e))
 
-  number_told : (n : Number) → decode bs ≡ n → ((v used : ℕ) → Told (k v) (at + used) (drop used bs) (read (k v) (at + used) (drop used bs)))
+  number_told : (n : Result Number Fault) → decode bs ≡ n → ((v used : ℕ) → Told (k v) (at + used) (drop used bs) (read (k v) (at + used) (drop used bs)))
       → Told (number f k) at bs (on_number f at n (λ v used. prepend (v ∷ []) (read (k v) (at + used) (drop used bs))))
-  number_told (Value v used) d on = value_told v used d (failed_by f v) refl (read (k v) (at + used) (drop used bs)) (on v used)
-  number_told Ended d on = here at (cut_off ((cut_off_when bs).0 d))
-  number_told Long d on = here at (too_long ((too_long_when bs).0 d))
+  number_told (Ok n) d on = value_told n.value n.used d (failed_by f n.value) refl (read (k n.value) (at + n.used) (drop n.used bs)) (on n.value n.used)
+  number_told (Err Ended) d on = here at (cut_off ((cut_off_when bs).0 d))
+  number_told (Err Long) d on = here at (too_long ((too_long_when bs).0 d))
 
 read_told : (g : Grammar) (at : ℕ) (bs : List ℕ) → AllBytes bs → Told g at bs (read g at bs)
 unfolding read bytes_of

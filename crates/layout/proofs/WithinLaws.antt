@@ -8,7 +8,7 @@ use lib.Pow.{pow_mono}
 use Rattle.layout.specs.declared.Field.{Field}
 use Rattle.layout.specs.declared.Head.{Head}
 use Rattle.layout.specs.Grammar.{Grammar, done, number}
-use Rattle.layout.specs.declared.Want.TheVariants.{Next}
+use Rattle.std.specs.declared.option.Option.TheVariants.{Some}
 use Rattle.layout.specs.CodeWant.{SmallField, Within}
 use Rattle.layout.specs.Layout.{range, one, pair, repeat, duties, since, pairs, two, bounds, day, group, mark, nurse, rules, sizes, body, first, ward}
 use Rattle.layout.proofs.PairLaws.{pairs_few}
@@ -16,7 +16,7 @@ use Rattle.layout.proofs.PairLaws.{pairs_few}
 -- numbers below 2 ^ 49 that come to at most N, where a number of a field up to m counts `size m`
 pub data WithinBy (size : ℕ → ℕ) : ℕ → Grammar → Type 0 where
   no_more : {N : ℕ} → WithinBy size N done
-  and_then : {f : Field} {k : ℕ → Grammar} {n N : ℕ} → SmallField (Next f) → n + size f.most ≤ N
+  and_then : {f : Field} {k : ℕ → Grammar} {n N : ℕ} → SmallField (Some f) → n + size f.most ≤ N
       → ((v : ℕ) → f.least ≤ v → v ≤ f.most → WithinBy size n (k v)) → WithinBy size N (number f k)
 
 -- a field whose least and most fit one byte
@@ -29,7 +29,7 @@ module _ (size : ℕ → ℕ) (big : ℕ) (one_byte : (m : ℕ) → m < 128 → 
   at_most h no_more = no_more
   at_most h (and_then s r on) = and_then s (le_trans r h) on
 
-  by_field : {f : Field} {k : ℕ → Grammar} {n s : ℕ} → SmallField (Next f) → size f.most ≤ s
+  by_field : {f : Field} {k : ℕ → Grammar} {n s : ℕ} → SmallField (Some f) → size f.most ≤ s
       → ((v : ℕ) → f.least ≤ v → v ≤ f.most → WithinBy size n (k v)) → WithinBy size (n + s) (number f k)
   by_field {f} {n} {s} small h on = and_then {f = f} {n = n} {N = n + s} small (omega arith) on
 

@@ -1,6 +1,7 @@
 -- What is left to read at a cursor's place.
 use Rattle.std.specs.Prelude.{ℕ, zero, suc, ◌+◌, ◌-◌}
 use Rattle.layout.specs.declared.Cursor.{Cursor}
+use Rattle.layout.specs.declared.Head.{Head}
 use Rattle.layout.specs.declared.Place.{Place}
 use Rattle.layout.specs.declared.Place.TheVariants.{First, Edition, Nurses, Days, Groups, MostNights, LongestRun, Gap, Tabu, LongestDays, Weight, FirstDuty, NextDuty, LeastNightsOf, MostNightsOf, LeastRestsOf, MostRestsOf, Mark, Members, NightNeed, DayNeed, NightLow, NightHigh, DayLow, DayHigh, PairCount, PairDay, End}
 use Rattle.layout.specs.Grammar.{Grammar, done, number}
@@ -11,8 +12,8 @@ use Rattle.layout.specs.Layout
 abbrev pub moved : Place → Cursor → Cursor
 moved p c = record { place = p; outer = c.outer; inner = c.inner; before = c.before; head = c.head }
 
-abbrev pub sized : ℕ → ℕ → ℕ → ℕ → Place → Cursor → Cursor
-sized m n r e p c = record { place = p; outer = c.outer; inner = c.inner; before = c.before; head = record { m = m; n = n; r = r; edition = e } }
+abbrev pub sized : Head → Place → Cursor → Cursor
+sized h p c = record { place = p; outer = c.outer; inner = c.inner; before = c.before; head = h }
 
 -- at a place after which k numbers or pairs, or k rows, are left
 unfoldable pub inner_left : Place → Cursor → ℕ → Cursor

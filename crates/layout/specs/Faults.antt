@@ -3,8 +3,8 @@
 use Rattle.std.specs.Prelude.{ℕ, ◌≤◌, ◌<◌, ◌≡◌, ◌≢◌, ◌↔◌, ◌⊎◌, List, [], ◌∷◌, ◌++◌, length}
 use Rattle.refusals.specs.Questions as question
 use Rattle.codec.specs.Bytes.{CutOff, TooLong, Stands}
-use Rattle.layout.specs.declared.Rule.{Rule}
-use Rattle.layout.specs.declared.Rule.TheVariants.{Any, After}
+use Rattle.std.specs.declared.option.Option.{Option}
+use Rattle.std.specs.declared.option.Option.TheVariants.{None, Some}
 use Rattle.layout.specs.declared.Field.{Field}
 use Rattle.layout.specs.Grammar.{Grammar, done, number, bytes_of}
 
@@ -12,20 +12,20 @@ abbrev pub InRange : Field → ℕ → Type 0
 InRange f v = (f.least ≤ v) × (v ≤ f.most)
 
 -- a duty is 3 exactly after a 2; nothing else looks at the number before it
-abbrev pub FitsBefore : Rule → ℕ → Type 0
-FitsBefore Any v = Unit
-FitsBefore (After d) v = (d ≡ 2) ↔ (v ≡ 3)
+abbrev pub FitsBefore : Option ℕ → ℕ → Type 0
+FitsBefore None v = Unit
+FitsBefore (Some d) v = (d ≡ 2) ↔ (v ≡ 3)
 
 -- the layout takes these numbers, one after the other, and `left` is what is left of it
 pub data Takes : Grammar → List ℕ → Grammar → Type 0 where
   none_yet : {left : Grammar} → Takes left [] left
   one_more : {f : Field} {k : ℕ → Grammar} {v : ℕ} {vs : List ℕ} {left : Grammar}
-      → InRange f v → FitsBefore f.rule v → Takes (k v) vs left → Takes (number f k) (v ∷ vs) left
+      → InRange f v → FitsBefore f.after v → Takes (k v) vs left → Takes (number f k) (v ∷ vs) left
 
 -- the question that a number fails in its field: 3 before 4
 pub data NumberFault (f : Field) (v : ℕ) : ℕ → Type 0 where
   out_of_range : (v < f.least) ⊎ (f.most < v) → NumberFault f v question.range
-  unfit : InRange f v → (FitsBefore f.rule v → ⊥) → NumberFault f v question.duty
+  unfit : InRange f v → (FitsBefore f.after v → ⊥) → NumberFault f v question.duty
 
 -- the question that bytes fail where this is left of the layout
 pub data BytesFault : Grammar → List ℕ → ℕ → Type 0 where

@@ -1,13 +1,16 @@
 -- A layout is a grammar: the fields in order, where what follows a number may depend on the number. Reading and writing are two
 -- folds over it. Each asks every question of one number before the next.
 use Rattle.std.specs.Prelude.{ℕ, zero, suc, ◌+◌, Bool, true, not, cond, List, [], ◌∷◌, ◌++◌, drop, ltb, eqb}
+use Rattle.std.specs.declared.option.Option.{Option}
+use Rattle.std.specs.declared.option.Option.TheVariants.{None, Some}
+use Rattle.std.specs.declared.result.Result.{Result}
+use Rattle.std.specs.declared.result.Result.TheVariants.{Ok, Err}
 use Rattle.refusals.specs.declared.Refusal.{Refusal}
 use Rattle.refusals.specs.Refusals.{numbered}
 use Rattle.refusals.specs.Questions as question
 use Rattle.codec.specs.declared.Number.{Number}
-use Rattle.codec.specs.declared.Number.TheVariants.{Value, Ended, Long}
-use Rattle.layout.specs.declared.Rule.{Rule}
-use Rattle.layout.specs.declared.Rule.TheVariants.{Any, After}
+use Rattle.codec.specs.declared.Fault.{Fault}
+use Rattle.codec.specs.declared.Fault.TheVariants.{Ended, Long}
 use Rattle.layout.specs.declared.Field.{Field}
 use Rattle.codec.specs.Groups.{decode, encode}
 
@@ -16,13 +19,13 @@ pub data Grammar : Type 0 where
   number : Field → (ℕ → Grammar) → Grammar
 
 -- a duty is 3 exactly after a 2
-abbrev pub fits : Rule → ℕ → Bool
-fits Any v = true
-fits (After d) v = cond (eqb d 2) (eqb v 3) (not (eqb v 3))
+abbrev pub fits : Option ℕ → ℕ → Bool
+fits None v = true
+fits (Some d) v = cond (eqb d 2) (eqb v 3) (not (eqb v 3))
 
 -- 0, or the first question of 3 and 4 that v fails in its field
 unfoldable pub failed_by : Field → ℕ → ℕ
-failed_by f v = cond (ltb v f.least) question.range (cond (ltb f.most v) question.range (cond (fits f.rule v) 0 question.duty))
+failed_by f v = cond (ltb v f.least) question.range (cond (ltb f.most v) question.range (cond (fits f.after v) 0 question.duty))
 
 -- what reading comes to: the numbers, or a refusal
 pub data Read : Type 0 where
@@ -38,10 +41,10 @@ abbrev pub on_pass : ℕ → ℕ → Read → Read
 on_pass zero at r = r
 on_pass (suc q) at r = bad (numbered (suc q) at)
 
-abbrev pub on_number : Field → ℕ → Number → (ℕ → ℕ → Read) → Read
-on_number f at (Value v used) go = on_pass (failed_by f v) at (go v used)
-on_number f at Ended go = bad (numbered question.whole at)
-on_number f at Long go = bad (numbered question.shortest at)
+abbrev pub on_number : Field → ℕ → Result Number Fault → (ℕ → ℕ → Read) → Read
+on_number f at (Ok n) go = on_pass (failed_by f n.value) at (go n.value n.used)
+on_number f at (Err Ended) go = bad (numbered question.whole at)
+on_number f at (Err Long) go = bad (numbered question.shortest at)
 
 -- the numbers at the front of the bytes, of which the first is at the offset `at`; nothing may follow the last
 unfoldable pub read : Grammar → ℕ → List ℕ → Read

@@ -1,16 +1,16 @@
 -- The ward file's numbers in order, in every edition: edition one is document 01's, edition two document 02's job 2. What follows a number is
 -- defined before it: read from the end.
 use Rattle.std.specs.Prelude.{ℕ, zero, suc, ◌+◌, ◌-◌, ◌^◌, cond, ltb, eqb}
-use Rattle.layout.specs.declared.Rule.TheVariants.{Any, After}
+use Rattle.std.specs.declared.option.Option.TheVariants.{None, Some}
 use Rattle.layout.specs.declared.Field.{Field}
 use Rattle.layout.specs.declared.Head.{Head}
 use Rattle.layout.specs.Grammar.{Grammar, done, number}
 
 abbrev pub range : ℕ → ℕ → Field
-range lo hi = record { least = lo; most = hi; rule = Any }
+range lo hi = record { least = lo; most = hi; after = None }
 
 abbrev pub duty_after : ℕ → Field
-duty_after d = record { least = 0; most = 4; rule = After d }
+duty_after d = record { least = 0; most = 4; after = Some d }
 
 -- one number, at which nothing later looks again
 abbrev pub one : Field → Grammar → Grammar

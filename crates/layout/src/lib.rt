@@ -3,35 +3,22 @@
 
 ghost use Rattle.std.specs.Prelude.{◌≡◌, ◌+◌, ◌-◌, ◌^◌, ◌<◌};
 ghost use Rattle.layout.specs.Grammar.{failed_by};
+ghost use Rattle.layout.specs.CodeAsked.{asked};
 ghost use Rattle.layout.specs.CodeWant.{wanted, after, SmallField};
 ghost use Rattle.layout.specs.Layout;
 ghost use Rattle.layout.specs.CodePlace.{tree, moved, sized, inner_left, outer_left, turn};
 
-use refusals::question;
+use refusals::question::Question;
 
 // The last edition that is read.
 const LAST_EDITION: u64 = 2;
 
-// What a number must fit besides its range.
-#[derive(Clone, Copy)]
-pub enum Rule {
-    Any,
-    // A duty, after this one.
-    After { duty: u64 },
-}
-
+// What a number must fit: a range and, for a duty, the duty before it.
 #[derive(Clone, Copy)]
 pub struct Field {
     pub least: u64,
     pub most: u64,
-    pub rule: Rule,
-}
-
-// What the layout wants next.
-#[derive(Clone, Copy)]
-pub enum Want {
-    Next(Field),
-    Nothing,
+    pub after: Option<u64>,
 }
 
 // The numbers on which the layout depends.
@@ -94,36 +81,28 @@ pub struct Cursor {
     pub head: Head,
 }
 
-// 0, or the first question of 3 and 4 that v fails.
-pub fn ask(f: Field, v: u64) -> u32
-    ensures { result ≡ failed_by f v }
+// Questions 3 and 4 of v: its range, and that a duty is 3 exactly after a 2.
+pub fn ask(f: Field, v: u64) -> Result<(), Question>
+    ensures { asked result ≡ failed_by f v }
 {
-    if v < f.least {
-        return question::RANGE;
+    if v < f.least || f.most < v {
+        return Err(Question::Range);
     }
-    if f.most < v {
-        return question::RANGE;
-    }
-    let rule = f.rule;
-    match rule {
-        Rule::Any => 0,
-        Rule::After { duty } => {
-            if duty == 2 {
-                if v == 3 { 0 } else { question::DUTY }
-            } else {
-                if v == 3 { question::DUTY } else { 0 }
-            }
+    if let Some(duty) = f.after {
+        if (duty == 2) != (v == 3) {
+            return Err(Question::Duty);
         }
     }
+    Ok(())
 }
 
-fn range(least: u64, most: u64) -> Want
-    ensures { result ≡ Want.Next (Layout.range least most) }
+fn range(least: u64, most: u64) -> Option<Field>
+    ensures { result ≡ Some (Layout.range least most) }
 {
-    Want::Next(Field {
+    Some(Field {
         least,
         most,
-        rule: Rule::Any,
+        after: None,
     })
 }
 
@@ -143,24 +122,18 @@ fn most_pairs(n: u64) -> u64
     if n == 1 { 0 } else { 10 }
 }
 
-// The last of n days on which a pair can begin.
-fn last_pair_day(n: u64) -> u64
-    ensures { result ≡ n - 1 }
-{
-    if n == 0 { 0 } else { n - 1 }
-}
-
-// A pair's first day, above the one before.
-fn pair_day(before: u64, n: u64) -> Want
+// A pair's first day, above the one before, and below the last of n days.
+fn pair_day(before: u64, n: u64) -> Option<Field>
     requires { before + 1 < 2 ^ 49 }
-    ensures { result ≡ Want.Next (Layout.range (before + 1) (n - 1)) }
+    ensures { result ≡ Some (Layout.range (before + 1) (n - 1)) }
 {
     let least = before + 1;
-    range(least, last_pair_day(n))
+    range(least, n.saturating_sub(1))
 }
 
-// The field of the next number.
-pub fn wanted_at(c: Cursor) -> Want
+// The field of the next number, or none after the last.
+#[tactic(auto, unfolding(crate::specs::CodePlace::tree, crate::specs::Layout::ward))]
+pub fn wanted_at(c: Cursor) -> Option<Field>
     requires { SmallField (wanted (tree c)) }
     ensures { result ≡ wanted (tree c) }
 {
@@ -181,10 +154,10 @@ pub fn wanted_at(c: Cursor) -> Want
         Place::LongestDays => range(1, 6),
         Place::Weight => range(1, 100),
         Place::FirstDuty => range(0, 4),
-        Place::NextDuty => Want::Next(Field {
+        Place::NextDuty => Some(Field {
             least: 0,
             most: 4,
-            rule: Rule::After { duty: before },
+            after: Some(before),
         }),
         Place::LeastNightsOf => range(0, 15),
         Place::MostNightsOf => range(before, 15),
@@ -200,7 +173,7 @@ pub fn wanted_at(c: Cursor) -> Want
         Place::DayHigh => range(before, 48),
         Place::PairCount => range(0, most_pairs(n)),
         Place::PairDay => pair_day(before, n),
-        Place::End => Want::Nothing,
+        Place::End => None,
     }
 }
 
@@ -208,30 +181,18 @@ pub fn wanted_at(c: Cursor) -> Want
 fn moved(c: Cursor, place: Place) -> Cursor
     ensures { result ≡ moved place c }
 {
-    let head = c.head;
-    Cursor {
-        place,
-        outer: c.outer,
-        inner: c.inner,
-        before: c.before,
-        head,
-    }
+    Cursor { place, ..c }
 }
 
 // Another place with new sizes.
-fn sized(c: Cursor, m: u64, n: u64, r: u64, edition: u64, place: Place) -> Cursor
-    ensures { result ≡ sized m n r edition place c }
+fn sized(c: Cursor, head: Head, place: Place) -> Cursor
+    ensures { result ≡ sized head place c }
 {
-    Cursor {
-        place,
-        outer: c.outer,
-        inner: c.inner,
-        before: c.before,
-        head: Head { m, n, r, edition },
-    }
+    Cursor { place, head, ..c }
 }
 
 // Where k numbers or pairs from `place` on are left; with none left, at `rest`.
+#[tactic(auto, using(crate::proofs::PlaceLaws::turn_again, crate::proofs::PlaceLaws::turn_over), unfolding(crate::specs::CodePlace::inner_left))]
 fn at_inner(mut c: Cursor, place: Place, k: u64, rest: Cursor) -> Cursor
     ensures { result ≡ turn k (inner_left place c) rest }
 {
@@ -243,6 +204,7 @@ fn at_inner(mut c: Cursor, place: Place, k: u64, rest: Cursor) -> Cursor
 }
 
 // Where k rows from `place` on are left; with none left, at `rest`.
+#[tactic(auto, using(crate::proofs::PlaceLaws::turn_again, crate::proofs::PlaceLaws::turn_over), unfolding(crate::specs::CodePlace::outer_left))]
 fn at_outer(mut c: Cursor, place: Place, k: u64, rest: Cursor) -> Cursor
     ensures { result ≡ turn k (outer_left place c) rest }
 {
@@ -262,6 +224,7 @@ fn at_pairs(mut c: Cursor, k: u64, before: u64) -> Cursor
 }
 
 // After the days: what edition two adds.
+#[tactic(auto, unfolding(crate::specs::CodePlace::tree))]
 fn at_two(c: Cursor) -> Cursor
     ensures { tree result ≡ Layout.two c.head }
 {
@@ -272,6 +235,7 @@ fn at_two(c: Cursor) -> Cursor
 }
 
 // Where k days are left.
+#[tactic(auto, using(crate::proofs::PlaceLaws::days_left))]
 fn at_days(c: Cursor, k: u64) -> Cursor
     ensures { tree result ≡ Layout.days c.head k }
 {
@@ -279,6 +243,7 @@ fn at_days(c: Cursor, k: u64) -> Cursor
 }
 
 // Where k groups are left.
+#[tactic(auto, using(crate::proofs::PlaceLaws::groups_left))]
 fn at_groups(c: Cursor, k: u64) -> Cursor
     ensures { tree result ≡ Layout.groups c.head k }
 {
@@ -286,6 +251,7 @@ fn at_groups(c: Cursor, k: u64) -> Cursor
 }
 
 // Where k nurses are left.
+#[tactic(auto, using(crate::proofs::PlaceLaws::nurses_left))]
 fn at_nurses(c: Cursor, k: u64) -> Cursor
     ensures { tree result ≡ Layout.nurses c.head k }
 {
@@ -293,16 +259,27 @@ fn at_nurses(c: Cursor, k: u64) -> Cursor
 }
 
 // After the first number: a later edition's number where it is 0, else it is m of edition one.
+#[tactic(auto, unfolding(crate::specs::CodePlace::tree))]
 fn at_first(c: Cursor, v: u64) -> Cursor
     ensures { tree result ≡ Layout.first v }
 {
     if v == 0 {
         return moved(c, Place::Edition);
     }
-    sized(c, v, 0, 0, 1, Place::Days)
+    sized(
+        c,
+        Head {
+            m: v,
+            n: 0,
+            r: 0,
+            edition: 1,
+        },
+        Place::Days,
+    )
 }
 
 // The place after the number v.
+#[tactic(auto, unfolding(crate::specs::CodePlace::tree, crate::specs::Layout::ward))]
 pub fn step(mut c: Cursor, v: u64) -> Cursor
     ensures { tree result ≡ after (tree c) v }
 {
@@ -313,10 +290,10 @@ pub fn step(mut c: Cursor, v: u64) -> Cursor
     c.before = v;
     match place {
         Place::First => at_first(c, v),
-        Place::Edition => sized(c, 0, 0, 0, v, Place::Nurses),
-        Place::Nurses => sized(c, v, 0, 0, h.edition, Place::Days),
-        Place::Days => sized(c, h.m, v, h.r, h.edition, Place::Groups),
-        Place::Groups => sized(c, h.m, h.n, v, h.edition, Place::MostNights),
+        Place::Edition => sized(c, Head { edition: v, ..h }, Place::Nurses),
+        Place::Nurses => sized(c, Head { m: v, ..h }, Place::Days),
+        Place::Days => sized(c, Head { n: v, ..h }, Place::Groups),
+        Place::Groups => sized(c, Head { r: v, ..h }, Place::MostNights),
         Place::MostNights => moved(c, Place::LongestRun),
         Place::LongestRun => at_inner(c, Place::Gap, 3, moved(c, Place::Tabu)),
         Place::Gap => at_inner(c, Place::Gap, inner, moved(c, Place::Tabu)),
@@ -344,6 +321,7 @@ pub fn step(mut c: Cursor, v: u64) -> Cursor
 }
 
 // The layout's first number.
+#[tactic(auto, unfolding(crate::specs::CodePlace::tree))]
 pub fn start() -> Cursor
     ensures { tree result ≡ Layout.ward }
 {

@@ -1,83 +1,36 @@
--- Question 12's loop, and what the letter of a duty says.
-use mathlib.Core.Path.{◌≡◌, refl, sym, ap, ◌∙◌}
-use mathlib.Core.Bool.{Bool, true, false, cond, ◌&&◌}
+-- Question 12's place, and what the letter of a duty says.
+use mathlib.Core.Path.{◌≡◌, refl, ap, ◌∙◌}
+use mathlib.Core.Bool.{Bool, true, false, cond, not, ◌&&◌}
 use mathlib.Core.List.{List, [], ◌∷◌}
 use mathlib.Core.Option.{Option, none, some}
-use Prim.Native.Nat.{ℕ, suc, ◌+◌, ◌≤◌, ◌<◌}
+use Prim.Native.Nat.{ℕ, suc, ◌+◌}
 use native.Mathlib.Numerals.{add-one}
 use native.Mathlib.Omega.{arith}
-use borrow.Author.Tests.{eqb-true, eq-eqb, ne_eqb}
+use borrow.Author.Tests.{eqb-true}
 use lib.Dec.{eqb}
-use lib.ListN.{length, get_or, drop, drop_of_length-le}
-use lib.Seq.{drop-cons}
+use lib.ListN.{length}
 use Rattle.rows.specs.Rows.{state_after, available, duty_of}
 use Rattle.letters.specs.Letters.{letter, is_letter, first_bad, or_count, misplaced}
-use Rattle.letters.specs.CodeLetters.{bad_from}
-
--- ---- the loop: W is the answer, i the index it has come to
-
-module _ (r : List ℕ) (i : ℕ) {W : ℕ} (w : W ≡ bad_from i (drop i r)) where
-  pub bad_more : i < length r → is_letter (get_or r i 0) ≡ true → W ≡ bad_from (i + 1) (drop (i + 1) r)
-  unfolding bad_from
-  bad_more h e = w ∙ rw (add-one i, drop-cons r i 0 h, e)
-
-  pub bad_stop : i < length r → is_letter (get_or r i 0) ≡ false → i ≡ W
-  unfolding bad_from
-  bad_stop h e = sym (w ∙ rw (drop-cons r i 0 h, e))
-
-  pub bad_end : length r ≤ i → i ≡ W
-  unfolding bad_from
-  bad_end h = sym (w ∙ rw (drop_of_length-le r h))
+use Rattle.letters.specs.CodeLetters.{found_of}
+use Rattle.std.specs.Prelude.{Some}
+use Rattle.std.specs.List.{position, position_from}
+use Rattle.std.proofs.lemmas.Iterator.Adapters.{position_from-zero}
 
 -- ---- the place
 
-most_step : (b : Bool) (at n x : ℕ) → x ≤ suc at + n → cond b x at ≤ at + suc n
-most_step true at n x h = omega arith
-most_step false at n x h = omega arith
+-- the first of those from `at` on, as a search by position gives it
+pub first_found : (at : ℕ) (cs : List ℕ) → found_of (position_from (λ c. not (is_letter c)) at cs) ≡ first_bad at cs
+unfolding first_bad
+first_found at [] = refl
+first_found at (c ∷ cs) = go (is_letter c) (first_found (suc at) cs)
+  where
+    go : (b : Bool) → found_of (position_from (λ x. not (is_letter x)) (suc at) cs) ≡ first_bad (suc at) cs
+        → found_of (cond (not b) (Some at) (position_from (λ x. not (is_letter x)) (at + 1) cs)) ≡ cond b (first_bad (suc at) cs) (some at)
+    go true e = rw (add-one at) e
+    go false e = refl
 
-bad_most : (at : ℕ) (cs : List ℕ) → bad_from at cs ≤ at + length cs
-unfolding bad_from
-bad_most at [] = omega arith
-bad_most at (c ∷ cs) = most_step (is_letter c) at (length cs) (bad_from (suc at) cs) (bad_most (suc at) cs)
-
-found_step : (b : Bool) (at n x : ℕ) (f : Option ℕ) → (x < suc at + n → f ≡ some x) → cond b x at < at + suc n → cond b f (some at) ≡ some (cond b x at)
-found_step true at n x f h l = h (omega arith)
-found_step false at n x f h l = refl
-
-bad_found : (at : ℕ) (cs : List ℕ) → bad_from at cs < at + length cs → first_bad at cs ≡ some (bad_from at cs)
-unfolding bad_from first_bad
-bad_found at [] l = absurd (omega arith)
-bad_found at (c ∷ cs) l = found_step (is_letter c) at (length cs) (bad_from (suc at) cs) (first_bad (suc at) cs) (λ h. bad_found (suc at) cs h) l
-
-none_step : (b : Bool) (at n x : ℕ) (f : Option ℕ) → (suc at + n ≤ x → f ≡ none) → at + suc n ≤ cond b x at → cond b f (some at) ≡ none
-none_step true at n x f h l = h (omega arith)
-none_step false at n x f h l = absurd (omega arith)
-
-bad_none : (at : ℕ) (cs : List ℕ) → at + length cs ≤ bad_from at cs → first_bad at cs ≡ none
-unfolding bad_from first_bad
-bad_none at [] l = refl
-bad_none at (c ∷ cs) l = none_step (is_letter c) at (length cs) (bad_from (suc at) cs) (first_bad (suc at) cs) (λ h. bad_none (suc at) cs h) l
-
-module _ (size : ℕ) (r : List ℕ) {b : ℕ} (e : b ≡ bad_from 0 r) where
-  pub place_bad : b < length r → some b ≡ misplaced size r
-  unfolding misplaced
-  place_bad l =
-      let q : first_bad 0 r ≡ some b = bad_found 0 r (omega arith) ∙ ap some (sym e) in
-      sym (ap (λ (f : Option ℕ). or_count f (length r) size) q)
-
-  pub place_none : length r ≤ b → b ≡ size → none ≡ misplaced size r
-  unfolding misplaced
-  place_none l s =
-      let q : first_bad 0 r ≡ none = bad_none 0 r (omega arith) in
-      let t : length r ≡ size = omega (arith, bad_most 0 r) in
-      sym (ap (λ (f : Option ℕ). or_count f (length r) size) q ∙ ap (λ (x : Bool). cond x none (some (length r))) (eq-eqb (length r) size t))
-
-  pub place_count : length r ≤ b → (b ≡ size → ⊥) → some b ≡ misplaced size r
-  unfolding misplaced
-  place_count l s =
-      let q : first_bad 0 r ≡ none = bad_none 0 r (omega arith) in
-      let t : b ≡ length r = omega (arith, bad_most 0 r) in
-      ap some t ∙ sym (ap (λ (f : Option ℕ). or_count f (length r) size) q ∙ ap (λ (x : Bool). cond x none (some (length r))) (ne_eqb (length r) size (λ u. s (t ∙ u))))
+pub found_at : (cs : List ℕ) → found_of (position (λ c. not (is_letter c)) cs) ≡ first_bad 0 cs
+found_at cs = ap found_of (position_from-zero (λ c. not (is_letter c)) cs) ∙ first_found 0 cs
 
 -- letters that question 12 lets through are as many as it asks
 no_place : (f : Option ℕ) (count size : ℕ) → or_count f count size ≡ none → count ≡ size

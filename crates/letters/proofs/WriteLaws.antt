@@ -1,35 +1,36 @@
--- The loops that write a roster: a row letter by letter, and the rows one after the other.
+-- How a roster is written: a row, and the rows one after the other.
 use mathlib.Core.Path.{◌≡◌, sym, ap, ap₂, ◌∙◌}
 use mathlib.Core.List.{List, ◌++◌}
 use Prim.Native.Nat.{ℕ, suc, ◌+◌, ◌-◌, ◌*◌, ◌≤◌, ◌<◌}
 use native.Mathlib.Nat.{suc-mul, zero-mul, mul-le-mul}
 use native.Mathlib.Numerals.{add-one}
 use native.Mathlib.Omega.{arith}
-use lib.ListN.{length, take, drop, set as set_at, replicate, length-replicate, replicate-append-replicate}
-use lib.Seq.{paste, paste-suc, take_at, drop_at, take_all, drop-append-add}
+use lib.ListN.{length, get_or, take, drop, replicate, length-replicate, replicate-append-replicate}
+use lib.Seq.{paste, get_or-take, length-take-le, take_at, drop_at, take_all, drop-append-add}
+use Rattle.std.proofs.lemmas.List.{ext_get_or, append_assoc, drop-drop}
 use Rattle.fields.specs.Sizes.{letter_places}
 use Rattle.fields.specs.Fields.{Accepted, nurses, days, block}
 use Rattle.rows.specs.Rows.{duty_on}
 use Rattle.letters.specs.Letters.{letter, row_letters_of, row_letters, letters}
 use Rattle.letters.proofs.RowLaws.{row_length, row_at, row_fits, letters_length}
-use Rattle.letters.specs.CodeRoster.{Written}
 use Rattle.letters.specs.declared.written.Roster.{Roster}
 
--- ---- a row, put in over what stood at its places
+-- ---- a row
 
-module _ (over : List ℕ) (at : ℕ) (b : List ℕ) (n p q d : ℕ) {row : List ℕ} (e : row ≡ paste over at (row_letters_of b n p q) d) where
-  pub letter_put : {x : ℕ} → length over ≡ letter_places → at + n ≤ letter_places → d < n → x ≡ letter (duty_on b p q (suc d)) → set_at row (at + d) x ≡ paste over at (row_letters_of b n p q) (d + 1)
-  letter_put {x} long fits h l =
-      let s = row_letters_of b n p q in
-      let inside : d < length s = rw (row_length b n p q) h in
-      ap₂ (λ (r : List ℕ) (y : ℕ). set_at r (at + d) y) e (l ∙ sym (row_at b n p q d h))
-      ∙ paste-suc over at s d 0 (omega arith) inside
-      ∙ ap (λ (j : ℕ). paste over at s j) (sym (add-one d))
+-- the first n letters of an array that has each of them
+pub row_is : (b : List ℕ) (n p q : ℕ) (row : List ℕ) → n ≤ length row → ((d : ℕ) → d < n → get_or row d 0 ≡ letter (duty_on b p q (suc d))) → take n row ≡ row_letters_of b n p q
+row_is b n p q row long are =
+    let first : length (take n row) ≡ n = length-take-le n row long in
+    ext_get_or 0 (take n row) (row_letters_of b n p q) (first ∙ sym (row_length b n p q))
+    (λ d h. let l : d < n = omega (arith, first) in get_or-take n row d 0 l ∙ are d l ∙ sym (row_at b n p q d l))
 
-  pub row_put : d ≤ n → n ≤ d → row ≡ paste over at (row_letters_of b n p q) n
-  row_put l g =
-      let same : d ≡ n = omega arith in
-      e ∙ ap (λ (j : ℕ). paste over at (row_letters_of b n p q) j) same
+-- put over what stood at its places
+pub row_put : (over : List ℕ) (at : ℕ) (b : List ℕ) (n p q : ℕ) {row : List ℕ} → row ≡ row_letters_of b n p q → take at over ++ (row ++ drop ((at + n) - at) (drop at over)) ≡ paste over at (row_letters_of b n p q) n
+row_put over at b n p q e =
+    let s = row_letters_of b n p q in
+    let k : (at + n) - at ≡ n = omega arith in
+    let whole : take n s ≡ s = take_all n s (omega (arith, row_length b n p q)) in
+    rw (k, e, whole, append_assoc, drop-drop)
 
 -- ---- the rows
 
@@ -73,11 +74,6 @@ module _ (w : List ℕ) (ps qs : ℕ → ℕ) where
       ∙ ap (λ (x : List ℕ). (letters w ps qs i ++ row) ++ x) (drop_zeros n (letter_places - i * n) (letter_places - suc i * n) rest)
       ∙ rw (add-one i)
 
-  pub rows_end : (i : ℕ) {all : List ℕ} → Rows i all → i ≤ nurses w → nurses w ≤ i → Rows (nurses w) all
-  rows_end i e l g =
-      let same : i ≡ nurses w = omega arith in
-      e ∙ ap (λ (k : ℕ). letters w ps qs k ++ replicate (letter_places - k * days w) 0) same
-
 -- ---- the loop over the nurses
 
 pub record WrittenTo (w : List ℕ) (ps qs : ℕ → ℕ) (i : ℕ) (r : Roster) : Type 0 where
@@ -92,9 +88,6 @@ module _ (w : List ℕ) (ps qs : ℕ → ℕ) where
   written_start r e c = record { rows_in = e ∙ rows_start w ps qs; count_is = c ∙ sym (zero-mul (days w)) }
 
   module _ (i : ℕ) {r : Roster} (t : WrittenTo w ps qs i r) where
-    pub row_room : {n : ℕ} → Accepted w → i < nurses w → n ≡ days w → r.count + n ≤ letter_places
-    row_room a h e = omega (arith, t.count_is, row_fits (nurses w) (days w) i h, all_room w a)
-
     pub written_turn : (next : Roster) (b : List ℕ) (n p q : ℕ) → Accepted w → i < nurses w → b ≡ block w i → n ≡ days w → p ≡ ps i → q ≡ qs i
         → next.letters ≡ paste r.letters r.count (row_letters_of b n p q) n → next.count ≡ r.count + n → WrittenTo w ps qs (i + 1) next
     written_turn next b n p q a h eb en ep eq l c = record {
@@ -105,8 +98,3 @@ module _ (w : List ℕ) (ps qs : ℕ → ℕ) where
           ∙ ap (λ (k : ℕ). paste r.letters k (row_letters w i (ps i) (qs i)) (days w)) t.count_is);
       count_is = (let s : suc i * days w ≡ i * days w + days w = suc-mul i (days w) in rw (add-one i) (omega (arith, c, t.count_is, en, s)));
     }
-
-    pub written_end : {m : ℕ} → m ≡ nurses w → i ≤ m → m ≤ i → Written w ps qs r
-    written_end e l g =
-        let same : i ≡ nurses w = omega arith in
-        record { given = rows_end w ps qs i t.rows_in (omega arith) (omega arith); counted = t.count_is ∙ ap (λ (k : ℕ). k * days w) same }

@@ -3,13 +3,14 @@
 
 pub mod written;
 
-ghost use Rattle.std.specs.Prelude.{◌≡◌, ◌<◌};
+ghost use Rattle.std.specs.Prelude.{◌≡◌, ◌<◌, not, position};
 ghost use Rattle.letters.specs.Letters.{letter, is_letter, misplaced};
-ghost use Rattle.letters.specs.CodeLetters.{bad_from, found_of};
+ghost use Rattle.letters.specs.CodeLetters.{found_of};
 
 const LETTERS: [u8; 5] = [b'/', b'-', b'N', b'n', b'+'];
 
 // The letter of a duty.
+#[tactic(auto, unfolding(crate::specs::Letters::letter))]
 pub(crate) fn letter_of(duty: usize) -> u8
     requires { duty < 5 }
     ensures { result ≡ letter duty }
@@ -18,43 +19,27 @@ pub(crate) fn letter_of(duty: usize) -> u8
 }
 
 // One of the five.
+#[tactic(auto, unfolding(crate::specs::Letters::is_letter))]
 fn is_letter(c: u8) -> bool
     ensures { result ≡ is_letter c }
 {
-    c == b'/' || (c == b'-' || (c == b'N' || (c == b'n' || c == b'+')))
+    LETTERS.contains(&c)
 }
 
-// The first index whose letter is none of the five, or the count of letters.
-fn first_bad(roster: &[u8]) -> usize
-    ensures { result ≡ bad_from 0 roster.now }
+// The first index whose letter is none of the five.
+fn first_bad(roster: &[u8]) -> Option<usize>
+    ensures { result ≡ position (λ c. not (is_letter c)) roster.now }
 {
-    let mut i: usize = 0;
-    while i < roster.len() {
-        if is_letter(roster[i]) {
-            i += 1;
-        } else {
-            return i;
-        }
-    }
-    i
+    roster.iter().position(|c| !is_letter(*c))
 }
 
 // The place of question 12's no.
-#[derive(Clone, Copy)]
-pub enum Place {
-    At(usize),
-    Nowhere,
-}
-
-pub fn misplaced_at(roster: &[u8], size: usize) -> Place
+#[tactic(auto, using(crate::proofs::LetterLaws::found_at), unfolding(crate::specs::Letters::misplaced))]
+pub fn misplaced_at(roster: &[u8], size: usize) -> Option<usize>
     ensures { found_of result ≡ misplaced size roster.now }
 {
-    let bad = first_bad(roster);
-    if bad < roster.len() {
-        return Place::At(bad);
+    match first_bad(roster) {
+        None if roster.len() != size => Some(roster.len()),
+        bad => bad,
     }
-    if bad == size {
-        return Place::Nowhere;
-    }
-    Place::At(bad)
 }

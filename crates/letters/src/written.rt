@@ -10,9 +10,10 @@ ghost use Rattle.letters.specs.CodeRoster.{Written};
 
 use fields::nurse;
 use fields::sizes::{DAYS, LETTERS, NURSES};
-use numbers::pattern;
+use numbers::{Set, pattern};
 
 // Its letters from the start, 0 after them, and how many there are.
+// An array with its count beside it, since there is no heap and the C interface gives out both.
 #[derive(Clone, Copy)]
 pub struct Roster {
     pub letters: [u8; LETTERS],
@@ -26,32 +27,23 @@ pub fn row_letters(b: &[u64], n: usize, p: u32, q: u32) -> [u8; DAYS]
 {
     let states = rows::states(b, n, p);
     let mut row = [0u8; DAYS];
-    let mut d: usize = 0;
-    while d < n {
-        let worked = numbers::has_bit(q, d as u64);
-        let duty = rows::duty_of(nurse::mark(b, d), states[d], worked);
+    for d in 0..n {
+        let duty = rows::duty_of(nurse::mark(b, d), states[d], q.has(d));
         row[d] = crate::letter_of(duty as usize);
-        d += 1;
     }
     row
 }
 
 impl Roster {
-    // With one row more, that of night pattern p and day pattern q.
-    fn with_row(self, b: &[u64], n: usize, p: u32, q: u32) -> Roster
-        requires { (n ≤ day_places) × Block b.now n × (self.count + n ≤ letter_places) }
-        ensures { (result.letters ≡ paste self.letters self.count (row_letters_of b.now n p q) n) × (result.count ≡ self.count + n) }
+    // One row more, that of night pattern p and day pattern q.
+    fn add_row(&mut self, b: &[u64], n: usize, p: u32, q: u32)
+        requires { (n ≤ day_places) × Block b.now n × (self.old.count + n ≤ letter_places) }
+        ensures { (self.new.letters ≡ paste self.old.letters self.old.count (row_letters_of b.now n p q) n) × (self.new.count ≡ self.old.count + n) }
     {
         let row = row_letters(b, n, p, q);
-        let mut next = self;
-        let at = next.count;
-        let mut d: usize = 0;
-        while d < n {
-            next.letters[at + d] = row[d];
-            d += 1;
-        }
-        next.count = at + n;
-        next
+        let end = self.count + n;
+        self.letters[self.count..end].copy_from_slice(&row[..n]);
+        self.count = end;
     }
 }
 
@@ -66,12 +58,10 @@ pub fn roster_of(w: &[u64], nights: [u64; NURSES], worked: [u64; NURSES]) -> Ros
         letters: [0; LETTERS],
         count: 0,
     };
-    let mut i: usize = 0;
-    while i < m {
+    for i in 0..m {
         let p = pattern::days_of(nights[i]);
         let q = pattern::days_of(worked[i]);
-        roster = roster.with_row(fields::block(w, i), n, p, q);
-        i += 1;
+        roster.add_row(fields::block(w, i), n, p, q);
     }
     roster
 }

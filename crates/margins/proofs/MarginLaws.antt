@@ -1,14 +1,14 @@
 -- The margins: what one more and one fewer change, and how a duty's places are filled.
 use mathlib.Core.Path.{◌≡◌, refl, sym, ◌∙◌, subst}
-use mathlib.Core.Bool.{Bool, true, false, cond}
+use mathlib.Core.Bool.{Bool, true, false}
 use mathlib.Core.List.{List}
-use mathlib.Core.Logic.{⊎_elim}
+use mathlib.Core.Logic.{◌⊎◌, inl, inr, ⊎_elim}
 use Prim.Native.Nat.{ℕ, suc, ◌+◌, ◌-◌, ◌*◌, ◌%◌, ◌≤◌, ◌<◌}
 use native.Mathlib.Nat.{not-suc-le-zero, eq-or-lt_of_le, le_of_suc-le-suc, mul-suc}
 use native.Mathlib.Numerals.{add-one}
 use native.Mathlib.Omega.{arith}
-use borrow.Author.Tests.{ltb-true, ltb-false, eqb-true, eqb-false}
-use lib.Dec.{ltb, eqb}
+use borrow.Author.Tests.{eqb-true, eqb-false}
+use lib.Dec.{eqb}
 use lib.ListN.{length, get_or, set, length-set}
 use lib.Seq.{get_or-set_same, get_or-set_other}
 use Rattle.numbers.specs.Sum.{count_to}
@@ -30,29 +30,31 @@ pub record Step (a b s o : ℕ) : Type 0 where
   pub low_most : s ≤ 100
   pub high_most : o ≤ 100
 
--- a product whose second factor is one more where a test holds
-times_step : (v a b : ℕ) (t : Bool) → (t ≡ true → a ≡ suc b) → (t ≡ false → a ≡ b) → v * a ≡ v * b + cond t v 0
-times_step v a b true h k = rw (h refl) (mul-suc v b)
-times_step v a b false h k = rw (k refl) (omega arith)
+-- v where a is below b, and else 0
+abbrev pub IfLess : ℕ → ℕ → ℕ → ℕ → Type 0
+IfLess a b v r = ((a < b) × (r ≡ v)) ⊎ ((b ≤ a) × (r ≡ 0))
 
-short_step : (u low x : ℕ) → u * (low - x) ≡ u * (low - (x + 1)) + cond (ltb x low) u 0
-short_step u low x = times_step u (low - x) (low - (x + 1)) (ltb x low) (λ e. omega (arith, ltb-true x low e)) (λ e. omega (arith, ltb-false x low e))
+-- a product whose second factor is one more, or the same
+times_step : (v a b r : ℕ) → ((a ≡ suc b) × (r ≡ v)) ⊎ ((a ≡ b) × (r ≡ 0)) → v * a ≡ v * b + r
+times_step v a b r (inl h) = rw (h.0, h.1) (mul-suc v b)
+times_step v a b r (inr h) = rw (h.0, h.1) (omega arith)
 
-over_step : (v high x : ℕ) → v * (x + 1 - high) ≡ v * (x - high) + cond (ltb high (x + 1)) v 0
-over_step v high x =
-    times_step v (x + 1 - high) (x - high) (ltb high (x + 1)) (λ e. omega (arith, ltb-true high (x + 1) e)) (λ e. omega (arith, ltb-false high (x + 1) e))
+short_step : (u low x s : ℕ) → IfLess x low u s → u * (low - x) ≡ u * (low - (x + 1)) + s
+short_step u low x s h = times_step u (low - x) (low - (x + 1)) s (⊎_elim (λ l. inl (omega arith, l.1)) (λ l. inr (omega arith, l.1)) h)
 
-cond_most : (b : Bool) {x m : ℕ} → x ≤ m → cond b x 0 ≤ m
-cond_most true h = h
-cond_most false h = omega arith
+over_step : (v high x o : ℕ) → IfLess high (x + 1) v o → v * (x + 1 - high) ≡ v * (x - high) + o
+over_step v high x o h = times_step v (x + 1 - high) (x - high) o (⊎_elim (λ l. inl (omega arith, l.1)) (λ l. inr (omega arith, l.1)) h)
 
-pub step : (wt : Weights) (low high x : ℕ) {s o : ℕ} → Light wt → s ≡ cond (ltb x low) wt.u 0 → o ≡ cond (ltb high (x + 1)) wt.v 0
+if_less_most : (a b v r : ℕ) → v ≤ 100 → IfLess a b v r → r ≤ 100
+if_less_most a b v r m h = ⊎_elim (λ l. omega (arith, l.1)) (λ l. omega (arith, l.1)) h
+
+pub step : (wt : Weights) (low high x : ℕ) {s o : ℕ} → Light wt → IfLess x low wt.u s → IfLess high (x + 1) wt.v o
     → Step (bounds_cost wt low high x) (bounds_cost wt low high (x + 1)) s o
 unfolding bounds_cost
-step wt low high x h e q = record {
-  balance = omega (arith, short_step wt.u low x, over_step wt.v high x);
-  low_most = omega (arith, cond_most (ltb x low) h.light_u);
-  high_most = omega (arith, cond_most (ltb high (x + 1)) h.light_v);
+step wt low high x {s} {o} h p q = record {
+  balance = omega (arith, short_step wt.u low x s p, over_step wt.v high x o q);
+  low_most = if_less_most x low wt.u s h.light_u p;
+  high_most = if_less_most high (x + 1) wt.v o h.light_v q;
 }
 
 -- ---- one condition is put

@@ -9,9 +9,11 @@ use lib.Dec.{eqb, ltb}
 use borrow.Author.Tests.{eqb-true, eqb-false, ltb-true, ltb-false}
 use lib.ListN.{length, get_or, set, length-set, replicate, get_or-eq_default}
 use lib.Seq.{get_or-set_same, get_or-set_other}
+use Rattle.std.specs.Prelude.{count_by}
+use Rattle.std.proofs.lemmas.List.Recursion.{is_count_by}
 use Rattle.numbers.specs.Sum.{sum_to, count_to, one_if, Is}
 use Rattle.numbers.specs.Digits.{has, put}
-use Rattle.numbers.proofs.SumLaws.{sum_ext, sum_add, sum_le, count_le, loop_start, loop_turn, loop_end}
+use Rattle.numbers.proofs.SumLaws.{sum_zero, sum_front, sum_ext, sum_add, sum_le, count_le, loop_start, loop_turn, loop_end}
 use Rattle.numbers.proofs.DigitLaws.{count_put, count_put_all}
 use Rattle.fields.specs.Fields.{Accepted, nurses, days, member_sets, needs, need, low, high}
 use Rattle.fields.proofs.FieldLaws.{length_member_sets}
@@ -277,24 +279,17 @@ module _ (sets : List ℕ) (i : ℕ) (part : List ℕ) (small : Slight part) whe
     sums = λ e q. loop_end (get_or part (1024 + e) 0) 200 200 (λ j. cond (has (get_or sets j 0) i) (get_or part (64 * j + e) 0) 0) (length sets) 3400 (h.sums e q) h.inside m (omega arith);
   }
 
--- ---- how many conditions are hers, of the first g groups
+-- ---- how many conditions are hers
 
-pub record CountedTo (sets : List ℕ) (i g count : ℕ) : Type 0 where
-  pub inside : g ≤ length sets
-  pub counts : Is count (1 + count_to g (λ j. has (get_or sets j 0) i)) (1 + 1 * g)
+count_is : (t : ℕ → Bool) (xs : List ℕ) → count_by t xs ≡ count_to (length xs) (λ g. t (get_or xs g 0))
+count_is t xs = sym (is_count_by (λ l. count_to (length l) (λ g. t (get_or l g 0))) t (sum_zero _) (λ x l. sum_front (length l) _ ∙ first (t x) _) xs)
+  where
+    first : (b : Bool) (n : ℕ) → one_if b + n ≡ cond b (1 + n) n
+    first true n = refl
+    first false n = omega arith
 
-module _ (sets : List ℕ) (i : ℕ) where
-  pub counted_start : CountedTo sets i 0 1
-  counted_start = record { inside = omega arith; counts = loop_start 1 1 (λ j. one_if (has (get_or sets j 0) i)) (record { is = refl; most = omega arith }) }
-
-  pub counted_in : {g count n : ℕ} → CountedTo sets i g count → g < length sets → has (get_or sets g 0) i ≡ true → n ≡ count + 1 → CountedTo sets i (g + 1) n
-  counted_in h m b e = rw e record { inside = omega arith; counts = sum_in 1 1 1 (λ j. one_if (has (get_or sets j 0) i)) _ h.counts (sym (ap one_if b)) (omega arith) }
-
-  pub counted_out : {g count n : ℕ} → CountedTo sets i g count → g < length sets → has (get_or sets g 0) i ≡ false → n ≡ count → CountedTo sets i (g + 1) n
-  counted_out h m b e = rw e record { inside = omega arith; counts = sum_out 1 1 1 (λ j. one_if (has (get_or sets j 0) i)) _ h.counts (ap one_if b) }
-
-  pub counted_end : {g count : ℕ} → CountedTo sets i g count → length sets ≤ g → length sets ≤ 16 → Is count (1 + count_to (length sets) (λ j. has (get_or sets j 0) i)) 17
-  counted_end h m n = loop_end 1 1 1 (λ j. one_if (has (get_or sets j 0) i)) (length sets) 17 h.counts h.inside m (omega arith)
+pub conditions_are : (sets : List ℕ) (i : ℕ) {n : ℕ} → n ≡ count_by (λ s. has s i) sets → length sets ≤ 16 → Is (1 + n) (1 + count_to (length sets) (λ g. has (get_or sets g 0) i)) 17
+conditions_are sets i e h = record { is = omega (arith, count_is (λ s. has s i) sets); most = omega (arith, count_is (λ s. has s i) sets, count_le (length sets) (λ g. has (get_or sets g 0) i)) }
 
 -- ---- the days
 

@@ -1,5 +1,5 @@
 // A nurse's days: what each costs in each of her states, all others as they are.
-ghost use Rattle.std.specs.Prelude.{◌≡◌, cond, ◌≤◌, ◌<◌};
+ghost use Rattle.std.specs.Prelude.{◌≤◌, ◌<◌};
 ghost use Rattle.fields.specs.Fields.{Accepted, nurses, days};
 ghost use Rattle.tables.specs.CodeTables.{Low, Small};
 ghost use Rattle.margins.specs.CodeMargins.{SearchMargins, NightSummed, DaySummed, CostsOf};
@@ -7,13 +7,8 @@ ghost use Rattle.margins.specs.CodeMargins.{SearchMargins, NightSummed, DaySumme
 use crate::{MARGINS, sides};
 use fields::sizes::DAYS;
 use history::Search;
+use numbers::Set;
 use tables::{COSTS, NONE, OPEN};
-
-fn picked(on: bool, a: u32, b: u32) -> u32
-    ensures { result ≡ cond on a b }
-{
-    if on { a } else { b }
-}
 
 // By night, from the sides of night and day; `workable` are the days that she may work where they are open.
 fn night_costs(n: usize, x: &[u32; 64], y: &[u32; 64], workable: u32) -> [u32; COSTS]
@@ -24,7 +19,7 @@ fn night_costs(n: usize, x: &[u32; 64], y: &[u32; 64], workable: u32) -> [u32; C
     for d in 0..n {
         let off = x[32 + d];
         let away = y[32 + d];
-        let free = picked(numbers::has_bit(workable, d as u64), y[d], away);
+        let free = if workable.has(d) { y[d] } else { away };
         c[d] = x[d] + away;
         c[OPEN + d] = off + free;
         c[NONE + d] = off + away;

@@ -5,12 +5,13 @@
 pub mod costs;
 mod sides;
 
-ghost use Rattle.std.specs.Prelude.{◌≡◌, cond, ◌+◌, ◌<◌, ◌≤◌, ltb, length, set};
+ghost use Rattle.std.specs.Prelude.{◌≡◌, ◌+◌, ◌<◌, ◌≤◌, length, set};
 ghost use Rattle.fields.specs.Fields.{Accepted};
 ghost use Rattle.penalty.specs.CodeCounts.{Light, DayNeeds};
 ghost use Rattle.margins.specs.CodeMargins.{bounds_cost, Slight, MarginPut, GroupsPut, DayPut, Margins, SearchMargins};
 
 use fields::day;
+use fields::day::Bounds;
 use fields::sizes::DAYS;
 use history::Search;
 use penalty::duty::Weights;
@@ -24,30 +25,14 @@ pub(crate) const EVERYONE: usize = 1024;
 
 pub(crate) const STANDING: usize = 1088;
 
-fn if_less(a: u64, b: u64, x: u64) -> u64
-    ensures { result ≡ cond (ltb a b) x 0 }
-{
-    if a < b { x } else { 0 }
-}
-
 // 100, and what one more changes where so many count.
-fn more(wt: Weights, low: u64, high: u64, count: u64) -> u64
-    requires { Light wt × (low ≤ 48) × (count ≤ 64) }
-    ensures { (result + bounds_cost wt low high count ≡ 100 + bounds_cost wt low high (count + 1)) × (result ≤ 200) }
+fn more(wt: Weights, bounds: Bounds, count: u64) -> u64
+    requires { Light wt × (bounds.low ≤ 48) × (count ≤ 64) }
+    ensures { (result + bounds_cost wt bounds.low bounds.high count ≡ 100 + bounds_cost wt bounds.low bounds.high (count + 1)) × (result ≤ 200) }
 {
-    let over = if_less(high, count + 1, wt.v);
-    let short = if_less(count, low, wt.u);
+    let over = if bounds.high < count + 1 { wt.v } else { 0 };
+    let short = if count < bounds.low { wt.u } else { 0 };
     100 + over - short
-}
-
-// 100, and what one fewer changes where one more than so many count.
-fn fewer(wt: Weights, low: u64, high: u64, left: u64) -> u64
-    requires { Light wt × (low ≤ 48) × (left ≤ 64) }
-    ensures { (result + bounds_cost wt low high (left + 1) ≡ 100 + bounds_cost wt low high left) × (result ≤ 200) }
-{
-    let short = if_less(left, low, wt.u);
-    let over = if_less(high, left + 1, wt.v);
-    100 + short - over
 }
 
 // A store through a slice, of which a proof knows the length; of an array behind a reference it does not.
@@ -58,14 +43,14 @@ fn store(part: &mut [u32], at: usize, x: u64)
     part[at] = x as u32;
 }
 
-// The margins of a condition.
-fn put(part: &mut [u32; MARGINS], at: usize, wt: Weights, low: u64, high: u64, count: u64)
-    requires { Light wt × (low ≤ 48) × (count ≤ 64) × (at + 32 < 1088) × Slight part.old }
-    ensures { MarginPut part.old part.new at (bounds_cost wt low high) count }
+// The margins of a condition; 100, and what one fewer changes, is 200 less what one more changes where one fewer count.
+fn put(part: &mut [u32; MARGINS], at: usize, wt: Weights, bounds: Bounds, count: u64)
+    requires { Light wt × (bounds.low ≤ 48) × (count ≤ 64) × (at + 32 < 1088) × Slight part.old }
+    ensures { MarginPut part.old part.new at (bounds_cost wt bounds.low bounds.high) count }
 {
-    store(part, at, more(wt, low, high, count));
+    store(part, at, more(wt, bounds, count));
     if 0 < count {
-        store(part, at + 32, fewer(wt, low, high, count - 1));
+        store(part, at + 32, 200 - more(wt, bounds, count - 1));
     }
 }
 
@@ -82,10 +67,10 @@ fn put_groups(
     requires { Light wt × DayNeeds sets.now needs.now × (k < 2) × (d < 31) × Slight part.old }
     ensures { GroupsPut wt sets.now needs.now k column d part.old part.new }
 {
-    for g in 0..sets.len() {
+    for (g, set) in sets.iter().enumerate() {
         let bounds = day::bounds_of(needs, k, g);
-        let count = numbers::members(column, sets[g]);
-        put(part, 64 * g + d, wt, bounds.low, bounds.high, count);
+        let count = numbers::members(column, *set);
+        put(part, 64 * g + d, wt, bounds, count);
     }
 }
 
@@ -94,9 +79,9 @@ fn as_low(wt: Weights) -> Weights
     ensures { result ≡ record { w = wt.w; u = wt.w; v = 0 } }
 {
     Weights {
-        w: wt.w,
         u: wt.w,
         v: 0,
+        ..wt
     }
 }
 
@@ -114,17 +99,19 @@ fn put_day(
     ensures { DayPut wt sets.now needs.now k column d part.old part.new }
 {
     put_groups(part, wt, sets, needs, k, column, d);
-    let need = day::need(needs, k);
+    let need = Bounds {
+        low: day::need(needs, k),
+        high: 0,
+    };
     put(
         part,
         EVERYONE + d,
         as_low(wt),
         need,
-        0,
         numbers::on_duty(column),
     );
-    let x = duty::on_column(wt, sets, needs, k, column);
-    store(part, STANDING + d, x.short + x.over);
+    let standing = duty::on_column(wt, sets, needs, k, column);
+    store(part, STANDING + d, standing.short + standing.over);
 }
 
 // The margins of a duty: k is 0 for night and 1 for day.

@@ -9,6 +9,7 @@ ghost use Rattle.margins.specs.CodeMargins.{Slight, Margins, SomeMargins, RowAdd
 
 use crate::{EVERYONE, MARGINS, STANDING};
 use fields::sizes::DAYS;
+use numbers::Set;
 
 // The row from `from` on added up.
 fn add_row(part: &[u32; MARGINS], from: usize, sums: &mut [u32; 64])
@@ -16,7 +17,7 @@ fn add_row(part: &[u32; MARGINS], from: usize, sums: &mut [u32; 64])
     ensures { RowAdded part.now from sums.old sums.new }
 {
     for e in 0..64 {
-        sums[e] = sums[e] + part[from + e];
+        sums[e] += part[from + e];
     }
 }
 
@@ -27,8 +28,8 @@ fn hers(sets: &[u64], i: usize, part: &[u32; MARGINS]) -> [u32; 64]
 {
     let mut sums = [0u32; 64];
     add_row(part, EVERYONE, &mut sums);
-    for g in 0..sets.len() {
-        if numbers::is_in(sets[g], i) {
+    for (g, set) in sets.iter().enumerate() {
+        if set.has(i) {
             add_row(part, 64 * g, &mut sums);
         }
     }
@@ -40,13 +41,7 @@ fn conditions(sets: &[u64], i: usize) -> u32
     requires { (length sets.now ≤ 16) × (i < 64) }
     ensures { Is result (1 + count_to (length sets.now) (λ g. has (get_or sets.now g 0) i)) 17 }
 {
-    let mut count: u32 = 1;
-    for g in 0..sets.len() {
-        if numbers::is_in(sets[g], i) {
-            count = count + 1;
-        }
-    }
-    count
+    1 + sets.iter().filter(|set| set.has(i)).count() as u32
 }
 
 // With her, and without her.
@@ -62,14 +57,15 @@ fn both(on: bool, standing: u32, more: u32, fewer: u32, zero: u32) -> Side
     ensures { SideOf on standing more fewer zero result }
 {
     if on {
-        return Side {
+        Side {
             on: standing,
             off: standing + fewer - zero,
-        };
-    }
-    Side {
-        on: standing + more - zero,
-        off: standing,
+        }
+    } else {
+        Side {
+            on: standing + more - zero,
+            off: standing,
+        }
     }
 }
 
@@ -84,7 +80,7 @@ pub(crate) fn sides(w: &[u64], cols: &[u64; DAYS], i: usize, part: &[u32; MARGIN
     let zero = 100 * conditions(sets, i);
     let mut r = [0u32; 64];
     for d in 0..n {
-        let on = numbers::is_in(cols[d], i);
+        let on = cols[d].has(i);
         let x = both(on, part[STANDING + d], sums[d], sums[32 + d], zero);
         r[d] = x.on;
         r[32 + d] = x.off;

@@ -13,54 +13,48 @@ use fields::sizes::{ENDS, NURSES};
 use history::Search;
 use outcomes::Advance;
 use phases::questions;
-use refusals::{Answer, question};
+use refusals::Refusal;
+use refusals::question::Question;
 use search::{Record, Stretches};
 
 // Question 9.
-fn common_asked(w: &[u64], places: usize) -> Answer
+fn common_asked(w: &[u64], places: usize) -> Result<(), Refusal>
     requires { Accepted w.now × (places < 2305843009213693952) }
     ensures { refusal_in result ≡ common_fits w.now places }
 {
     let need = nightlists::common::count(w, places + 1);
-    refusals::unless(need <= places, question::LISTS, 0)
+    Question::Lists.unless(need <= places, 0)
 }
 
 // The first of questions 7, 9, 10 and 11 that is a no.
-fn first_no(rec: Record, w: &[u64], k: u32, places: usize) -> Answer
+fn first_no(rec: Record, w: &[u64], k: u32, places: usize) -> Result<(), Refusal>
     requires { Accepted w.now × (places < 2305843009213693952) }
     ensures { (past_zero : Bool) → refusal_in result ≡ refusal_stored (night_phase w.now) (call_of k past_zero places) rec }
 {
-    match questions::steps_asked(rec.steps, k) {
-        Answer::No(n) => Answer::No(n),
-        Answer::Yes => match common_asked(w, places) {
-            Answer::No(n) => Answer::No(n),
-            Answer::Yes => match questions::nights_lacking(w) {
-                Answer::No(n) => Answer::No(n),
-                Answer::Yes => {
-                    let none = [0u64; NURSES];
-                    questions::record_asked(w, &none, Search::Nights, rec)
-                }
-            },
-        },
-    }
+    questions::steps_asked(rec.steps, k)?;
+    common_asked(w, places)?;
+    questions::nights_lacking(w)?;
+    questions::record_asked(w, &[0; NURSES], Search::Nights, rec)
 }
 
 // The night advance, every question answered before the first store.
-pub fn advance_on(rec: Record, w: &[u64], k: u32, past: bool, buffer: &mut [u32]) -> Advance
+pub fn advance_on(
+    rec: Record,
+    w: &[u64],
+    k: u32,
+    past: bool,
+    buffer: &mut [u32],
+) -> Result<Advance, Refusal>
     requires { Accepted w.now }
     ensures says { result ≡ advance_of (advance_stored (night_phase w.now) (call_of k past (length buffer.old)) rec) }
     ensures leaves { buffer.new ≡ left_by (advance_stored (night_phase w.now) (call_of k past (length buffer.old)) rec).0 (common_of w.now) buffer.old }
 {
-    match first_no(rec, w, k, buffer.len()) {
-        Answer::No(n) => outcomes::refuse(rec, n),
-        Answer::Yes => {
-            let len = nightlists::common::fill(w, buffer);
-            let stretches = Stretches {
-                search: Search::Nights,
-                ends: [0; ENDS],
-            };
-            let x = rec.advance(w, &buffer[..len], stretches, k, past);
-            outcomes::finished(x, outcomes::no_roster())
-        }
-    }
+    first_no(rec, w, k, buffer.len())?;
+    let len = nightlists::common::fill(w, buffer);
+    let stretches = Stretches {
+        search: Search::Nights,
+        ends: [0; ENDS],
+    };
+    let x = rec.advance(w, &buffer[..len], stretches, k, past);
+    Ok(outcomes::finished(x, outcomes::no_roster()))
 }

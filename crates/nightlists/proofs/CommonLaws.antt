@@ -13,14 +13,13 @@ use lib.Pow.{shr-shr}
 use borrow.Author.Tests.{leb-true, leb-false, ltb-true, ltb-false, eqb-true, eqb-false, le-leb, lt-leb, eq-eqb, ne_eqb}
 use Rattle.fields.specs.declared.rules.Rules.{Rules}
 use Rattle.nightlists.specs.declared.State.{State}
-use Rattle.nightlists.specs.declared.Next.{Next}
-use Rattle.nightlists.specs.declared.Next.TheVariants.{To, Never}
+use Rattle.std.specs.declared.option.Option.{Option}
+use Rattle.std.specs.declared.option.Option.TheVariants.{Some, None}
 use Rattle.numbers.specs.Range.{up_from, filter}
 use Rattle.numbers.proofs.HalfLaws.{low_half, high_half, filter_halves}
 use Rattle.rows.specs.Rows.{started}
-use Rattle.fields.specs.Fields.{days}
-use Rattle.fields.specs.Rules.{rules_of, gap}
-use Rattle.nights.specs.Nights.{starts, follow, in_common, common, common_of}
+use Rattle.fields.specs.Rules.{gap}
+use Rattle.nights.specs.Nights.{starts, follow, in_common, common}
 use Rattle.nights.proofs.FollowLaws.{leb_same, follow_first}
 use Rattle.nightlists.specs.CodeWalk.{closed, start_at, none_yet, onward, listed}
 use Rattle.nightlists.proofs.WalkLaws.{cond_case}
@@ -94,9 +93,9 @@ abbrev Alive : Rules → List ℕ → State → Type 0
 Alive r [] st = (st.first ≡ 0) × (st.dist ≡ 0) × (st.count ≡ 0)
 Alive r (s ∷ ss) st = Going r s ss st
 
-abbrev Outcome : Rules → List ℕ → Next → Type 0
-Outcome r D (To t) = Alive r D t
-Outcome r D Never = Dead r D
+abbrev Outcome : Rules → List ℕ → Option State → Type 0
+Outcome r D (Some t) = Alive r D t
+Outcome r D None = Dead r D
 
 -- what the common list asks of the starts
 good : Rules → List ℕ → Bool
@@ -235,10 +234,10 @@ module _ (r : Rules) (n : ℕ) (l : 1 ≤ r.longest) where
   -- the half with a start on day d + 1, where the walk lists what it goes on to
   high_below : (d k q : ℕ) → suc d + k ≡ n
       → ((t : State) → Alive r (starts_from (suc d) (suc k) (q * 2 + 1)) t → listed r d ((q * 2 + 1) * 2 ^ d) t ≡ below r n d (q * 2 + 1))
-      → (N : Next) → Outcome r (suc d ∷ starts_from (suc (suc d)) k q) N
+      → (N : Option State) → Outcome r (suc d ∷ starts_from (suc (suc d)) k q) N
       → onward N (λ t. listed r d (q * 2 ^ suc d + 2 ^ d) t) ≡ below r n d (q * 2 + 1)
-  high_below d k q e ih (To t) o = ap (λ (x : ℕ). listed r d x t) (high_half d q) ∙ ih t (rw (starts_odd d k q) o)
-  high_below d k q e ih Never o = sym (dead_none d (suc k) (q * 2 + 1) (omega arith) (rw (starts_odd d k q) o))
+  high_below d k q e ih (Some t) o = ap (λ (x : ℕ). listed r d x t) (high_half d q) ∙ ih t (rw (starts_odd d k q) o)
+  high_below d k q e ih None o = sym (dead_none d (suc k) (q * 2 + 1) (omega arith) (rw (starts_odd d k q) o))
 
   listed_below : (d k q : ℕ) (st : State) → d + k ≡ n → Alive r (starts_from (suc d) k q) st → listed r d (q * 2 ^ d) st ≡ below r n d q
   unfolding below filter up_from listed
@@ -257,9 +256,9 @@ module _ (r : Rules) (n : ℕ) (l : 1 ≤ r.longest) where
       ∙ listed_below n 0 0 none_yet (add-zero n) (refl, refl, refl)
       ∙ ap (λ (a : ℕ). filter (in_common r n) (up_from a (2 ^ n))) (zero-mul (2 ^ n))
 
-  pub walk_from : {q : Rules} {m : ℕ} {s : State} → q ≡ r → m ≡ n → s ≡ none_yet → listed q m 0 s ≡ common r n
-  walk_from p d e = rw (p, d, e) walk_lists_common
-
--- by rules and days that were read
-pub common_as : (w : List ℕ) {r : Rules} {n : ℕ} → r ≡ rules_of w → n ≡ days w → common r n ≡ common_of w
-common_as w e q = ap₂ common e q
+  -- from the state where everything is 0
+  pub walk_from : {q : Rules} {m : ℕ} (s : State) → q ≡ r → m ≡ n → (s.first ≡ 0) × ((s.run ≡ 0) × ((s.dist ≡ 0) × (s.count ≡ 0))) → listed q m 0 s ≡ common r n
+  walk_from s p d (a, (b, (c, e))) = rw (p, d) (ap (listed r n 0) (begun s.first s.run s.dist s.count a b c e) ∙ walk_lists_common)
+    where
+      begun : (first run dist count : ℕ) → first ≡ 0 → run ≡ 0 → dist ≡ 0 → count ≡ 0 → ◌≡◌ {A = State} (record { first = first; run = run; dist = dist; count = count }) none_yet
+      begun first run dist count a b c e = rw (a, b, c, e) refl

@@ -2,37 +2,27 @@
 use mathlib.Core.Path.{◌≡◌, refl, sym, ap, ◌∙◌}
 use mathlib.Core.Bool.{Bool, true, false}
 use mathlib.Core.List.{List, [], ◌∷◌, ◌++◌, append-nil, append_assoc}
-use Prim.Native.Nat.{ℕ, zero, suc, ◌+◌, ◌-◌, ◌^◌, ◌≤◌, ◌<◌, min}
+use Prim.Native.Nat.{ℕ, zero, suc, ◌+◌, ◌-◌, ◌^◌, ◌≤◌, ◌<◌}
 use native.Mathlib.Nat.{add-zero}
 use native.Mathlib.Numerals.{add-one}
 use native.Mathlib.Omega.{arith}
 use lib.Dec.{leb, eqb}
-use lib.ListN.{length, set, take, drop, length-append}
+use lib.ListN.{length, length-append}
 use lib.Pow.{pow_pos, pow_mono}
-use lib.Seq.{drop-cons, append_snoc, set-append_seam}
-use Rattle.numbers.proofs.BufferLaws.{Halves, as_long, low_most, rest_room, halves_count, halves_written}
 use borrow.Author.Tests.{leb-true, leb-false, eqb-true, eqb-false, le-leb, lt-leb, lt-ltb, eq-eqb, ne_eqb}
 use Rattle.numbers.proofs.HalfLaws.{pow_twice}
 use Rattle.fields.specs.declared.rules.Rules.{Rules}
 use Rattle.nightlists.specs.declared.State.{State}
-use Rattle.nightlists.specs.declared.Next.{Next}
-use Rattle.nightlists.specs.declared.Next.TheVariants.{Never}
+use Rattle.std.specs.declared.option.Option.{Option}
+use Rattle.std.specs.declared.option.Option.TheVariants.{None}
 use Rattle.nightlists.specs.CodeWalk.{closed, here, listed, apart_by, new_days, new_run, last_days, shut_days, lengthened, leaves, Ready}
-use Rattle.nightlists.proofs.WalkLaws.{cond_case, here_only, here_is, more_to, listed_most, CountAt, FillAt, fill_start, fill_end}
+use Rattle.nightlists.proofs.WalkLaws.{cond_case, here_only, here_is, more_to}
 use Rattle.nightlists.proofs.OnwardLaws.{Days, known, days_most, new_start, new_far, never_all, apart_three}
 
 pub length_leaves : (a d : ℕ) → length (leaves a d) ≡ d
 unfolding leaves
 length_leaves a zero = refl
 length_leaves a (suc d) = simp length-append (omega (arith, length_leaves a d))
-
--- one more
-store_next : (xs buf : List ℕ) (p : ℕ) → length xs < length buf → set (xs ++ drop (length xs) buf) (length xs) p ≡ (xs ++ (p ∷ [])) ++ drop (length xs + 1) buf
-store_next xs buf p h = rw (drop-cons buf (length xs) 0 h, set-append_seam, add-one, append_snoc) refl
-
-more_leaves : (a day : ℕ) (before : List ℕ) → leaves a (day + 1) ++ drop (length (leaves a (day + 1))) before ≡ (leaves a day ++ ((a + 2 ^ day) ∷ [])) ++ drop (length (leaves a day) + 1) before
-unfolding leaves
-more_leaves a day before = rw (length_leaves a (day + 1), length_leaves a day, add-one day) refl
 
 -- which of these new runs have a wide enough gap
 shut_yes : (r : Rules) (s : State) (days d : ℕ) → d < shut_days r s days → closed r 1 (s.first - (d + 1)) ≡ true
@@ -76,16 +66,16 @@ no_days : (c : Bool) (apart : ℕ) (s : State) (d : ℕ) → d + 1 ≤ apart →
 unfolding new_days
 no_days c apart s d l = rw (ne_eqb (d + 1) 0 (omega arith)) (cond_case (λ (x : ℕ). 0 ≡ x) c _ _ (λ u. omega arith) (λ u. refl))
 
-not_long : (r : Rules) (s : State) (d : ℕ) → r.longest ≤ 1 → lengthened r (new_run s d) d ≡ Never
+not_long : (r : Rules) (s : State) (d : ℕ) → r.longest ≤ 1 → lengthened r (new_run s d) d ≡ None
 unfolding lengthened
 not_long r s d l = rw (le-leb r.longest 1 l) refl
 
-not_before : (r : Rules) (s : State) (d : ℕ) → d + 1 ≤ 2 → lengthened r (new_run s d) d ≡ Never
+not_before : (r : Rules) (s : State) (d : ℕ) → d + 1 ≤ 2 → lengthened r (new_run s d) d ≡ None
 unfolding lengthened
-not_before r s d l = rw (lt-ltb (d + 1) 3 (omega arith)) (cond_case (λ (N : Next). N ≡ Never) (leb r.longest 1) _ _ (λ u. refl) (λ u. refl))
+not_before r s d l = rw (lt-ltb (d + 1) 3 (omega arith)) (cond_case (λ (N : Option State). N ≡ None) (leb r.longest 1) _ _ (λ u. refl) (λ u. refl))
 
 module _ (r : Rules) {apart : ℕ} (s : State) (p : apart ≡ apart_by r) (a d : ℕ) where
-  only_few : d + 1 ≤ apart → lengthened r (new_run s d) d ≡ Never → Only r a s d
+  only_few : d + 1 ≤ apart → lengthened r (new_run s d) d ≡ None → Only r a s d
   only_few l n = go (leb r.most (s.count + 1)) refl
     where
       go : (v : Bool) → leb r.most (s.count + 1) ≡ v → Only r a s d
@@ -141,72 +131,14 @@ module _ {r : Rules} {done : Bool} {apart left : ℕ} {s : State} {days : ℕ} (
     whole = rw q (shut_days_lem k a begun (omega (arith, begun_most r apart s days)) (λ d l. last_only d (omega arith)));
   }
 
--- counted
-pub count_begun : {r : Rules} {left : ℕ} {s : State} {days begun shut : ℕ} (cap : ℕ) {first n : ℕ} → ((a : ℕ) → Begun r left a s days begun shut) → ((a : ℕ) → first ≡ length (listed r 0 a s)) → n ≡ min cap (first + shut)
-    → CountAt r left s cap begun n
-count_begun {shut = shut} cap k h e =
-    let k₀ = k 0 in
-    record {
-      day_most = omega (arith, k₀.begun_days, k₀.days_left);
-      n_is = λ a.
-          let q = k a in
-          omega (arith, h a, simp length-append at (ap length q.whole), length_leaves a shut);
-    }
-
--- written, past the pattern made so far
 module _ {r : Rules} {left a : ℕ} {s : State} {days begun shut : ℕ} (b : Begun r left a s days begun shut) where
   pub begun_left : begun ≤ left
   begun_left = omega (arith, b.begun_days, b.days_left)
-
-  pub begun_halves : {entry : List ℕ} → length (listed r left a s) ≤ length entry → Halves (listed r begun a s) (listed r 0 a s) (leaves a shut) entry
-  begun_halves room = record { whole = b.whole; room = omega (arith, room, listed_most r begun left a s begun_left) }
 
   pub begun_ready : Ready r left a → a + 2 ^ shut ≤ 2 ^ 32
   begun_ready ready =
       let m : shut ≤ left = omega (arith, b.shut_begun, begun_left) in
       omega (arith, ready.fits, pow_mono {i = shut} {j = left} m)
 
-  module _ (entry : List ℕ) {buf : List ℕ} {at : ℕ} (room : length (listed r left a s) ≤ length entry) (len : at ≡ length (listed r 0 a s)) (first : buf ≡ listed r 0 a s ++ drop (length (listed r 0 a s)) entry) where
-    pub begun_within : at ≤ length buf
-    begun_within = low_most (begun_halves room) len first
-
-    pub begun_room : length (leaves a shut) ≤ length (take (length buf - at) (drop at buf))
-    begun_room = rest_room (begun_halves room) len first
-
-    module _ {ys : List ℕ} {found : ℕ} (more : found ≡ length (leaves a shut)) (part : ys ≡ leaves a shut ++ drop (length (leaves a shut)) (take (length buf - at) (drop at buf))) where
-      pub begun_start : FillAt r left a s (take at buf ++ (ys ++ drop (length buf - at) (drop at buf))) begun (at + found) (take at buf ++ (ys ++ drop (length buf - at) (drop at buf)))
-      begun_start = fill_start r left a s entry begun begun_left (halves_count (begun_halves room) len first more part) (halves_written (begun_halves room) len first more part) room
-
-      pub begun_end : {at₁ day : ℕ} {buf₁ : List ℕ} → FillAt r left a s (take at buf ++ (ys ++ drop (length buf - at) (drop at buf))) day at₁ buf₁ → listed r left a s ≡ listed r day a s
-          → (at₁ ≡ length (listed r left a s)) × (buf₁ ≡ listed r left a s ++ drop (length (listed r left a s)) entry)
-      begun_end = fill_end r left a s entry begun begun_left (halves_count (begun_halves room) len first more part) (halves_written (begun_halves room) len first more part)
-
--- ---- writing them, by days: those of the days below `day` are written
-
-pub record LeavesAt (a : ℕ) (before : List ℕ) (day at : ℕ) (buf : List ℕ) : Type 0 where
-  pub at_is : at ≡ day
-  pub buf_is : buf ≡ leaves a day ++ drop (length (leaves a day)) before
-
-pub leaves_none : (a : ℕ) (before : List ℕ) → LeavesAt a before 0 0 before
-unfolding leaves
-leaves_none a before = record { at_is = refl; buf_is = refl }
-
 pub leaf_fits : (a day shut : ℕ) {b : ℕ} → a + 2 ^ shut ≤ 2 ^ 32 → day < shut → b ≡ 2 ^ day → a + b < 2 ^ 32
 leaf_fits a day shut f l e = omega (arith, pow_twice day, pow_pos day, pow_mono {i = suc day} {j = shut} l)
-
-module _ {a : ℕ} {before buf : List ℕ} {day at : ℕ} (h : LeavesAt a before day at buf) where
-  pub leaves_bound : (shut : ℕ) → length (leaves a shut) ≤ length before → day < shut → at < length buf
-  leaves_bound shut room l =
-      omega (arith, h.at_is, as_long (leaves a day) before buf h.buf_is (omega (arith, length_leaves a day, length_leaves a shut)), length_leaves a shut)
-
-  pub leaves_turn : {b : ℕ} (shut : ℕ) → length (leaves a shut) ≤ length before → day < shut → b ≡ 2 ^ day → LeavesAt a before (day + 1) (at + 1) (set buf at (a + b))
-  leaves_turn {b} shut room l e = record {
-    at_is = omega (arith, h.at_is);
-    buf_is = turn;
-  }
-    where
-      is : at ≡ length (leaves a day)
-      is = omega (arith, h.at_is, length_leaves a day)
-
-      turn : set buf at (a + b) ≡ leaves a (day + 1) ++ drop (length (leaves a (day + 1))) before
-      turn = rw (is, h.buf_is, e) (store_next (leaves a day) before (a + 2 ^ day) (omega (arith, length_leaves a day, length_leaves a shut)) ∙ sym (more_leaves a day before))

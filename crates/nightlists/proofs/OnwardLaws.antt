@@ -12,8 +12,8 @@ use borrow.Author.Tests.{leb-false, ltb-true, ltb-false, eqb-true, eqb-false, lt
 use Rattle.fields.specs.declared.rules.Rules.{Rules}
 use Rattle.fields.specs.Rules.{gap}
 use Rattle.nightlists.specs.declared.State.{State}
-use Rattle.nightlists.specs.declared.Next.{Next}
-use Rattle.nightlists.specs.declared.Next.TheVariants.{To, Never}
+use Rattle.std.specs.declared.option.Option.{Option}
+use Rattle.std.specs.declared.option.Option.TheVariants.{Some, None}
 use Rattle.nightlists.specs.CodeWalk.{closed, start_at, onward, listed, least_gap, lost, apart_by, new_days, new_run, lengthened}
 use Rattle.nightlists.proofs.WalkLaws.{cond_case, More, listed_more, more_to}
 
@@ -59,14 +59,14 @@ NoneLost r f = (t : State) → 0 < t.first → lost r t.run t.dist ≡ true → 
 
 lost_next : (r : Rules) (day : ℕ) (s : State) (f : State → List ℕ) → 0 < day → 0 < s.first → lost r s.run s.dist ≡ true → NoneLost r f → onward (start_at r day s) f ≡ []
 lost_next r day s f p b l h =
-    cond_case (λ (N : Next). onward N f ≡ []) (leb r.most s.count) _ _ (λ t. refl)
-    (λ t. cond_case (λ (N : Next). onward N f ≡ []) (eqb s.first 0) _ _ (λ u. absurd (omega (arith, eqb-true)))
-    (λ u. cond_case (λ (N : Next). onward N f ≡ []) (eqb s.first (day + 2)) _ _
-    (λ v. cond_case (λ (N : Next). onward N f ≡ []) (leb r.longest s.run) _ _ (λ w. refl)
+    cond_case (λ (N : Option State). onward N f ≡ []) (leb r.most s.count) _ _ (λ t. refl)
+    (λ t. cond_case (λ (N : Option State). onward N f ≡ []) (eqb s.first 0) _ _ (λ u. absurd (omega (arith, eqb-true)))
+    (λ u. cond_case (λ (N : Option State). onward N f ≡ []) (eqb s.first (day + 2)) _ _
+    (λ v. cond_case (λ (N : Option State). onward N f ≡ []) (leb r.longest s.run) _ _ (λ w. refl)
     (λ w. let q = lost_parts r s.run s.dist l in
     h _ p (lost_by r (s.run + 1) s.dist q.0 (omega (arith, q.1, least_one_more r s.run (leb-false _ _ w))))))
-    (λ v. cond_case (λ (N : Next). onward N f ≡ []) (ltb s.first (day + 3)) _ _ (λ w. refl)
-    (λ w. cond_case (λ (N : Next). onward N f ≡ []) (closed r s.run s.dist) _ _ (λ x. absurd (open_closed x (lost_open r s.run s.dist l)))
+    (λ v. cond_case (λ (N : Option State). onward N f ≡ []) (ltb s.first (day + 3)) _ _ (λ w. refl)
+    (λ w. cond_case (λ (N : Option State). onward N f ≡ []) (closed r s.run s.dist) _ _ (λ x. absurd (open_closed x (lost_open r s.run s.dist l)))
     (λ x. refl)))))
 
 lost_none : (r : Rules) (d a : ℕ) → NoneLost r (listed r d a)
@@ -129,21 +129,25 @@ new_below done apart left s p q =
     cond_case (λ (x : ℕ). x ≤ s.first - 3) (eqb s.first 0) _ _ (λ u. absurd (omega (arith, eqb-true _ _ u)))
     (λ u. cond_case (λ (x : ℕ). x ≤ s.first - 3) done _ _ (λ v. omega arith) (λ v. omega arith))
 
+-- the state's first start is on the day after those that are left
+pub new_next : (s : State) (day : ℕ) {t : State} → t ≡ new_run s day → t.first ≤ day + 1
+new_next s day e = omega (arith, ap (λ (s : State). s.first) e)
+
 -- ---- the day that lengthens the first run
 
 pub record Long (r : Rules) (left : ℕ) (s : State) (t : State) : Type 0 where
   pub some : 1 ≤ t.first
   pub below : t.first - 1 < left
   pub day : s.first ≡ t.first - 1 + 3
-  pub start : s.count < r.most → start_at r (t.first - 1 + 1) s ≡ To t
+  pub start : s.count < r.most → start_at r (t.first - 1 + 1) s ≡ Some t
 
-to_is : {t u : State} → To t ≡ To u → t ≡ u
+to_is : {t u : State} → Some t ≡ Some u → t ≡ u
 to_is e = cc
 
-pub never_to : {t : State} → Never ≡ To t → ⊥
+pub never_to : {t : State} → None ≡ Some t → ⊥
 never_to e = let z : ◌≡◌ {A = ℕ} 0 1 = cc in omega arith
 
-pub to_never : {t : State} → To t ≡ Never → ⊥
+pub to_never : {t : State} → Some t ≡ None → ⊥
 to_never e = let z : ◌≡◌ {A = ℕ} 0 1 = cc in omega arith
 
 module _ (r : Rules) (left : ℕ) (s : State) where
@@ -162,23 +166,23 @@ module _ (r : Rules) (left : ℕ) (s : State) where
         rw (lt-leb r.most s.count f, ne_eqb s.first 0 (omega arith), eq-eqb s.first (s.first - 2 - 1 + 1 + 2) e, lt-leb r.longest s.run a, d);
   }
 
-  pub long_is : (t : State) → lengthened r s left ≡ To t → Long r left s t
+  pub long_is : (t : State) → lengthened r s left ≡ Some t → Long r left s t
   unfolding lengthened long_state
   long_is t =
-      cond_case (λ (N : Next). N ≡ To t → Long r left s t) (leb r.longest s.run) _ _ (λ u e. absurd (never_to e))
-      (λ u. cond_case (λ (N : Next). N ≡ To t → Long r left s t) (ltb s.first 3) _ _ (λ v e. absurd (never_to e))
-      (λ v. cond_case (λ (N : Next). N ≡ To t → Long r left s t) (ltb (left + 2) s.first) _ _ (λ w e. absurd (never_to e))
-      (λ w. cond_case (λ (N : Next). N ≡ To t → Long r left s t) (lost r (s.run + 1) s.dist) _ _ (λ x e. absurd (never_to e))
+      cond_case (λ (N : Option State). N ≡ Some t → Long r left s t) (leb r.longest s.run) _ _ (λ u e. absurd (never_to e))
+      (λ u. cond_case (λ (N : Option State). N ≡ Some t → Long r left s t) (ltb s.first 3) _ _ (λ v e. absurd (never_to e))
+      (λ v. cond_case (λ (N : Option State). N ≡ Some t → Long r left s t) (ltb (left + 2) s.first) _ _ (λ w e. absurd (never_to e))
+      (λ w. cond_case (λ (N : Option State). N ≡ Some t → Long r left s t) (lost r (s.run + 1) s.dist) _ _ (λ x e. absurd (never_to e))
       (λ x e. subst (Long r left s) (to_is e) (long_start (leb-false _ _ u) (ltb-false _ _ v) (ltb-false _ _ w))))))
 
   -- on that day, where there is no such state
-  long_never : (day : ℕ) (f : State → List ℕ) → s.first ≡ day + 3 → day < left → NoneLost r f → lengthened r s left ≡ Never → onward (start_at r (day + 1) s) f ≡ []
+  long_never : (day : ℕ) (f : State → List ℕ) → s.first ≡ day + 3 → day < left → NoneLost r f → lengthened r s left ≡ None → onward (start_at r (day + 1) s) f ≡ []
   unfolding lengthened
   long_never day f e l h n =
-      cond_case (λ (N : Next). onward N f ≡ []) (leb r.most s.count) _ _ (λ t. refl)
-      (λ t. cond_case (λ (N : Next). onward N f ≡ []) (eqb s.first 0) _ _ (λ u. absurd (omega (arith, eqb-true _ _ u)))
+      cond_case (λ (N : Option State). onward N f ≡ []) (leb r.most s.count) _ _ (λ t. refl)
+      (λ t. cond_case (λ (N : Option State). onward N f ≡ []) (eqb s.first 0) _ _ (λ u. absurd (omega (arith, eqb-true _ _ u)))
       (λ u. rw (eq-eqb s.first (day + 1 + 2) (omega arith))
-      (cond_case (λ (N : Next). onward N f ≡ []) (leb r.longest s.run) _ _ (λ w. refl)
+      (cond_case (λ (N : Option State). onward N f ≡ []) (leb r.longest s.run) _ _ (λ w. refl)
       (λ w. h _ (omega arith) (go w (lost r (s.run + 1) s.dist) refl)))))
     where
       go : leb r.longest s.run ≡ false → (v : Bool) → lost r (s.run + 1) s.dist ≡ v → v ≡ true
@@ -203,19 +207,19 @@ module _ {r : Rules} {done : Bool} {apart left : ℕ} {s : State} {days : ℕ} (
   pub days_most : days ≤ left
   days_most = omega (arith, k.is, new_most done apart left s)
 
-  pub new_start : {day : ℕ} {t : State} → day < days → t ≡ new_run s day → start_at r (day + 1) s ≡ To t
-  new_start {day} {t} l e = rw (lt-leb r.most s.count k.few) (go (new_day done apart left s day (omega (arith, k.is))) ∙ ap To (sym e))
+  pub new_start : {day : ℕ} {t : State} → day < days → t ≡ new_run s day → start_at r (day + 1) s ≡ Some t
+  new_start {day} {t} l e = rw (lt-leb r.most s.count k.few) (go (new_day done apart left s day (omega (arith, k.is))) ∙ ap Some (sym e))
     where
       go : New done apart left s day
-          → cond (eqb s.first 0) (To (record { first = day + 1; run = 1; dist = 0; count = s.count + 1 }))
+          → cond (eqb s.first 0) (Some (record { first = day + 1; run = 1; dist = 0; count = s.count + 1 }))
           (cond (eqb s.first (day + 1 + 2))
-          (cond (leb r.longest s.run) Never (To (record { first = day + 1; run = s.run + 1; dist = s.dist; count = s.count + 1 })))
-          (cond (ltb s.first (day + 1 + 3)) Never
-          (cond (closed r s.run s.dist) (To (record { first = day + 1; run = 1; dist = s.first - (day + 1); count = s.count + 1 })) Never)))
-          ≡ To (new_run s day)
+          (cond (leb r.longest s.run) None (Some (record { first = day + 1; run = s.run + 1; dist = s.dist; count = s.count + 1 })))
+          (cond (ltb s.first (day + 1 + 3)) None
+          (cond (closed r s.run s.dist) (Some (record { first = day + 1; run = 1; dist = s.first - (day + 1); count = s.count + 1 })) None)))
+          ≡ Some (new_run s day)
       go (inl z) =
           let d : 0 ≡ s.first - (day + 1) = omega arith in
-          rw (eq-eqb s.first 0 z) (ap (λ (x : ℕ). To (record { first = day + 1; run = 1; dist = x; count = s.count + 1 })) d)
+          rw (eq-eqb s.first 0 z) (ap (λ (x : ℕ). Some (record { first = day + 1; run = 1; dist = x; count = s.count + 1 })) d)
       go (inr (p, y, q)) =
           let c : closed r s.run s.dist ≡ true = sym k.done_is ∙ y in
           let far : day + 4 ≤ s.first = omega (arith, k.apart_is, (apart_least r).0) in
@@ -233,11 +237,11 @@ module _ {r : Rules} {done : Bool} {apart left : ℕ} {s : State} {days : ℕ} (
   past_none : (day : ℕ) (f : State → List ℕ) → days ≤ day → day < left → (s.first ≡ day + 3 → ⊥) → NoneLost r f → onward (start_at r (day + 1) s) f ≡ []
   past_none day f m l o h =
       let q = past_day done apart left s day (omega (arith, k.is)) l in
-      cond_case (λ (N : Next). onward N f ≡ []) (leb r.most s.count) _ _ (λ t. refl)
-      (λ t. cond_case (λ (N : Next). onward N f ≡ []) (eqb s.first 0) _ _ (λ u. absurd (omega (arith, eqb-true _ _ u, q.0)))
-      (λ u. cond_case (λ (N : Next). onward N f ≡ []) (eqb s.first (day + 1 + 2)) _ _ (λ v. absurd (o (omega (arith, eqb-true _ _ v))))
-      (λ v. cond_case (λ (N : Next). onward N f ≡ []) (ltb s.first (day + 1 + 3)) _ _ (λ w. refl)
-      (λ w. cond_case (λ (N : Next). onward N f ≡ []) (closed r s.run s.dist) _ _
+      cond_case (λ (N : Option State). onward N f ≡ []) (leb r.most s.count) _ _ (λ t. refl)
+      (λ t. cond_case (λ (N : Option State). onward N f ≡ []) (eqb s.first 0) _ _ (λ u. absurd (omega (arith, eqb-true _ _ u, q.0)))
+      (λ u. cond_case (λ (N : Option State). onward N f ≡ []) (eqb s.first (day + 1 + 2)) _ _ (λ v. absurd (o (omega (arith, eqb-true _ _ v))))
+      (λ v. cond_case (λ (N : Option State). onward N f ≡ []) (ltb s.first (day + 1 + 3)) _ _ (λ w. refl)
+      (λ w. cond_case (λ (N : Option State). onward N f ≡ []) (closed r s.run s.dist) _ _
       (λ x.
       let near : s.first ≤ day + apart = q.1 (k.done_is ∙ x) in
       let g = apart_least r in
@@ -248,20 +252,17 @@ module _ {r : Rules} {done : Bool} {apart left : ℕ} {s : State} {days : ℕ} (
 
   -- the loop over these days is done
   module _ {day : ℕ} (l : day ≤ days) (m : days ≤ day) (a : ℕ) where
-    same_days : days ≡ day
-    same_days = omega arith
-
-    pub never_all : {N : Next} → N ≡ lengthened r s left → N ≡ Never → listed r left a s ≡ listed r day a s
+    pub never_all : {N : Option State} → N ≡ lengthened r s left → N ≡ None → listed r left a s ≡ listed r day a s
     never_all e n = flat_to r day left a s (omega (arith, days_most)) (λ d p q. go d p q (eqb s.first (d + 3)) refl)
       where
         go : (d : ℕ) → day ≤ d → d < left → (v : Bool) → eqb s.first (d + 3) ≡ v → onward (start_at r (d + 1) s) (λ t. listed r d (a + 2 ^ d) t) ≡ []
         go d p q true u = long_never r left s d (λ t. listed r d (a + 2 ^ d) t) (eqb-true _ _ u) q (λ t. lost_none r d (a + 2 ^ d) t) (sym e ∙ n)
         go d p q false u = past_none d (λ t. listed r d (a + 2 ^ d) t) (omega arith) q (eqb-false _ _ u) (λ t. lost_none r d (a + 2 ^ d) t)
 
-    pub to_all : {N : Next} {t : State} {last b : ℕ} → N ≡ lengthened r s left → N ≡ To t → last ≡ t.first - 1 → b ≡ 2 ^ last → More r day a s last b t left
+    pub to_all : {N : Option State} {t : State} {last b : ℕ} → N ≡ lengthened r s left → N ≡ Some t → last ≡ t.first - 1 → b ≡ 2 ^ last → More r day a s last b t left
     to_all {t = t} {last} {b} e n z q =
         let long : Long r left s t = long_is r left s t (sym e ∙ n) in
-        let begin : start_at r (last + 1) s ≡ To t = rw z (long.start k.few) in
+        let begin : start_at r (last + 1) s ≡ Some t = rw z (long.start k.few) in
         let low : day ≤ last = omega (arith, k.is, z, long.day, new_below done apart left s (omega (arith, long.day)) (omega (arith, k.apart_is, (apart_least r).0))) in
         record {
           whole = flat_to r (last + 1) left a s (omega (arith, z, long.below)) (λ d p o. past_none d (λ t. listed r d (a + 2 ^ d) t) (omega arith) o (λ u. omega (arith, z, long.day)) (λ t. lost_none r d (a + 2 ^ d) t))
@@ -271,7 +272,7 @@ module _ {r : Rules} {done : Bool} {apart left : ℕ} {s : State} {days : ℕ} (
         }
 
   -- that day is one of those that were undecided
-  module _ {N : Next} {t : State} (e : N ≡ lengthened r s left) (n : N ≡ To t) where
+  module _ {N : Option State} {t : State} (e : N ≡ lengthened r s left) (n : N ≡ Some t) where
     pub long_some : 1 ≤ t.first
     long_some = let long : Long r left s t = long_is r left s t (sym e ∙ n) in long.some
 

@@ -30,8 +30,8 @@ use Rattle.nursemasks.specs.CodeMasks.{masks_of}
 use Rattle.nursemasks.specs.CodePairs.{PairsOf}
 use Rattle.nursemasks.proofs.NearLaws.{out_never}
 use Rattle.nightlists.specs.declared.State.{State}
-use Rattle.nightlists.specs.declared.Next.{Next}
-use Rattle.nightlists.specs.declared.Next.TheVariants.{To, Never}
+use Rattle.std.specs.declared.option.Option.{Option}
+use Rattle.std.specs.declared.option.Option.TheVariants.{Some, None}
 use Rattle.nightlists.specs.CodeWalk.{closed, here, start_at, onward, listed, lengthened, hers_with_pair}
 use Rattle.nightlists.proofs.WalkLaws.{here_is, here_only, More, listed_more, listed_first}
 use Rattle.nightlists.proofs.OnwardLaws.{Days, Long, never_to, to_never, long_is, long_some, long_below, never_all, to_all}
@@ -61,9 +61,9 @@ some_of_list w i L h ok e f =
 abbrev Within : ℕ → ℕ → ℕ → Type 0
 Within a n x = (a ≤ x) × (x < a + n)
 
-onward_each : (P : ℕ → Type 0) (f : State → List ℕ) (N : Next) → ((t : State) → Each P (f t)) → Each P (onward N f)
-onward_each P f (To t) h = h t
-onward_each P f Never h = λ k l. absurd (not-suc-le-zero l)
+onward_each : (P : ℕ → Type 0) (f : State → List ℕ) (N : Option State) → ((t : State) → Each P (f t)) → Each P (onward N f)
+onward_each P f (Some t) h = h t
+onward_each P f None h = λ k l. absurd (not-suc-le-zero l)
 
 -- the undecided days only add to the number that the others make
 listed_within : (r : Rules) (d a : ℕ) (s : State) → Each (Within a (2 ^ d)) (listed r d a s)
@@ -110,7 +110,7 @@ in_both x y d p q e =
     let z : ◌≡◌ {A = ℕ} 0 1 = cc in
     omega arith
 
-cond_to : (v : Bool) (N : Next) (t : State) → cond v Never N ≡ To t → N ≡ To t
+cond_to : (v : Bool) (N : Option State) (t : State) → cond v None N ≡ Some t → N ≡ Some t
 cond_to true N t e = absurd (never_to e)
 cond_to false N t e = e
 
@@ -187,13 +187,13 @@ module _ (w : List ℕ) (m : Masks) (x : Pairs) where
 
     -- past the days of new runs, where she does not lengthen the first run
     module _ {done : Bool} {apart days : ℕ} (k : Days r done apart left s days) (l : day ≤ days) (q : days ≤ day) where
-      pub none_end : {N : Next} → Accepted w → a % 2 ^ left ≡ 0 → N ≡ cond (has m.never (s.first - 3)) Never (lengthened r s left) → N ≡ Never → Says w m x (listed r left a s) false
+      pub none_end : {N : Option State} → Accepted w → a % 2 ^ left ≡ 0 → N ≡ cond (has m.never (s.first - 3)) None (lengthened r s left) → N ≡ None → Says w m x (listed r left a s) false
       none_end ok even c e = go (has m.never (s.first - 3)) refl (lengthened r s left) refl
         where
-          go : (v : Bool) → has m.never (s.first - 3) ≡ v → (M : Next) → lengthened r s left ≡ M → Says w m x (listed r left a s) false
-          go v bar Never f = rw (never_all k l q a (sym f) refl) n.none
-          go false bar (To t) f = absurd (to_never (rw (bar, f) at (sym c ∙ e)))
-          go true bar (To t) f =
+          go : (v : Bool) → has m.never (s.first - 3) ≡ v → (M : Option State) → lengthened r s left ≡ M → Says w m x (listed r left a s) false
+          go v bar None f = rw (never_all k l q a (sym f) refl) n.none
+          go false bar (Some t) f = absurd (to_never (rw (bar, f) at (sym c ∙ e)))
+          go true bar (Some t) f =
               let long : Long r left s t = long_is r left s t f in
               let last : ℕ = t.first - 1 in
               let is : s.first - 3 ≡ last = omega (arith, long.day) in
@@ -203,8 +203,8 @@ module _ (w : List ℕ) (m : Masks) (x : Pairs) where
               (λ i h. has_start left last a even long.below _ (listed_within r last (a + 2 ^ last) t i h)))
 
     -- where she does
-    module _ {done : Bool} {apart days : ℕ} (k : Days r done apart left s days) {N : Next} {t : State} (c : N ≡ cond (has m.never (s.first - 3)) Never (lengthened r s left)) (e : N ≡ To t) where
-      is_long : lengthened r s left ≡ To t
+    module _ {done : Bool} {apart days : ℕ} (k : Days r done apart left s days) {N : Option State} {t : State} (c : N ≡ cond (has m.never (s.first - 3)) None (lengthened r s left)) (e : N ≡ Some t) where
+      is_long : lengthened r s left ≡ Some t
       is_long = cond_to (has m.never (s.first - 3)) (lengthened r s left) t (sym c ∙ e)
 
       pub her_some : 1 ≤ t.first

@@ -3,8 +3,8 @@ use Rattle.std.specs.Prelude.{Bool, cond, ◌&&◌, ◌||◌, List, [], ◌∷�
 use Rattle.fields.specs.Sizes.{day_places}
 use Rattle.fields.specs.declared.rules.Rules.{Rules}
 use Rattle.nightlists.specs.declared.State.{State}
-use Rattle.nightlists.specs.declared.Next.{Next}
-use Rattle.nightlists.specs.declared.Next.TheVariants.{To, Never}
+use Rattle.std.specs.declared.option.Option.{Option}
+use Rattle.std.specs.declared.option.Option.TheVariants.{Some, None}
 use Rattle.fields.specs.Rules.{gap}
 use Rattle.fields.specs.CodeRules.{SmallRules}
 use Rattle.nights.specs.Hers.{hers_of}
@@ -19,22 +19,22 @@ abbrev pub none_yet : State
 none_yet = record { first = 0; run = 0; dist = 0; count = 0 }
 
 -- one more start, before all that are decided
-abbrev pub start_at : Rules → ℕ → State → Next
+abbrev pub start_at : Rules → ℕ → State → Option State
 start_at r day s =
-    cond (leb r.most s.count) Never
-    (cond (eqb s.first 0) (To (record { first = day; run = 1; dist = 0; count = s.count + 1 }))
+    cond (leb r.most s.count) None
+    (cond (eqb s.first 0) (Some (record { first = day; run = 1; dist = 0; count = s.count + 1 }))
     (cond (eqb s.first (day + 2))
-    (cond (leb r.longest s.run) Never (To (record { first = day; run = s.run + 1; dist = s.dist; count = s.count + 1 })))
-    (cond (ltb s.first (day + 3)) Never
-    (cond (closed r s.run s.dist) (To (record { first = day; run = 1; dist = s.first - day; count = s.count + 1 })) Never))))
+    (cond (leb r.longest s.run) None (Some (record { first = day; run = s.run + 1; dist = s.dist; count = s.count + 1 })))
+    (cond (ltb s.first (day + 3)) None
+    (cond (closed r s.run s.dist) (Some (record { first = day; run = 1; dist = s.first - day; count = s.count + 1 })) None))))
 
 -- the pattern made so far, where it is one
 abbrev pub here : Bool → ℕ → List ℕ
 here done a = cond done (a ∷ []) []
 
-abbrev pub onward : Next → (State → List ℕ) → List ℕ
-onward (To t) f = f t
-onward Never f = []
+abbrev pub onward : Option State → (State → List ℕ) → List ℕ
+onward (Some t) f = f t
+onward None f = []
 
 -- the patterns that the walk lists: `left` days undecided, a the number that the decided ones make
 unfoldable pub listed : Rules → ℕ → ℕ → State → List ℕ
@@ -83,12 +83,12 @@ leaves a zero = []
 leaves a (suc d) = leaves a d ++ ((a + 2 ^ d) ∷ [])
 
 -- one start more in the first run, two days before its first
-unfoldable pub lengthened : Rules → State → ℕ → Next
+unfoldable pub lengthened : Rules → State → ℕ → Option State
 lengthened r s left =
-    cond (leb r.longest s.run) Never
-    (cond (ltb s.first 3) Never
-    (cond (ltb (left + 2) s.first) Never
-    (cond (lost r (s.run + 1) s.dist) Never (To (record { first = s.first - 2; run = s.run + 1; dist = s.dist; count = s.count + 1 })))))
+    cond (leb r.longest s.run) None
+    (cond (ltb s.first 3) None
+    (cond (ltb (left + 2) s.first) None
+    (cond (lost r (s.run + 1) s.dist) None (Some (record { first = s.first - 2; run = s.run + 1; dist = s.dist; count = s.count + 1 })))))
 
 -- what the walk asks where `left` days are undecided and the others make the number a
 pub record Ready (r : Rules) (left a : ℕ) : Type 0 where

@@ -1,1 +1,2 @@
+pub mod CodeListing
 pub mod CodeWalk

@@ -3,6 +3,7 @@
 #![tactic(auto)]
 
 pub mod common;
+mod listing;
 pub mod onward;
 pub mod some;
 
@@ -12,24 +13,19 @@ ghost use Rattle.fields.specs.CodeRules.{SmallRules};
 ghost use Rattle.nights.specs.Nights.{common};
 ghost use Rattle.nightlists.specs.CodeWalk.{closed, here, leaves, apart_by, none_yet, listed, Ready};
 
+use crate::listing::{Counting, Listing, Writing};
 use crate::onward::Walk;
 use fields::rules::Rules;
 
 // What the walk knows of the days that are decided: their first start (0: none), the length of the run that begins there, the
 // distance from that run's end to the start after it (0: none), and the count of starts.
-#[derive(Clone, Copy)]
+// 0 and no Option: the distance to no start is 0 by the same subtraction, without a branch in the walk.
+#[derive(Clone, Copy, Default)]
 pub struct State {
     pub first: u64,
     pub run: u64,
     pub dist: u64,
     pub count: u64,
-}
-
-// The state after one more start, or that no pattern has it.
-#[derive(Clone, Copy)]
-pub enum Next {
-    To(State),
-    Never,
 }
 
 pub(crate) fn is_closed(r: Rules, s: State) -> bool
@@ -43,131 +39,36 @@ pub(crate) fn is_closed(r: Rules, s: State) -> bool
     2 + g <= s.dist
 }
 
-// The walk's beginning: no day is decided.
-pub fn fresh() -> State
-    ensures { result ≡ none_yet }
-{
-    State {
-        first: 0,
-        run: 0,
-        dist: 0,
-        count: 0,
-    }
-}
-
-// How many patterns there are below, but no more than cap.
-fn count(k: &Walk, left: u64, s: State, cap: usize) -> usize
-    requires small_rules { SmallRules k.now.rules }
-    requires apart_value { k.now.apart ≡ apart_by k.now.rules }
-    requires left_le_day_places { left ≤ day_places }
-    ensures { (a : ℕ) → result ≡ min cap (length (listed k.now.rules left a s)) }
-{
-    if cap == 0 {
-        return 0;
-    }
-    let done = is_closed(k.rules, s);
-    let here = count_here(done);
-    if k.rules.most <= s.count {
-        return here;
-    }
-    let days = onward::new_days(done, k.apart, s, left);
-    let begun = onward::last_days(k.rules, k.apart, s, days);
-    let shut = onward::shut_days(k.rules, s, begun);
-    let mut n = at_most(cap, here, shut);
-    for day in begun..days {
-        let t = onward::new_run(s, day);
-        n = n + count(k, day, t, cap - n);
-    }
-    match onward::lengthened(k.rules, s, left) {
-        Next::To(t) => {
-            let last = t.first - 1;
-            n + count(k, last, t, cap - n)
-        }
-        Next::Never => n,
-    }
-}
-
-// Whether the pattern made so far is one, as a count.
-fn count_here(done: bool) -> usize
-    ensures { (a : ℕ) → result ≡ length (here done a) }
-{
-    if done {
-        return 1;
-    }
-    0
-}
-
-// The sum, but no more than cap.
-fn at_most(cap: usize, here: usize, shut: u64) -> usize
-    requires { here + shut < 2 ^ 64 }
-    ensures { result ≡ min cap (here + shut) }
-{
-    let sum = here + shut as usize;
-    if cap <= sum {
-        return cap;
-    }
-    sum
-}
-
-// Writes the patterns below from the buffer's start.
-fn fill(k: &Walk, left: u64, from: u32, s: State, buf: &mut [u32]) -> usize
+// The patterns below.
+fn walk<L: Listing>(k: &Walk, left: u64, from: u32, s: State, list: &mut L)
     requires ready { Ready k.now.rules left from }
     requires apart_value { k.now.apart ≡ apart_by k.now.rules }
-    requires s_in_bounds { length (listed k.now.rules left from s) ≤ length buf.old }
-    ensures value { result ≡ length (listed k.now.rules left from s) }
-    ensures buf_after { buf.new ≡ listed k.now.rules left from s ++ drop (length (listed k.now.rules left from s)) buf.old }
+    requires next { s.first ≤ left + 1 }
+    requires room { L.room list.old (listed k.now.rules left from s) }
+    ensures { L.added list.old (listed k.now.rules left from s) list.new }
 {
+    if list.is_full() {
+        return;
+    }
     let done = is_closed(k.rules, s);
-    let mut at = fill_here(done, from, buf);
+    list.add_here(done, from);
     if k.rules.most <= s.count {
-        return at;
+        return;
     }
     let days = onward::new_days(done, k.apart, s, left);
     let begun = onward::last_days(k.rules, k.apart, s, days);
     let shut = onward::shut_days(k.rules, s, begun);
-    at = at + fill_leaves(from, shut, &mut buf[at..]);
+    list.add_leaves(from, shut);
     for day in begun..days {
         let t = onward::new_run(s, day);
         let with = from + numbers::bit(day);
-        at = at + fill(k, day, with, t, &mut buf[at..]);
+        walk(k, day, with, t, list);
     }
-    match onward::lengthened(k.rules, s, left) {
-        Next::To(t) => {
-            let last = t.first - 1;
-            let long = from + numbers::bit(last);
-            at + fill(k, last, long, t, &mut buf[at..])
-        }
-        Next::Never => at,
+    if let Some(t) = onward::lengthened(k.rules, s, left) {
+        let last = t.first - 1;
+        let long = from + numbers::bit(last);
+        walk(k, last, long, t, list);
     }
-}
-
-// Writes the pattern made so far to the buffer's start, where it is one.
-fn fill_here(done: bool, from: u32, buf: &mut [u32]) -> usize
-    requires in_bounds { length (here done from) ≤ length buf.old }
-    ensures value { result ≡ length (here done from) }
-    ensures buf_after { buf.new ≡ here done from ++ drop (length (here done from)) buf.old }
-{
-    if done {
-        buf[0] = from;
-        return 1;
-    }
-    0
-}
-
-// Writes the patterns with one start more, on each of the first so many days, to the buffer's start.
-fn fill_leaves(from: u32, shut: u64, buf: &mut [u32]) -> usize
-    requires shut_le_day_places { shut ≤ day_places }
-    requires fits { from + 2 ^ shut ≤ 2 ^ 32 }
-    requires in_bounds { length (leaves from shut) ≤ length buf.old }
-    ensures value { result ≡ length (leaves from shut) }
-    ensures buf_after { buf.new ≡ leaves from shut ++ drop (length (leaves from shut)) buf.old }
-{
-    let mut at: usize = 0;
-    for day in 0..shut {
-        buf[at] = from + numbers::bit(day);
-        at = at + 1;
-    }
-    at
 }
 
 // How many numbers the common list has, but no more than cap.
@@ -177,7 +78,9 @@ pub fn common_count(r: Rules, n: u64, cap: usize) -> usize
     ensures { result ≡ min cap (length (common r n)) }
 {
     let k = onward::walk_by(r);
-    count(&k, n, fresh(), cap)
+    let mut list = Counting { left: cap };
+    walk(&k, n, 0, State::default(), &mut list);
+    cap - list.left
 }
 
 // Writes the common list, by ascending number, from the buffer's start, which has the room.
@@ -189,5 +92,7 @@ pub fn common_fill(r: Rules, n: u64, buf: &mut [u32]) -> usize
     ensures buf_after { buf.new ≡ common r n ++ drop (length (common r n)) buf.old }
 {
     let k = onward::walk_by(r);
-    fill(&k, n, 0, fresh(), buf)
+    let mut list = Writing { buf, found: 0 };
+    walk(&k, n, 0, State::default(), &mut list);
+    list.found
 }

@@ -4,10 +4,11 @@ ghost use Rattle.fields.specs.Sizes.{day_places};
 ghost use Rattle.fields.specs.CodeRules.{SmallRules};
 ghost use Rattle.nightlists.specs.CodeWalk.{from_two, from_one, least_gap, lost, apart_by, new_days, last_days, shut_days, new_run, lengthened};
 
-use crate::{Next, State};
+use crate::State;
 use fields::rules::Rules;
 
 // What the walk keeps: the rules, and how far before a start another run begins, at least.
+// The first start that is decided, where there is one, is on the day after those that are left.
 #[derive(Clone, Copy)]
 pub struct Walk {
     pub rules: Rules,
@@ -20,23 +21,10 @@ pub(crate) fn walk_by(r: Rules) -> Walk
     ensures rules { result.rules ≡ r }
     ensures apart { result.apart ≡ apart_by r }
 {
-    let g = least_gap(r, 1);
-    if g <= 1 {
-        return Walk { rules: r, apart: 3 };
-    }
     Walk {
         rules: r,
-        apart: 2 + g,
+        apart: (2 + least_gap(r, 1)).max(3),
     }
-}
-
-fn least(a: u64, b: u64) -> u64
-    ensures { result ≡ min a b }
-{
-    if a <= b {
-        return a;
-    }
-    b
 }
 
 fn from_two(r: Rules) -> u64
@@ -45,7 +33,7 @@ fn from_two(r: Rules) -> u64
     if r.longest <= 2 {
         return r.g2;
     }
-    least(r.g2, r.g3)
+    r.g2.min(r.g3)
 }
 
 fn from_one(r: Rules) -> u64
@@ -54,7 +42,7 @@ fn from_one(r: Rules) -> u64
     if r.longest <= 1 {
         return r.g1;
     }
-    least(r.g1, from_two(r))
+    r.g1.min(from_two(r))
 }
 
 // The least gap after a run of so many starts as it is, or with more starts.
@@ -88,13 +76,15 @@ fn is_lost(r: Rules, run: u64, dist: u64) -> bool
 // On how many of the days, from the first on, a new run begins.
 #[tactic(auto, unfolding(crate::specs::CodeWalk::new_days))]
 pub(crate) fn new_days(done: bool, apart: u64, s: State, left: u64) -> u64
+    requires next { s.first ≤ left + 1 }
+    requires some { 1 ≤ apart }
     ensures { result ≡ new_days done apart s left }
 {
     if s.first == 0 {
         return left;
     }
     if done {
-        return least(left, s.first.saturating_sub(apart));
+        return s.first.saturating_sub(apart);
     }
     0
 }
@@ -109,9 +99,9 @@ pub(crate) fn last_days(r: Rules, apart: u64, s: State, days: u64) -> u64
         return days;
     }
     if r.longest <= 1 {
-        return least(days, apart);
+        return days.min(apart);
     }
-    least(days, 2)
+    days.min(2)
 }
 
 // On how many of these, from the first on, the gap after the new run is wide enough.
@@ -123,7 +113,7 @@ pub(crate) fn shut_days(r: Rules, s: State, days: u64) -> u64
     if s.first == 0 {
         return days;
     }
-    least(days, s.first.saturating_sub(2 + r.g1))
+    days.min(s.first.saturating_sub(2 + r.g1))
 }
 
 // The state after a start there that begins a new run.
@@ -142,25 +132,23 @@ pub(crate) fn new_run(s: State, day: u64) -> State
 
 // The state after a start that lengthens the first run, or that no pattern has it.
 #[tactic(auto, unfolding(crate::specs::CodeWalk::lengthened))]
-pub(crate) fn lengthened(r: Rules, s: State, left: u64) -> Next
+pub(crate) fn lengthened(r: Rules, s: State, left: u64) -> Option<State>
     requires small_rules { SmallRules r }
     requires few { s.count < r.most }
     requires left_le_day_places { left ≤ day_places }
+    requires next { s.first ≤ left + 1 }
     ensures { result ≡ lengthened r s left }
 {
     if r.longest <= s.run {
-        return Next::Never;
+        return None;
     }
     if s.first < 3 {
-        return Next::Never;
-    }
-    if left + 2 < s.first {
-        return Next::Never;
+        return None;
     }
     if is_lost(r, s.run + 1, s.dist) {
-        return Next::Never;
+        return None;
     }
-    Next::To(State {
+    Some(State {
         first: s.first - 2,
         run: s.run + 1,
         dist: s.dist,

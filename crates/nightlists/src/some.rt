@@ -1,5 +1,5 @@
 // Whether a nurse has any pattern at all: the walk of the common list, up to the first pattern of hers with a pair of hers.
-ghost use Rattle.std.specs.Prelude.{◌≡◌, true, cond, ℕ, ◌-◌, ◌%◌, ◌^◌, ◌≤◌, ◌<◌, ltb, length};
+ghost use Rattle.std.specs.Prelude.{◌≡◌, true, cond, ℕ, ◌+◌, ◌-◌, ◌%◌, ◌^◌, ◌≤◌, ◌<◌, ltb, length};
 ghost use Rattle.numbers.specs.Range.{filter};
 ghost use Rattle.numbers.specs.Digits.{has};
 ghost use Rattle.fields.specs.Sizes.{day_places, pair_most};
@@ -9,14 +9,14 @@ ghost use Rattle.fields.specs.CodeRules.{SmallRules};
 ghost use Rattle.nights.specs.Nights.{in_common};
 ghost use Rattle.nights.specs.CodeCommon.{Among};
 ghost use Rattle.nightlists.specs.CodeWalk.{lengthened, here, apart_by, listed, Ready, hers_with_pair};
-ghost use Rattle.nightlists.specs.declared.Next.TheVariants.{Never};
 ghost use Rattle.nights.specs.Own.{pattern_list};
 ghost use Rattle.nursemasks.specs.CodeMasks.{masks_of, Masked};
 ghost use Rattle.nursemasks.specs.CodePairs.{PairsOf};
 
 use crate::onward::Walk;
-use crate::{Next, State, onward};
+use crate::{State, onward};
 use fields::rules::Rules;
+use numbers::Set;
 use nursemasks::masks::Masks;
 use nursemasks::pairs::Pairs;
 use nursemasks::{masks, pairs};
@@ -46,30 +46,29 @@ fn one_here(done: bool, from: u32, w: &[u64], m: Masks, x: Pairs) -> bool
 }
 
 // The state with the run lengthened, where she may start there.
-fn her_lengthened(r: Rules, s: State, left: u64, never: u32) -> Next
+fn her_lengthened(r: Rules, s: State, left: u64, never: u32) -> Option<State>
     requires small_rules { SmallRules r }
     requires few { s.count < r.most }
     requires left_le_day_places { left ≤ day_places }
-    ensures { result ≡ cond (has never (s.first - 3)) Never (lengthened r s left) }
+    requires next { s.first ≤ left + 1 }
+    ensures { result ≡ cond (has never (s.first - 3)) None (lengthened r s left) }
 {
-    match crate::onward::lengthened(r, s, left) {
-        Next::To(t) => {
-            if numbers::has_bit(never, t.first - 1) {
-                return Next::Never;
-            }
-            Next::To(t)
-        }
-        Next::Never => Next::Never,
+    let t = onward::lengthened(r, s, left)?;
+    if never.has((t.first - 1) as usize) {
+        return None;
     }
+    Some(t)
 }
 
 // Whether one of the patterns below is hers, with some pair.
+// No `walk`, which takes each pattern: this one leaves out the days on which she never starts, so that a form for both is no plainer.
 fn some(k: &Walk, left: u64, from: u32, s: State, w: &[u64], m: Masks, x: Pairs) -> bool
     requires ready { Ready k.now.rules left from }
     requires apart_value { k.now.apart ≡ apart_by k.now.rules }
     requires accepted { Accepted w.now }
     requires masked { Masked m × (x.count ≤ pair_most) }
     requires left_value { from % 2 ^ left ≡ 0 }
+    requires next { s.first ≤ left + 1 }
     ensures { (i : ℕ) → m ≡ masks_of (rules_of w.now) (days w.now) (block w.now i) → PairsOf w.now i x → Among (rules_of w.now) (days w.now) (listed k.now.rules left from s) → result ≡ ltb 0 (length (filter (hers_with_pair w.now i) (listed k.now.rules left from s))) }
 {
     let done = crate::is_closed(k.rules, s);
@@ -81,7 +80,7 @@ fn some(k: &Walk, left: u64, from: u32, s: State, w: &[u64], m: Masks, x: Pairs)
     }
     let days = onward::new_days(done, k.apart, s, left);
     for day in 0..days {
-        if !numbers::has_bit(m.never, day) {
+        if !m.never.has(day as usize) {
             let t = onward::new_run(s, day);
             let with = from + numbers::bit(day);
             if some(k, day, with, t, w, m, x) {
@@ -90,12 +89,12 @@ fn some(k: &Walk, left: u64, from: u32, s: State, w: &[u64], m: Masks, x: Pairs)
         }
     }
     match her_lengthened(k.rules, s, left, m.never) {
-        Next::To(t) => {
+        Some(t) => {
             let last = t.first - 1;
             let long = from + numbers::bit(last);
             some(k, last, long, t, w, m, x)
         }
-        Next::Never => false,
+        None => false,
     }
 }
 
@@ -109,5 +108,5 @@ pub fn has_pattern(w: &[u64], i: usize) -> bool
     let x = pairs::pairs_of(w, i);
     let n = fields::days(w) as u64;
     let k = onward::walk_by(fields::rules::rules_of(w));
-    some(&k, n, 0, crate::fresh(), w, m, x)
+    some(&k, n, 0, State::default(), w, m, x)
 }

@@ -11,12 +11,10 @@ use borrow.Author.Tests.{ne_eqb}
 use Rattle.numbers.specs.Range.{up_from, filter}
 use Rattle.numbers.specs.Digits.{has}
 use Rattle.numbers.proofs.RangeLaws.{range_turn, range_done}
-use Rattle.fields.specs.Fields.{days, block}
-use Rattle.fields.specs.Rules.{rules_of}
-use Rattle.rows.specs.Rows.{started, allow_table, marks_allow}
+use Rattle.rows.specs.Rows.{started, marks_allow}
 use Rattle.fields.specs.declared.rules.Rules.{Rules}
 use Rattle.nights.specs.Nights.{starts, follow, allowed, run_with, in_common}
-use Rattle.nights.specs.Hers.{shifted, through, last_duty, last_run, hers, hers_of}
+use Rattle.nights.specs.Hers.{shifted, through, last_duty, last_run, hers}
 
 -- ---- the starts that are left
 
@@ -89,7 +87,3 @@ pub hers_is : (table : List (List ℕ)) (r : Rules) (n p : ℕ) (b : List ℕ) �
     && (leb (get_or b 7 0) (length (starts n p)) && leb (length (starts n p)) (get_or b 8 0))))))
 unfolding hers in_common
 hers_is table r n p b = refl
-
--- the same of a table, rules, days and a block as calls give them
-pub hers_as : (w : List ℕ) (i p : ℕ) {table : List (List ℕ)} {r : Rules} {n : ℕ} {b : List ℕ} → table ≡ allow_table → r ≡ rules_of w → n ≡ days w → b ≡ block w i → hers table r n b p ≡ hers_of w i p
-hers_as w i p et er en eb = λ j. hers (et j) (er j) (en j) (eb j) p

@@ -145,9 +145,6 @@ module _ (r : Rules) (n : ℕ) (t : ℕ → Bool) (L : List ℕ) (h : Bool) wher
       let low = f (among_first r n A B both) in
       k (among_second r n A B both) ∙ sym (ap (λ (l : List ℕ). ltb 0 (length (filter t l))) e ∙ some_append t A B ∙ rw (sym low ∙ is))
 
-  pub some_only : (A : List ℕ) → L ≡ A → (Among r n A → h ≡ ltb 0 (length (filter t A))) → h ≡ false → Among r n L → false ≡ ltb 0 (length (filter t L))
-  some_only A e f is a = sym (ap (λ (l : List ℕ). ltb 0 (length (filter t l))) e ∙ sym (f (subst (Among r n) e a)) ∙ is)
-
 -- the walk over the whole month
 pub some_of_list : (w : List ℕ) (i : ℕ) (L : List ℕ) (h : Bool) → L ≡ common_of w
     → (Among (rules_of w) (days w) L → h ≡ ltb 0 (length (filter (hers_of w i) L))) → h ≡ ltb 0 (length (night_list w i))

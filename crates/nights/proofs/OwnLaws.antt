@@ -202,16 +202,3 @@ without_pairs w i e =
     ap (filter (own_pattern w i)) (with_pairs_none w range e)
     ∙ kept_map (own_pattern w i) (λ p. pattern p 0) range
     ∙ ap (map (λ p. pattern p 0)) (filter_same (λ p. own_pattern w i (pattern p 0)) (hers_of w i) (λ p. own_alone w i p e) range)
-
--- ---- as the code asks
-
-module _ (w : List ℕ) (i c : ℕ) {p : ℕ} {h : Bool} (days_is : p ≡ days_of c) (hers_is : h ≡ hers_of w i p) where
-  own_parts : own_pattern w i c ≡ (h && pair_fits w i p (pair_of c))
-  unfolding own_pattern
-  own_parts = sym (ap₂ (λ (b : Bool) (q : ℕ). b && pair_fits w i q (pair_of c)) (hers_is ∙ ap (hers_of w i) days_is) days_is)
-
-  pub asked_nights : h ≡ false → false ≡ own_pattern w i c
-  asked_nights e = sym (own_parts ∙ ap (λ (b : Bool). b && pair_fits w i p (pair_of c)) e)
-
-  pub asked_pair : {k : ℕ} {r : Bool} → h ≡ true → k ≡ pair_of c → r ≡ pair_fits w i p k → r ≡ own_pattern w i c
-  asked_pair e q f = f ∙ ap (pair_fits w i p) q ∙ sym (own_parts ∙ ap (λ (b : Bool). b && pair_fits w i p (pair_of c)) e)

@@ -12,6 +12,7 @@ ghost use Rattle.nights.specs.Own.{own_pattern};
 
 use fields::nurse;
 use fields::rules::Rules;
+use numbers::Set;
 
 // The day of the last start, and how many starts its run has; 0 and 0 for none.
 #[derive(Clone, Copy)]
@@ -20,16 +21,32 @@ pub struct Run {
     pub run: u64,
 }
 
-// How many starts the run of a start on day s has, after a start on day prev.
-fn run_with(prev: u64, run: u64, s: u64) -> u64
-    requires { (prev ≤ 100) × (run ≤ 100) }
-    ensures value { result ≡ run_with prev run s }
-    ensures upper_bound { result ≤ run + 1 }
-{
-    if s == prev + 2 {
-        return run + 1;
+impl Run {
+    // The run that a start on day s is in, after this one.
+    fn with(self, s: u64) -> Run
+        requires { (self.prev ≤ 100) × (self.run ≤ 100) }
+        ensures value { (result.prev ≡ s) × (result.run ≡ run_with self.prev self.run s) }
+        ensures upper_bound { result.run ≤ self.run + 1 }
+    {
+        let run = if s == self.prev + 2 { self.run + 1 } else { 1 };
+        Run { prev: s, run }
     }
-    1
+
+    // Whether a start on day s may follow it.
+    fn allows(self, r: Rules, s: u64) -> bool
+        requires small_rules { SmallRules r }
+        requires prev_bound { (self.prev ≤ 100) × (self.run ≤ 100) }
+        ensures { result ≡ allowed r self.prev self.run s }
+    {
+        if self.run == 0 {
+            return true;
+        }
+        if s == self.prev + 2 {
+            return self.run + 1 <= r.longest;
+        }
+        let g = fields::rules::gap_after(r, self.run);
+        self.prev + 2 + g <= s
+    }
 }
 
 // The run that the seven days end with, the oldest being day 1.
@@ -38,34 +55,13 @@ pub fn last_run(b: &[u64]) -> Run
     ensures prev_value { (result.prev ≡ (last_run b.now).0) × (result.run ≡ (last_run b.now).1) }
     ensures prev_bound { (result.prev ≤ 7) × (result.run ≤ 7) }
 {
-    let mut prev: u64 = 0;
-    let mut run: u64 = 0;
-    let mut day: u64 = 0;
-    let mut i: usize = 0;
-    while i < 7 {
-        day += 1;
+    let mut last = Run { prev: 0, run: 0 };
+    for i in 0..7usize {
         if nurse::duty(b, i) == 2 {
-            run = run_with(prev, run, day);
-            prev = day;
+            last = last.with(i as u64 + 1);
         }
-        i += 1;
     }
-    Run { prev, run }
-}
-
-fn is_allowed(r: Rules, prev: u64, run: u64, s: u64) -> bool
-    requires small_rules { SmallRules r }
-    requires prev_bound { (prev ≤ 100) × (run ≤ 100) }
-    ensures { result ≡ allowed r prev run s }
-{
-    if run == 0 {
-        return true;
-    }
-    if s == prev + 2 {
-        return run + 1 <= r.longest;
-    }
-    let g = fields::rules::gap_after(r, run);
-    prev + 2 + g <= s
+    last
 }
 
 // Whether the starts of p, each `off` days on, follow the run that ends at `from`.
@@ -74,20 +70,15 @@ pub fn keeps(r: Rules, from: Run, off: u64, n: u64, p: u32) -> bool
     requires n_le_day_places { (n ≤ day_places) × (off ≤ 7) × (from.prev ≤ 7) × (from.run ≤ 7) }
     ensures { result ≡ follow r from.prev from.run (shifted off (starts n p)) }
 {
-    let mut prev = from.prev;
-    let mut run = from.run;
-    let mut day: u64 = 0;
-    while day < n {
-        if numbers::has_bit(p, day) {
+    let mut last = from;
+    for day in 0..n {
+        if p.has(day as usize) {
             let s = day + 1 + off;
-            if is_allowed(r, prev, run, s) {
-                run = run_with(prev, run, s);
-                prev = s;
-            } else {
+            if !last.allows(r, s) {
                 return false;
             }
+            last = last.with(s);
         }
-        day += 1;
     }
     true
 }
@@ -100,44 +91,25 @@ fn marks_allow(table: &[[u8; 4]; 7], b: &[u64], n: u64, p: u32) -> bool
 {
     let days = n as usize;
     let states = rows::states(b, days, p);
-    let mut d: usize = 0;
-    while d < days {
-        let mark = nurse::mark(b, d) as usize;
-        if rows::mark_allows(table, mark, states[d]) {
-            d += 1;
-        } else {
-            return false;
-        }
-    }
-    true
+    (0..days).all(|d| rows::mark_allows(table, nurse::mark(b, d) as usize, states[d]))
 }
 
 // Whether p is in the list of the nurse with block b.
+#[tactic(auto, using(crate::proofs::StartLaws::count_starts, crate::proofs::HersLaws::shifted_zero), unfolding(crate::specs::Hers::hers, crate::specs::Nights::in_common))]
 fn is_hers_by(table: &[[u8; 4]; 7], r: Rules, n: u64, b: &[u64], p: u32) -> bool
     requires small_rules { SmallRules r }
     requires n_le_day_places { n ≤ day_places }
     requires block { Block b.now n }
     ensures { result ≡ hers table.now r n b.now p }
 {
-    if numbers::bit(n) <= p {
-        return false;
-    }
-    let k = numbers::ones(p);
-    if r.most < k {
-        return false;
-    }
-    if k < nurse::least_nights(b) {
-        return false;
-    }
-    if nurse::most_nights(b) < k {
-        return false;
-    }
-    if keeps(r, Run { prev: 0, run: 0 }, 0, n, p) {
-        if keeps(r, last_run(b), 7, n, p) {
-            return marks_allow(table, b, n, p);
-        }
-    }
-    false
+    let k = p.ones();
+    p < numbers::bit(n)
+        && k <= r.most
+        && nurse::least_nights(b) <= k
+        && k <= nurse::most_nights(b)
+        && keeps(r, Run { prev: 0, run: 0 }, 0, n, p)
+        && keeps(r, last_run(b), 7, n, p)
+        && marks_allow(table, b, n, p)
 }
 
 // Whether p is in nurse i's list.
@@ -158,14 +130,12 @@ pub fn is_hers(w: &[u64], i: usize, p: u32) -> bool
 }
 
 // Whether c is one of nurse i's own patterns.
+#[tactic(auto, unfolding(crate::specs::Own::own_pattern))]
 pub fn is_own(w: &[u64], i: usize, c: u64) -> bool
     requires accepted { Accepted w.now }
     requires i_bound { i < nurses w.now }
     ensures { result ≡ own_pattern w.now i c }
 {
     let p = numbers::pattern::days_of(c);
-    if is_hers(w, i, p) {
-        return rows::pairs::pair_fits(w, i, p, numbers::pattern::pair_of(c) as usize);
-    }
-    false
+    is_hers(w, i, p) && rows::pairs::pair_fits(w, i, p, numbers::pattern::pair_of(c) as usize)
 }

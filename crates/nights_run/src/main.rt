@@ -8,16 +8,11 @@ ghost use Rattle.fields.specs.Fields.{Accepted, nurses};
 ghost use Rattle.fields.specs.CodeRules.{SmallRules};
 
 use fields::rules::Rules;
-use refusals::Answer;
 use std::io;
 use std::io::{Read, Write};
 
 // A longer file is read up to here.
 const INPUT_MOST: u64 = 4096;
-
-fn wide(x: u32) -> u64 {
-    x as u64
-}
 
 // Writes the common list where the buffer holds it, and answers how many numbers it has; where the buffer is too short, one
 // more than its places.
@@ -40,20 +35,9 @@ fn show_list<W: Write>(out: &mut W, r: Rules, n: u64, buf: &mut [u32]) -> io::Re
     requires n_le_day_places { n ≤ day_places }
 {
     let found = list(r, n, buf);
-    let mut first: u64 = 0;
-    let mut last: u64 = 0;
-    let mut kept: u64 = 0;
-    for k in 0..buf.len() {
-        let x = wide(buf[k]);
-        if k == 0 {
-            first = x;
-        }
-        if x == 7 {
-            kept = kept.wrapping_add(1);
-        } else {
-            last = x;
-        }
-    }
+    let first = buf.first().copied().unwrap_or(0);
+    let last = buf.iter().copied().filter(|x| *x != 7).last().unwrap_or(0);
+    let kept = buf.iter().filter(|x| **x == 7).count();
     writeln!(out, " {found} {first} {last} {kept}")?;
     Ok(found)
 }
@@ -82,7 +66,7 @@ fn show_thirty<W: Write>(out: &mut W) -> io::Result<()> {
 }
 
 // How many of the list are nurse i's by the fast test, and of how many the plain one says otherwise.
-#[derive(Clone, Copy)]
+#[derive(Clone, Copy, Default)]
 pub struct Own {
     pub count: u64,
     pub differ: u64,
@@ -93,30 +77,22 @@ fn compare(w: &[u64], i: usize, list: &[u32]) -> Own
     requires i_bound { i < nurses w.now }
 {
     let m = nursemasks::masks::masks_of(w, i);
-    let mut count: u64 = 0;
-    let mut differ: u64 = 0;
-    for k in 0..list.len() {
-        let p = list[k];
-        let fast = nursemasks::masks::passes(w, m, p);
-        if fast {
-            count = count.wrapping_add(1);
-        }
-        if fast != nights::is_hers(w, i, p) {
-            differ = differ.wrapping_add(1);
-        }
+    let mut own = Own::default();
+    for p in list {
+        let fast = nursemasks::masks::passes(w, m, *p);
+        let differs = fast != nights::is_hers(w, i, *p);
+        own.count = own.count.wrapping_add(u64::from(fast));
+        own.differ = own.differ.wrapping_add(u64::from(differs));
     }
-    Own { count, differ }
+    own
 }
 
 fn show_nurse<W: Write>(out: &mut W, w: &[u64], i: usize, list: &[u32]) -> io::Result<()>
     requires accepted { Accepted w.now }
     requires i_bound { i < nurses w.now }
 {
-    let o = compare(w, i, list);
-    let nurse = (i as u64).wrapping_add(1);
-    let count = o.count;
-    let differ = o.differ;
-    write!(out, "nurse {nurse} {count} {differ}")?;
+    let own = compare(w, i, list);
+    write!(out, "nurse {} {} {}", i + 1, own.count, own.differ)?;
     if nightlists::some::has_pattern(w, i) {
         write!(out, " some")?;
     }
@@ -126,8 +102,7 @@ fn show_nurse<W: Write>(out: &mut W, w: &[u64], i: usize, list: &[u32]) -> io::R
 fn show_nurses<W: Write>(out: &mut W, w: &[u64], list: &[u32]) -> io::Result<()>
     requires { Accepted w.now }
 {
-    let m = fields::nurses(w);
-    for i in 0..m {
+    for i in 0..fields::nurses(w) {
         show_nurse(out, w, i, list)?;
     }
     Ok(())
@@ -147,16 +122,9 @@ fn show_ward<W: Write>(out: &mut W, w: &[u64]) -> io::Result<()>
 }
 
 fn show_file<W: Write>(out: &mut W, file: &[u8]) -> io::Result<()> {
-    let reading = ward::read(file);
-    let answer = reading.answer;
-    let numbers = reading.ward.numbers;
-    let count = reading.ward.count;
-    match answer {
-        Answer::Yes => show_ward(out, fields::body(&numbers[..count])),
-        Answer::No(n) => {
-            let question = n.question;
-            write!(out, " {question}")
-        }
+    match ward::read(file) {
+        Ok(ward) => show_ward(out, fields::body(&ward.numbers[..ward.count])),
+        Err(refusal) => write!(out, " {}", refusal.question()),
     }
 }
 

@@ -9,3 +9,4 @@ pub mod HalfLaws
 pub mod CopyLaws
 pub mod PatternLaws
 pub mod MemberLaws
+pub mod IterLaws

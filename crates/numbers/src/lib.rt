@@ -3,30 +3,62 @@
 
 pub mod pattern;
 
-ghost use Rattle.std.specs.Prelude.{◌≡◌, ◌&&◌, ℕ, ◌^◌, ◌<◌, ◌≤◌};
+ghost use Rattle.std.specs.Prelude.{◌≡◌, Bool, cond, ◌&&◌, ℕ, ◌+◌, ◌^◌, ◌<◌, ◌≤◌};
 ghost use Rattle.numbers.specs.Sum.{count_to, one_if, Is};
-ghost use Rattle.numbers.specs.Digits.{has, put};
+ghost use Rattle.numbers.specs.Digits.{has, put, number_of};
+
+// A set as one number: i is in it where digit i is set.
+pub trait Set: Copy {
+    ghost number: { Self → ℕ };
+
+    // How many digits there are.
+    ghost places: { ℕ };
+
+    // Whether i is in the set.
+    fn has(self, i: usize) -> bool
+        requires { i < places }
+        ensures { result ≡ has (number self) i };
+
+    // How many are in the set.
+    fn ones(self) -> u64
+        ensures by_index { (n : ℕ) → number self < 2 ^ n → result ≡ count_to n (has (number self)) }
+        ensures upper_bound { result ≤ places };
+}
+
+impl Set for u32 {
+    ghost number = { λ x. x };
+
+    ghost places = { 32 };
+
+    fn has(self, i: usize) -> bool {
+        u64::from(self).has(i)
+    }
+
+    #[tactic(auto, using(crate::proofs::DigitLaws::ones_count))]
+    fn ones(self) -> u64 {
+        u64::from(self.count_ones())
+    }
+}
+
+impl Set for u64 {
+    ghost number = { λ x. x };
+
+    ghost places = { 64 };
+
+    fn has(self, i: usize) -> bool {
+        (self >> i) % 2 == 1
+    }
+
+    #[tactic(auto, using(crate::proofs::DigitLaws::ones_count))]
+    fn ones(self) -> u64 {
+        self.count_ones() as u64
+    }
+}
 
 pub fn one_if(b: bool) -> u64
     ensures { (result ≡ one_if b) × (result ≤ 1) }
 {
-    if b { 1 } else { 0 }
-}
-
-// Whether i is in the set.
-pub fn has_bit(set: u32, i: u64) -> bool
-    requires { i < 32 }
-    ensures { result ≡ has set i }
-{
-    (set >> i) % 2 == 1
-}
-
-// Whether i is in the column.
-pub fn is_in(column: u64, i: usize) -> bool
-    requires { i < 64 }
-    ensures { result ≡ has column i }
-{
-    (column >> i) % 2 == 1
+    u64::from(b)
 }
 
 // The set of i alone.
@@ -37,19 +69,34 @@ pub fn bit(i: u64) -> u32
     1u32 << i
 }
 
-// How many are in the set.
-pub fn ones(set: u32) -> u64
-    ensures by_index { (n : ℕ) → set < 2 ^ n → result ≡ count_to n (has set) }
-    ensures upper_bound { result ≤ 32 }
+// The set with i put in or not, where all others are below i.
+fn with_next(set: u64, i: usize, on: bool) -> u64
+    requires { (i < 63) × (set < 2 ^ i) }
+    ensures is { result ≡ set + cond on (2 ^ i) 0 }
+    ensures below { result < 2 ^ (i + 1) }
 {
-    u32::count_ones(set) as u64
+    if on { set + (1u64 << i) } else { set }
+}
+
+// The set of the numbers below n that pass the test.
+pub fn set_of<F: Fn(usize) -> bool>(n: usize, test: F) -> u64
+    requires few { n ≤ 63 }
+    requires callable { (i : ℕ) → i < n → F.pre test i }
+    ensures set { (t : ℕ → Bool) → ((i : ℕ) (b : Bool) → i < n → F.post test i b → b ≡ t i) → result ≡ number_of t n }
+    ensures below { result < 2 ^ n }
+{
+    let mut set: u64 = 0;
+    for i in 0..n {
+        set = with_next(set, i, test(i));
+    }
+    set
 }
 
 // How many are in the column.
 pub fn on_duty(column: u64) -> u64
     ensures { Is result (count_to 64 (has column)) 64 }
 {
-    u64::count_ones(column) as u64
+    column.ones()
 }
 
 // How many are in both the column and the group.

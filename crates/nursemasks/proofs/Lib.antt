@@ -1,3 +1,4 @@
 pub mod MaskLaws
 pub mod NearLaws
 pub mod PairMaskLaws
+pub mod WithinLaws

@@ -1,6 +1,6 @@
 -- The masks' meaning: which days bar a row, which are available under it, and when last month's run does not matter.
 use mathlib.Core.Path.{◌≡◌, refl, sym, ap, ap₂, ◌∙◌, subst}
-use mathlib.Core.Bool.{Bool, true, false, cond, not, ◌&&◌, ◌||◌, and-false, and_comm}
+use mathlib.Core.Bool.{Bool, true, false, cond, not, ◌&&◌, ◌||◌, and-false, or-false, and_comm}
 use mathlib.Core.List.{List}
 use Prim.Native.Nat.{ℕ, zero, suc, ◌+◌, ◌-◌, ◌*◌, ◌/◌, ◌^◌, ◌≤◌, ◌<◌, suc-le-suc}
 use native.Mathlib.Nat.{add-zero, lt_of_le_of_lt}
@@ -17,11 +17,10 @@ use Rattle.numbers.specs.Range.{up_from}
 use Rattle.numbers.specs.Sum.{one_if}
 use Rattle.numbers.specs.Digits.{has, number_of}
 use Rattle.numbers.proofs.RangeLaws.{all_at, all_range, length_range, range_at}
-use Rattle.numbers.proofs.DigitLaws.{number_lt, number_has, number_suc, number_zero}
+use Rattle.numbers.proofs.DigitLaws.{number_lt, number_has}
 use Rattle.numbers.proofs.SetLaws.{has_and, has_or, has_not, has_first, has_moved, has_back, has_above, none_zero}
-use Rattle.fields.specs.Fields.{days, block, duty, least_nights_of, most_nights_of, mark_on}
-use Rattle.fields.specs.Rules.{rules_of}
-use Rattle.rows.specs.Rows.{state_after, day_zero, row_state, allow_table, allows, marks_allow, available, available_on}
+use Rattle.fields.specs.Fields.{duty, least_nights_of, most_nights_of, mark_on}
+use Rattle.rows.specs.Rows.{state_after, day_zero, row_state, allow_table, allows, marks_allow, available_on}
 use Rattle.fields.specs.declared.rules.Rules.{Rules}
 use Rattle.nights.specs.declared.Run.{Run}
 use Rattle.nursemasks.specs.declared.masks.Bars.{Bars}
@@ -32,39 +31,16 @@ use Rattle.nights.specs.Nights.{in_common}
 use Rattle.nights.specs.Hers.{last_run}
 use Rattle.nights.proofs.FollowLaws.{common_apart}
 
--- ---- the loops that make a set of days
-
-pub set_start : (t : ℕ → Bool) → t 0 ≡ false → 0 ≡ number_of t (0 + 1)
-set_start t e = sym (number_suc t 0 ∙ rw (e, number_zero t))
-
-pub set_turn : (t : ℕ → Bool) (d s x : ℕ) → s ≡ number_of t (d + 1) → x ≡ cond (t (suc d)) (2 ^ (d + 1)) 0 → s + x ≡ number_of t (d + 1 + 1)
-set_turn t d s x e h = rw (e, h) (sym (number_suc t (d + 1) ∙ ap (λ (k : ℕ). number_of t (d + 1) + cond (t k) (2 ^ (d + 1)) 0) (add-one d)))
-
--- a day's part of the set of the days that bar a state, and of the workable days
-pub barred_day : (table : List (List ℕ)) (b : List ℕ) (state d : ℕ) {mark x : ℕ} {ok : Bool} → mark ≡ mark_on b (suc d) → ok ≡ allows table mark state → x ≡ cond (not ok) (2 ^ (d + 1)) 0
-    → x ≡ cond (barred table b state (suc d)) (2 ^ (d + 1)) 0
-barred_day table b state d em eo ex = ex ∙ ap (λ (v : Bool). cond (not v) (2 ^ (d + 1)) 0) (eo ∙ ap (λ (m : ℕ). allows table m state) em)
-
-pub workable_day : (b : List ℕ) (d : ℕ) {mark x : ℕ} {ok : Bool} → mark ≡ mark_on b (suc d) → ok ≡ available mark 0 → x ≡ cond ok (2 ^ (d + 1)) 0
-    → x ≡ cond (workable b (suc d)) (2 ^ (d + 1)) 0
-workable_day b d em eo ex = ex ∙ ap (λ (v : Bool). cond v (2 ^ (d + 1)) 0) (eo ∙ ap (λ (m : ℕ). available m 0) em)
+-- ---- the sets of days
 
 pub set_small : (t : ℕ → Bool) (n : ℕ) → n ≤ day_places → number_of t (suc n) < 2 ^ 32
 set_small t n h = omega (arith, number_lt t (suc n), pow_mono {i = suc n} {j = 32} (omega arith))
-
-pub set_next : (t : ℕ → Bool) (d : ℕ) → d < day_places → number_of t (d + 1 + 1) < 2 ^ 32
-set_next t d h = omega (arith, number_lt t (d + 1 + 1), pow_mono {i = d + 1 + 1} {j = 32} (omega arith))
 
 pub set_has : (t : ℕ → Bool) (n d : ℕ) → d < suc n → has (number_of t (suc n)) d ≡ t d
 set_has t n d h = number_has t (suc n) d h
 
 pub set_above : (t : ℕ → Bool) (n d : ℕ) → suc n ≤ d → has (number_of t (suc n)) d ≡ false
 set_above t n d h = has_above (suc n) (number_of t (suc n)) d (number_lt t (suc n)) h
-
-pub set_done : (t : ℕ → Bool) (n d s : ℕ) → s ≡ number_of t (d + 1) → d ≤ n → n ≤ d → s ≡ number_of t (suc n)
-set_done t n d s e l h =
-    let same : d + 1 ≡ suc n = omega arith in
-    e ∙ ap (λ (k : ℕ). number_of t k) same
 
 -- ---- the row as three sets
 
@@ -189,12 +165,6 @@ module _ (b : List ℕ) (p : ℕ) (small : p < 2 ^ 32) where
       ∙ sym (after_rest (row_state b p d) (has p d))
 
 -- what a mask leaves is small
-pub masked_twice : (y z : ℕ) → y < 2 ^ 60 → bit_and y z * 2 < 2 ^ 64
-masked_twice y z h = omega (arith, and_le_l y z)
-
-pub masked_half : (y z : ℕ) → y < 2 ^ 32 → bit_and y z / 2 < 2 ^ 32
-masked_half y z h = omega (arith, and_le_l y z)
-
 masked_small : (y z : ℕ) → bit_and y ((2 ^ 64 - 1) - z) < 2 ^ 64
 masked_small y z = omega (arith, and_le_r y ((2 ^ 64 - 1) - z))
 
@@ -241,14 +211,10 @@ open_is (suc (suc zero)) h = refl
 open_is (suc (suc (suc zero))) h = refl
 open_is (suc (suc (suc (suc s)))) h = absurd (omega arith)
 
-or_none : (u : Bool) → (u || false) ≡ u
-or_none true = refl
-or_none false = refl
-
 pick : (s : ℕ) (u : ℕ → Bool) → s < 4 → ((((eqb s 0 && u 0) || (eqb s 1 && u 1)) || (eqb s 2 && u 2)) || (eqb s 3 && u 3)) ≡ u s
-pick zero u h = or_none ((u 0 || false) || false) ∙ or_none (u 0 || false) ∙ or_none (u 0)
-pick (suc zero) u h = or_none (u 1 || false) ∙ or_none (u 1)
-pick (suc (suc zero)) u h = or_none (u 2)
+pick zero u h = or-false ((u 0 || false) || false) ∙ or-false (u 0 || false) ∙ or-false (u 0)
+pick (suc zero) u h = or-false (u 1 || false) ∙ or-false (u 1)
+pick (suc (suc zero)) u h = or-false (u 2)
 pick (suc (suc (suc zero))) u h = refl
 pick (suc (suc (suc (suc s)))) u h = absurd (omega arith)
 
@@ -457,8 +423,3 @@ module _ (table : List (List ℕ)) (r : Rules) (n : ℕ) (b : List ℕ) (bs : Ba
     prev = h;
     run = k;
   }
-
--- the masks of a table, rules, days and a block as calls give them
-pub masks_as : (w : List ℕ) (i : ℕ) {table : List (List ℕ)} {r : Rules} {n : ℕ} {b : List ℕ} → table ≡ allow_table → r ≡ rules_of w → n ≡ days w → b ≡ block w i
-    → masks_by table r n b ≡ masks_of (rules_of w) (days w) (block w i)
-masks_as w i et er en eb = λ j. masks_by (et j) (er j) (en j) (eb j)

@@ -134,14 +134,6 @@ pub common_follows : (r : Rules) (n p : ℕ) → in_common r n p ≡ true → fo
 unfolding in_common
 common_follows r n p e = (and_parts (leb (length (starts n p)) r.most) (follow r 0 0 (starts n p)) e).1
 
--- ---- how many days are near
-
-pub near_none : (r : Rules) (prev run : ℕ) → run ≡ 0 → 0 ≡ near r prev run
-near_none r prev run e = rw e
-
-pub near_some : (r : Rules) (prev run g : ℕ) → (run ≡ 0 → ⊥) → g ≡ gap r run → prev + g - 5 ≡ near r prev run
-near_some r prev run g f e = rw (ne_eqb run 0 f, e)
-
 -- ---- the ways out of the fast test
 
 module _ (r : Rules) (n p : ℕ) (b : List ℕ) (m : Masks) (is : m ≡ masks_of r n b) (small : p < 2 ^ n) (known : in_common r n p ≡ true) where

@@ -1,31 +1,26 @@
 -- A nurse's pairs by masks: the N and n days under a pattern, the days of her pairs, and when one of them fits.
-use mathlib.Core.Path.{◌≡◌, refl, sym, ap, ap₂, ◌∙◌, subst}
+use mathlib.Core.Path.{◌≡◌, refl, sym, ap, ap₂, ◌∙◌}
 use mathlib.Core.Bool.{Bool, true, false, not, ◌&&◌, ◌||◌, and-true, and-false, false≢true}
 use mathlib.Core.List.{List}
-use Prim.Native.Nat.{ℕ, zero, suc, ◌+◌, ◌-◌, ◌/◌, ◌%◌, ◌^◌, ◌≤◌, ◌<◌}
+use Prim.Native.Nat.{ℕ, zero, suc, ◌-◌, ◌/◌, ◌%◌, ◌^◌, ◌≤◌, ◌<◌}
 use native.Mathlib.Nat.{lt_of_le_of_lt}
 use native.Mathlib.Omega.{arith}
-use native.Mathlib.Decide.{dec_lt}
 use borrow.Author.Tests.{eqb-true, eq-eqb, ne_eqb}
 use lib.Bits.{bit_and, bit_or, and_le_l}
 use lib.Dec.{eqb, eqb-suc-suc}
-use lib.ListN.{length, get_or, set, length-set}
-use lib.Seq.{get_or-set_same, get_or-set_other}
-use Rattle.numbers.specs.Range.{up_from, any_of}
+use Rattle.numbers.specs.Range.{any_of}
 use Rattle.numbers.specs.Digits.{has}
-use Rattle.numbers.proofs.RangeLaws.{range_next, range_done, and_parts}
+use Rattle.numbers.proofs.RangeLaws.{and_parts}
 use Rattle.numbers.proofs.DigitLaws.{low_digit}
 use Rattle.numbers.proofs.SetLaws.{has_and, has_or, has_back, has_above, none_zero}
-use Rattle.fields.specs.Sizes.{pair_most}
 use Rattle.fields.specs.Fields.{Accepted, block, mark_on, pair_count, pair_day}
 use Rattle.rows.specs.Rows.{row_state}
 use Rattle.rows.specs.Pairs.{pair_numbers, in_pair, rest_mark, at_rest_on, pair_fits}
 use Rattle.rows.proofs.PairLaws.{in_pair_lem, fits_none, fits_pair}
-use Rattle.nights.proofs.OwnLaws.{pair_numbers_none, pair_numbers_some}
+use Rattle.nights.proofs.OwnLaws.{pair_numbers_none}
 use Rattle.nursemasks.specs.declared.masks.Row.{Row}
-use Rattle.nursemasks.specs.declared.pairs.Pairs.{Pairs}
 use Rattle.nursemasks.specs.CodeMasks.{RowOf}
-use Rattle.nursemasks.specs.CodePairs.{marks_rest, PairDays, PairsOf, BusyDays}
+use Rattle.nursemasks.specs.CodePairs.{marks_rest, PairDays, BusyDays}
 use Rattle.nursemasks.proofs.MaskLaws.{row_small}
 
 -- ---- the N and n days
@@ -72,31 +67,6 @@ module _ (w : List ℕ) (i k : ℕ) {b : List ℕ} {second : ℕ} (eb : b ≡ bl
       pub days_both : (x : ℕ) → r2 ≡ true → ((d : ℕ) → has x d ≡ in_pair w k (suc d)) → PairDays w i k x
       unfolding PairDays
       days_both x q each d = each d ∙ sym (ap (λ (v : Bool). in_pair w k (suc d) && v) (marks_are ∙ q) ∙ and-true (in_pair w k (suc d)))
-
--- ---- the loop over the pairs
-
--- the first k of them are there
-pub record PairsTo (w : List ℕ) (i count : ℕ) (days : List ℕ) (k : ℕ) : Type 0 where
-  pub most : k ≤ count
-  pub long : length days ≡ suc pair_most
-  pub each : (j : ℕ) → 1 ≤ j → j ≤ k → PairDays w i j (get_or days j 0)
-
-pub pairs_start : (w : List ℕ) (i count : ℕ) (days : List ℕ) → length days ≡ suc pair_most → PairsTo w i count days 0
-pairs_start w i count days e = record { most = omega arith; long = e; each = λ j l h. absurd (omega arith) }
-
-pub pairs_turn : (w : List ℕ) (i count : ℕ) (days : List ℕ) (k x : ℕ) → PairsTo w i count days k → k < count → count ≤ pair_most → PairDays w i (k + 1) x
-    → PairsTo w i count (set days (k + 1) x) (k + 1)
-pairs_turn w i count days k x before more few new = record { most = omega arith; long = length-set days (k + 1) x ∙ before.long; each = λ j l h. go j l h (dec_lt j (k + 1)) }
-  where
-    go : (j : ℕ) → 1 ≤ j → j ≤ k + 1 → Dec (j < k + 1) → PairDays w i j (get_or (set days (k + 1) x) j 0)
-    go j l h (yes q) = subst (PairDays w i j) (sym (get_or-set_other days (k + 1) j x 0 (λ e. omega arith))) (before.each j l (omega arith))
-    go j l h (no q) =
-        let e : k + 1 ≡ j = omega arith in
-        subst (λ (n : ℕ). PairDays w i n (get_or (set days (k + 1) x) n 0)) e (subst (PairDays w i (k + 1)) (sym (get_or-set_same days (k + 1) x 0 (omega (arith, before.long)))) new)
-
-pub pairs_end : (w : List ℕ) (i : ℕ) {count k : ℕ} {days : List ℕ} → PairsTo w i count days k → count ≤ k → count ≡ pair_count w → count ≤ pair_most
-    → PairsOf w i (record { count = count; days = days })
-pairs_end w i all done e most = record { count_is = e; count_most = most; days_are = λ j l h. all.each j l (omega arith) }
 
 -- ---- whether a pair fits
 
@@ -251,48 +221,3 @@ fitting_days w i p k x l h each fit d =
 pub any_none : (w : List ℕ) (i p : ℕ) → pair_count w ≡ 0 → true ≡ any_of (pair_fits w i p) (pair_numbers w)
 unfolding any_of
 any_none w i p e = rw (pair_numbers_none w e, fits_none w i p, eq-eqb (pair_count w) 0 e)
-
--- what the loop knows before pair k: one of all fits where one from k on does
-pub record FromPair (x : Pairs) (busy k : ℕ) : Type 0 where
-  pub some : 1 ≤ k
-  pub most : k ≤ suc x.count
-  pub left : (w : List ℕ) (i p : ℕ) → Accepted w → PairsOf w i x → BusyDays (block w i) p busy
-      → any_of (pair_fits w i p) (pair_numbers w) ≡ any_of (pair_fits w i p) (up_from k (suc x.count - k))
-
-pub from_first : (x : Pairs) (busy : ℕ) → (x.count ≡ 0 → ⊥) → FromPair x busy 1
-from_first x busy f = record {
-  some = omega arith;
-  most = omega arith;
-  left = λ w i p ok of b.
-      let all : pair_count w ≡ suc x.count - 1 = omega (arith, of.count_is) in
-      ap (any_of (pair_fits w i p)) (pair_numbers_some w (λ z. f (of.count_is ∙ z))) ∙ ap (λ (n : ℕ). any_of (pair_fits w i p) (up_from 1 n)) all;
-}
-
-module _ (x : Pairs) (busy k : ℕ) (from : FromPair x busy k) where
-  any_turn : (w : List ℕ) (i p : ℕ) → Accepted w → PairsOf w i x → BusyDays (block w i) p busy → k ≤ x.count
-      → any_of (pair_fits w i p) (pair_numbers w) ≡ (pair_fits w i p k || any_of (pair_fits w i p) (up_from (k + 1) (suc x.count - (k + 1))))
-  unfolding any_of
-  any_turn w i p ok of b l = from.left w i p ok of b ∙ ap (any_of (pair_fits w i p)) (range_next k (k + 1) (suc x.count) k (omega arith) (omega arith))
-
-  -- the answer of the pair looked at
-  module _ {r : Bool} (is : (w : List ℕ) (i p n : ℕ) → Accepted w → 1 ≤ n → n ≤ pair_count w → BusyDays (block w i) p busy → PairDays w i n (get_or x.days k 0) → r ≡ pair_fits w i p n) (l : k ≤ x.count) where
-    looked : (w : List ℕ) (i p : ℕ) → Accepted w → PairsOf w i x → BusyDays (block w i) p busy → r ≡ pair_fits w i p k
-    looked w i p ok of b =
-        let here : k ≤ pair_count w = omega (arith, of.count_is) in
-        is w i p k ok from.some here b (of.days_are k from.some here)
-
-    pub any_found : r ≡ true → (w : List ℕ) (i p : ℕ) → Accepted w → PairsOf w i x → BusyDays (block w i) p busy → true ≡ any_of (pair_fits w i p) (pair_numbers w)
-    any_found q w i p ok of b =
-        sym (any_turn w i p ok of b l ∙ ap (λ (v : Bool). v || any_of (pair_fits w i p) (up_from (k + 1) (suc x.count - (k + 1)))) (sym (looked w i p ok of b) ∙ q))
-
-    pub from_next : r ≡ false → FromPair x busy (k + 1)
-    from_next q = record {
-      some = omega arith;
-      most = omega arith;
-      left = λ w i p ok of b.
-          any_turn w i p ok of b l ∙ ap (λ (v : Bool). v || any_of (pair_fits w i p) (up_from (k + 1) (suc x.count - (k + 1)))) (sym (looked w i p ok of b) ∙ q);
-    }
-
-  pub any_never : x.count < k → (w : List ℕ) (i p : ℕ) → Accepted w → PairsOf w i x → BusyDays (block w i) p busy → false ≡ any_of (pair_fits w i p) (pair_numbers w)
-  unfolding any_of
-  any_never l w i p ok of b = sym (from.left w i p ok of b ∙ ap (any_of (pair_fits w i p)) (range_done k (suc x.count) k l))

@@ -17,6 +17,7 @@ ghost use Rattle.nursemasks.specs.CodeMasks.{barred, workable, near, bars_of, ma
 use fields::nurse;
 use fields::rules::Rules;
 use nights::Run;
+use numbers::Set;
 
 // The days whose marks bar O, N, n and R.
 #[derive(Clone, Copy)]
@@ -45,57 +46,31 @@ pub struct Masks {
     pub most: u64,
 }
 
-// The day's set, or none.
-fn day_if(on: bool, day: u64) -> u64
-    requires { day < 32 }
-    ensures { result ≡ cond on (2 ^ day) 0 }
-{
-    if on {
-        return wide(numbers::bit(day));
-    }
-    0
-}
-
-fn wide(x: u32) -> u64
-    ensures { result ≡ x }
-{
-    x as u64
-}
-
 // The days of the month whose marks bar a state.
-fn barred_days(table: &[[u8; 4]; 7], b: &[u64], n: u64, state: usize) -> u64
+fn barred_days(table: &[[u8; 4]; 7], b: &[u64], n: usize, state: usize) -> u64
     requires n_le_day_places { n ≤ day_places }
     requires block { Block b.now n }
     requires state_bound { state < 4 }
     ensures { result ≡ number_of (barred table.now b.now state) (suc n) }
 {
-    let mut set: u64 = 0;
-    let mut day: u64 = 0;
-    while day < n {
-        let mark = nurse::mark(b, day as usize) as usize;
-        day += 1;
-        set += day_if(!rows::mark_allows(table, mark, state), day);
-    }
-    set
+    numbers::set_of(n + 1, |day| {
+        day > 0 && !rows::mark_allows(table, nurse::mark(b, day - 1) as usize, state)
+    })
 }
 
 // The days of the month whose marks let her work them where they are open.
-fn workable_days(b: &[u64], n: u64) -> u64
+fn workable_days(b: &[u64], n: usize) -> u64
     requires n_le_day_places { n ≤ day_places }
     requires block { Block b.now n }
     ensures { result ≡ number_of (workable b.now) (suc n) }
 {
-    let mut set: u64 = 0;
-    let mut day: u64 = 0;
-    while day < n {
-        let mark = nurse::mark(b, day as usize);
-        day += 1;
-        set += day_if(rows::is_available(mark, 0), day);
-    }
-    set
+    numbers::set_of(
+        n + 1,
+        |day| day > 0 && rows::is_available(nurse::mark(b, day - 1), 0),
+    )
 }
 
-fn bars_of(table: &[[u8; 4]; 7], b: &[u64], n: u64) -> Bars
+fn bars_of(table: &[[u8; 4]; 7], b: &[u64], n: usize) -> Bars
     requires n_le_day_places { n ≤ day_places }
     requires block { Block b.now n }
     ensures { result ≡ bars_of table.now n b.now }
@@ -118,15 +93,11 @@ fn near_days(r: Rules, prev: u64, run: u64) -> u64
     if run == 0 {
         return 0;
     }
-    let reach = prev + fields::rules::gap_after(r, run);
-    if reach < 5 {
-        return 0;
-    }
-    reach - 5
+    (prev + fields::rules::gap_after(r, run)).saturating_sub(5)
 }
 
 // The masks of the nurse with block b.
-fn masks_by(table: &[[u8; 4]; 7], r: Rules, n: u64, b: &[u64]) -> Masks
+fn masks_by(table: &[[u8; 4]; 7], r: Rules, n: usize, b: &[u64]) -> Masks
     requires small_rules { SmallRules r }
     requires n_le_day_places { n ≤ day_places }
     requires block { Block b.now n }
@@ -159,7 +130,7 @@ pub fn masks_of(w: &[u64], i: usize) -> Masks
 {
     let table = rows::allow_table();
     let rules = fields::rules::rules_of(w);
-    masks_by(&table, rules, fields::days(w) as u64, fields::block(w, i))
+    masks_by(&table, rules, fields::days(w), fields::block(w, i))
 }
 
 // The days of a row, day 0 with them: N, n and R.
@@ -175,7 +146,7 @@ fn row_of(m: Masks, p: u32) -> Row
     requires { Masked m }
     ensures { (b : List ℕ) → m.night ≡ one_if (eqb (duty b 6) 2) → m.second ≡ one_if (eqb (duty b 6) 3) → RowOf b p result }
 {
-    let night = wide(p) * 2 + m.night;
+    let night = u64::from(p) * 2 + m.night;
     let second = (night * 2 + m.second) & !night;
     let rest = (second * 2) & !night;
     Row {
@@ -232,7 +203,7 @@ pub fn passes(w: &[u64], m: Masks, p: u32) -> bool
     if !marks_pass(m, p) {
         return false;
     }
-    let k = numbers::ones(p);
+    let k = p.ones();
     if k < m.least {
         return false;
     }

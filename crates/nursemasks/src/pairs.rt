@@ -9,7 +9,7 @@ ghost use Rattle.nursemasks.specs.CodePairs.{PairDays, PairsOf, BusyDays};
 use fields::nurse;
 use fields::sizes::PAIRS;
 
-// How many there are, and the days of each, from 1: none where her marks rule the pair out.
+// How many there are, and the days of each, from 1: none where her marks rule the pair out. An array, since there is no heap.
 #[derive(Clone, Copy)]
 pub struct Pairs {
     pub count: usize,
@@ -38,9 +38,7 @@ pub fn pairs_of(w: &[u64], i: usize) -> Pairs
 {
     let count = fields::pair_count(w);
     let mut days = [0u32; PAIRS];
-    let mut k: usize = 0;
-    while k < count {
-        k += 1;
+    for k in 1..=count {
         days[k] = days_of(w, i, k);
     }
     Pairs { count, days }
@@ -58,16 +56,5 @@ pub fn any_fits(x: Pairs, busy: u32) -> bool
     requires { x.count ≤ pair_most }
     ensures { (w : List ℕ) (i p : ℕ) → Accepted w → PairsOf w i x → BusyDays (block w i) p busy → result ≡ any_of (pair_fits w i p) (pair_numbers w) }
 {
-    if x.count == 0 {
-        return true;
-    }
-    let mut k: usize = 1;
-    while k <= x.count {
-        let days = x.days[k];
-        if fits(days, busy) {
-            return true;
-        }
-        k += 1;
-    }
-    false
+    x.count == 0 || (1..x.count + 1).any(|k| fits(x.days[k], busy))
 }

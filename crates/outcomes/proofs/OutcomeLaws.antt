@@ -14,10 +14,13 @@ use Rattle.refusals.specs.declared.Refusal.{Refusal}
 use Rattle.search.specs.Stored.{advance_stored, refusal_stored, reply_stored}
 use Rattle.search.specs.CodeSeek.{end_by, answer_of}
 use Rattle.search.proofs.AdvanceLaws.{stored_refused, stored_goes}
+use Rattle.search.specs.declared.Ending.{Ending}
+use Rattle.search.specs.declared.Ending.TheVariants.{Zero, Asked, None}
 use Rattle.letters.specs.declared.written.Roster.{Roster}
-use Rattle.outcomes.specs.declared.Outcome.{Outcome}
+use Rattle.std.specs.declared.result.Result.{Result}
+use Rattle.std.specs.declared.result.Result.TheVariants.{Ok, Err}
 use Rattle.outcomes.specs.declared.Advance.{Advance}
-use Rattle.outcomes.specs.Outcomes.{outcome_of, roster_of, letters_of, advance_of, left_by, call_of}
+use Rattle.outcomes.specs.Outcomes.{ending_of, roster_of, letters_of, advance_of, left_by, call_of}
 
 -- the list stands at the front of what was written
 pub list_front : (L rest : List ℕ) {buf : List ℕ} {n : ℕ} → buf ≡ L ++ rest → n ≡ length L → take n buf ≡ L
@@ -35,10 +38,15 @@ pub front_fits : (L rest : List ℕ) {n : ℕ} {after : List ℕ} → n ≡ leng
 front_fits L rest {n} {after} e q = let s : length after ≡ length L + length rest = ap length q ∙ length-append L rest in omega arith
 
 -- what an advance that ran comes to
-pub finished_as : (P : Phase) (x : Advanced) {o : Outcome} {roster : Roster} → o ≡ outcome_of (end_by x.ending) → roster ≡ roster_of (letters_of (answer_of P x))
-    → record { after = x.after; penalty = x.penalty; steps = x.steps; outcome = o; roster = roster } ≡ advance_of (answer_of P x, x.after)
+ending_back : (e : Ending) → e ≡ ending_of (end_by e)
+ending_back Zero = refl
+ending_back Asked = refl
+ending_back None = refl
+
+pub finished_as : (P : Phase) (x : Advanced) {roster : Roster} → roster ≡ roster_of (letters_of (answer_of P x))
+    → Ok (record { after = x.after; penalty = x.penalty; steps = x.steps; ending = x.ending; roster = roster }) ≡ advance_of (answer_of P x, x.after)
 unfolding advance_of
-finished_as P x e q = ap₂ (λ (y : Outcome) (z : Roster). record { after = x.after; penalty = x.penalty; steps = x.steps; outcome = y; roster = z }) e q
+finished_as P x q = ap₂ (λ (y : Ending) (z : Roster). Ok (record { after = x.after; penalty = x.penalty; steps = x.steps; ending = y; roster = z })) (ending_back x.ending) q
 
 -- a call's result and what it leaves
 module _ (P : Phase) (r : Stored) (k : ℕ) (past_zero : Bool) (L buffer : List ℕ) where
@@ -48,13 +56,13 @@ module _ (P : Phase) (r : Stored) (k : ℕ) (past_zero : Bool) (L buffer : List 
   abbrev advanced : Answer × Stored
   advanced = advance_stored P handed r
 
-  pub told_refused : (n : Refusal) {x : Advance} → refusal_stored P handed r ≡ some n → x ≡ advance_of (refused n, r)
-      → (x ≡ advance_of advanced) × (buffer ≡ left_by advanced.0 L buffer)
-  told_refused n e f =
+  pub told_refused : (n : Refusal) → refusal_stored P handed r ≡ some n → (Err n ≡ advance_of advanced) × (buffer ≡ left_by advanced.0 L buffer)
+  unfolding advance_of
+  told_refused n e =
       let a = stored_refused P handed r n e in
-      (f ∙ sym (ap advance_of a), writes_nothing n L buffer ∙ sym (ap (λ (y : Answer × Stored). left_by y.0 L buffer) a))
+      (sym (ap advance_of a), writes_nothing n L buffer ∙ sym (ap (λ (y : Answer × Stored). left_by y.0 L buffer) a))
 
-  pub told_advanced : (x : Advanced) {y : Advance} {after : List ℕ} → refusal_stored P handed r ≡ none → reply_stored P past_zero k r ≡ (answer_of P x, x.after)
+  pub told_advanced : (x : Advanced) {y : Result Advance Refusal} {after : List ℕ} → refusal_stored P handed r ≡ none → reply_stored P past_zero k r ≡ (answer_of P x, x.after)
       → y ≡ advance_of (answer_of P x, x.after) → after ≡ L ++ drop (length L) buffer → (y ≡ advance_of advanced) × (after ≡ left_by advanced.0 L buffer)
   told_advanced x e f g h =
       let a = stored_goes P handed r e ∙ f in

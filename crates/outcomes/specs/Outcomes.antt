@@ -1,27 +1,30 @@
--- What an advance hands back, by its answer: its outcome, its record, and what stands in the buffer.
+-- What an advance hands back, by its answer: its refusal or what it comes to, and what stands in the buffer.
 use Rattle.std.specs.Prelude.{ℕ, ◌-◌, Bool, List, [], ◌++◌, length, drop, replicate}
 use Rattle.fields.specs.Sizes.{letter_places}
 use Rattle.history.specs.Phase.{Call, Answer, refused, ended, End, end_zero, end_asked, end_none}
 use Rattle.search.specs.declared.Record.{Record as Stored}
+use Rattle.std.specs.declared.result.Result.{Result}
+use Rattle.std.specs.declared.result.Result.TheVariants.{Ok, Err}
+use Rattle.refusals.specs.declared.Refusal.{Refusal}
+use Rattle.search.specs.declared.Ending.{Ending}
+use Rattle.search.specs.declared.Ending.TheVariants.{Zero, Asked, None}
 use Rattle.letters.specs.declared.written.Roster.{Roster}
-use Rattle.outcomes.specs.declared.Outcome.{Outcome}
-use Rattle.outcomes.specs.declared.Outcome.TheVariants.{Refused, Zero, Asked, None}
 use Rattle.outcomes.specs.declared.Advance.{Advance}
 
--- the end of an advance as the outcome says it
-abbrev pub outcome_of : End → Outcome
-outcome_of end_zero = Zero
-outcome_of end_asked = Asked
-outcome_of end_none = None
+-- the end of an advance as the code says it
+abbrev pub ending_of : End → Ending
+ending_of end_zero = Zero
+ending_of end_asked = Asked
+ending_of end_none = None
 
 -- a roster's letters from the start, 0 after them, and their count
 unfoldable pub roster_of : List ℕ → Roster
 roster_of l = record { letters = l ++ replicate (letter_places - length l) 0; count = length l }
 
--- The answer and the record as the call gives them. A no gives the refusal; the record comes back as it was, and all else is 0.
-unfoldable pub advance_of : Answer × Stored → Advance
-advance_of (refused n, r) = record { after = r; penalty = 0; steps = 0; outcome = Refused n; roster = roster_of [] }
-advance_of (ended e made pen letters, r) = record { after = r; penalty = pen; steps = made; outcome = outcome_of e; roster = roster_of letters }
+-- The answer and the record as the call gives them. A no gives the refusal alone: the record stays with the caller, as it was.
+unfoldable pub advance_of : Answer × Stored → Result Advance Refusal
+advance_of (refused n, r) = Err n
+advance_of (ended e made pen letters, r) = Ok (record { after = r; penalty = pen; steps = made; ending = ending_of e; roster = roster_of letters })
 
 -- the letters that are given out: by day at penalty zero, else none
 abbrev pub letters_of : Answer → List ℕ

@@ -24,7 +24,6 @@ use Rattle.nursemasks.specs.declared.masks.Masks.{Masks}
 use Rattle.nursemasks.specs.CodeMasks.{workable, masks_by, masks_of}
 use Rattle.trials.specs.CodeTrials.{before_of, WorkableDays}
 use Rattle.ownlists.specs.declared.Own.{Own}
-use Rattle.ownlists.specs.CodeOwn.{OwnLists}
 
 -- ---- what a test keeps of a list, written from a buffer's start
 
@@ -350,17 +349,3 @@ module _ {w list before : List ℕ} {at i : ℕ} {own : List ℕ} {r : Own} (z :
         let off : set r.kept i false ≡ r.kept = ap (set r.kept i) (sym (z.unset i (omega arith))) ∙ set-get_or r.kept i false in
         subst (λ (x : Own). OwnTo w list before next (i + 1) own' (ended x next)) (sym (e ∙ ap begun (sym off)))
         (one_nurse l few (omega arith) (omega (arith, z.at_most)) (hers next false (omega arith) (λ k. absurd (false≢true k))))
-
-pub finish : {w list before : List ℕ} {at i : ℕ} {own : List ℕ} {r : Own} → OwnTo w list before at i own r → nurses w ≤ i → OwnLists w list own r
-finish z past = record {
-  each = λ j l.
-      let x = z.each j (omega arith) in
-      record {
-        begins = x.begins;
-        finishes = omega (arith, x.finishes, z.at_most);
-        stretch = x.stretch;
-        all_hers = x.all_hers;
-        workable_are = x.workable_are;
-        before_is = x.before_is;
-      };
-}

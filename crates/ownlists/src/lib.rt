@@ -33,11 +33,10 @@ fn own_fill(w: &[u64], list: &[u32], masks: Masks, own: &mut [u32]) -> usize
         own.new ≡ filter (hers_of w.now i) list.now ++ drop result own.old }
 {
     let mut at: usize = 0;
-    for k in 0..list.len() {
-        let p = list[k];
-        if nursemasks::masks::passes(w, masks, p) {
+    for p in list {
+        if nursemasks::masks::passes(w, masks, *p) {
             if at < own.len() {
-                own[at] = p;
+                own[at] = *p;
             }
             at += 1;
         }

@@ -3,15 +3,14 @@ use mathlib.Core.Path.{◌≡◌, refl, sym, ap, ap₂, ◌∙◌}
 use mathlib.Core.List.{List, [], ◌∷◌}
 use mathlib.Core.Option.{none}
 use Prim.Native.Nat.{ℕ}
-use Rattle.refusals.specs.Refusals.{refusal_in}
 use Rattle.history.specs.Phase.{Call, Answer, refused, ended}
 use Rattle.search.specs.Stored.{Sized}
 use Rattle.search.specs.declared.Record.{Record as Stored}
 use Rattle.keeping.specs.Storage.{may_return, kept_in, record_at, return_no, returned_to}
 use Rattle.keeping.specs.Assurance.{kept_all}
-use Rattle.keeping.specs.declared.Returned.{Returned}
 use Rattle.keeping.proofs.AssuranceLaws.{assurance}
-use Rattle.refusals.proofs.OrderLaws.{unless_none, refusal_back}
+use Rattle.refusals.proofs.OrderLaws.{unless_none}
+use Rattle.keeping.proofs.EntryLaws.{answered_none}
 use Rattle.planner.specs.Advances.{advance_nights, advance_days}
 use Rattle.recordwords.specs.Words.{record_of_words, words_of_record}
 use Rattle.recordwords.proofs.BackLaws.{read_back}
@@ -56,8 +55,8 @@ words_assured storage n words in_hand meanwhile long room others =
     let z = words_sized words long in
     let back = assurance.unchanged storage n (record_of_words words) (record_of_words in_hand) meanwhile z room others in
     let after = kept_all meanwhile (kept_in storage n (record_of_words words)) in
-    let unrefused : return_no after n ≡ none = sym (refusal_back (return_no after n)) ∙ ap (λ (x : Returned). refusal_in x.answer) back in
-    let same = back_says after n in_hand (record_of_words words) z unrefused (ap (λ (x : Returned). x.after) back) in
+    let unrefused = answered_none after n back.0 in
+    let same = back_says after n in_hand (record_of_words words) z unrefused back.1 in
     record {
       done = unrefused;
       same = same;

@@ -1,36 +1,33 @@
 -- What each call answers, in the six words of answerwords, and what it leaves in its caller's memory.
 use Rattle.std.specs.Prelude.{ℕ, cond, List, ◌++◌, length, drop}
-use Rattle.refusals.specs.declared.Answer.{Answer as Asked}
-use Rattle.refusals.specs.declared.Answer.TheVariants.{Yes, No}
+use Rattle.std.specs.declared.result.Result.{Result}
+use Rattle.std.specs.declared.result.Result.TheVariants.{Ok, Err}
+use Rattle.refusals.specs.declared.Refusal.{Refusal}
 use Rattle.ward.specs.declared.Ward.{Ward}
-use Rattle.ward.specs.declared.Reading.{Reading}
-use Rattle.ward.specs.declared.Writing.{Writing}
+use Rattle.ward.specs.Answers.{count_of}
 use Rattle.search.specs.declared.Record.{Record as Stored}
 use Rattle.history.specs.Phase.{Answer, refused, ended}
 use Rattle.planner.specs.Advances.{advance_nights, advance_days}
 use Rattle.outcomes.specs.Outcomes.{letters_of, call_of}
 use Rattle.recordwords.specs.Words.{patterns_of_words, flag_of, record_of_words, words_of_record}
 use Rattle.keeping.specs.Storage.{may_return, record_at}
-use Rattle.answerwords.specs.AnswerWords.{count_words}
+use Rattle.answerwords.specs.CodeAnswers.{counted_words}
 
 -- ---- the ward
 
-abbrev pub read_words : Reading → List ℕ
-read_words r = count_words r.answer r.ward.count
+abbrev pub read_words : Result Ward Refusal → List ℕ
+read_words r = counted_words (count_of r)
 
 -- what the reader leaves in the numbers; a refused call leaves them as they were
-abbrev pub unless_refused : Asked → List ℕ → List ℕ → List ℕ
-unless_refused (No n) read before = before
-unless_refused Yes read before = read
-
-abbrev pub numbers_left : Reading → List ℕ → List ℕ
-numbers_left r before = unless_refused r.answer r.ward.numbers before
+abbrev pub numbers_left : Result Ward Refusal → List ℕ → List ℕ
+numbers_left (Err n) before = before
+numbers_left (Ok w) before = w.numbers
 
 abbrev pub ward_of : List ℕ → ℕ → Ward
 ward_of numbers count = record { numbers = numbers; count = count }
 
-abbrev pub write_words : Writing → List ℕ
-write_words r = count_words r.answer r.bytes
+abbrev pub write_words : Result ℕ Refusal → List ℕ
+write_words r = counted_words r
 
 -- ---- the advances
 

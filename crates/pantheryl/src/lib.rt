@@ -9,11 +9,42 @@ ghost use Rattle.refusals.specs.Refusals.{answer_by};
 ghost use Rattle.recordwords.specs.Words.{patterns_of_words, record_of_words, flag_of};
 ghost use Rattle.keeping.specs.Storage.{keep_no, kept_in, return_no};
 ghost use Rattle.answerwords.specs.AnswerWords.{count_words, advance_words, check_words};
+ghost use Rattle.pantheryl.specs.CodeAfter.{words_after, CountFits, roster_with, roster_after, RosterFits};
 ghost use Rattle.pantheryl.specs.Answers.{read_words, numbers_left, ward_of, write_words, words_left, nights_from, days_from, roster_left, returned_words};
 
 use fields::sizes::{LETTERS, NUMBERS};
+use letters::written::Roster;
+use planner::Advance;
 use recordwords::{PATTERNS, WORDS};
-use refusals::Answer;
+use refusals::Refusal;
+use ward::Ward;
+
+// The words of the record after an advance; a refused one leaves them.
+fn put_record(words: &mut [u32; WORDS], done: &Result<Advance, Refusal>)
+    ensures { words.new ≡ words_after done.now words.old }
+{
+    if let Ok(x) = done {
+        *words = recordwords::words_of(x.after);
+    }
+}
+
+// The letters of a roster that is given out. By value: its array's length is known of a value.
+fn put_given(roster: &mut [u8; LETTERS], given: Roster)
+    requires { CountFits given }
+    ensures { roster.new ≡ roster_with given roster.old }
+{
+    answerwords::put_letters(roster, &given.letters[..given.count]);
+}
+
+// The letters that an advance gives out; a refused one leaves the roster.
+fn put_roster(roster: &mut [u8; LETTERS], done: &Result<Advance, Refusal>)
+    requires { RosterFits done.now }
+    ensures { roster.new ≡ roster_after done.now roster.old }
+{
+    if let Ok(given) = done {
+        put_given(roster, given.roster);
+    }
+}
 
 // Reads a ward file into numbers; the count says how many.
 #[unsafe(no_mangle)]
@@ -21,16 +52,13 @@ pub extern "C" fn pantheryl_read(file: &[u8], numbers: &mut [u64; NUMBERS], answ
     ensures says { answer.new ≡ read_words (reading_of (read_ward file.now)) }
     ensures leaves { numbers.new ≡ numbers_left (reading_of (read_ward file.now)) numbers.old }
 {
-    let reading = planner::read(file);
-    let read = reading.answer;
-    let said = answerwords::count_words(read, reading.ward.count as u64);
-    *answer = said;
-    match read {
-        Answer::No(_) => {}
-        Answer::Yes => {
-            let filled = reading.ward.numbers;
+    match planner::read(file) {
+        Ok(ward) => {
+            *answer = answerwords::count_words(Ok(ward.count as u64));
+            let filled = ward.numbers;
             *numbers = filled;
         }
+        Err(n) => *answer = answerwords::count_words(Err(n)),
     }
 }
 
@@ -46,14 +74,14 @@ pub extern "C" fn pantheryl_write(
     ensures leaves { buffer.new ≡ left_of buffer.old (check_ward (counted (ward_of numbers.now count))) }
 {
     let numbers = *numbers;
-    let ward = ward::Ward {
+    let ward = Ward {
         numbers,
         count: count as usize,
     };
-    let writing = planner::write(ward, buffer);
-    let written = writing.answer;
-    let said = answerwords::count_words(written, writing.bytes as u64);
-    *answer = said;
+    match planner::write(ward, buffer) {
+        Ok(bytes) => *answer = answerwords::count_words(Ok(bytes as u64)),
+        Err(n) => *answer = answerwords::count_words(Err(n)),
+    }
 }
 
 // Advances the night search whose record is in words by up to k steps, past zero where `past` is not 0.
@@ -74,19 +102,8 @@ pub extern "C" fn pantheryl_advance_nights(
     let rec = recordwords::record_of(before);
     let beyond = recordwords::flag_of(past);
     let done = planner::advance_nights(rec, file, k, beyond, buffer);
-    let outcome = done.outcome;
-    let said = answerwords::outcome_words(
-        outcome,
-        done.steps,
-        done.penalty,
-        done.roster.count as u64,
-    );
-    *answer = said;
-    if !answerwords::is_refused(outcome) {
-        let rec = done.after;
-        let after = recordwords::words_of(rec);
-        *words = after;
-    }
+    *answer = answerwords::advance_words(&done);
+    put_record(words, &done);
 }
 
 // Advances the day search over these nights whose record is in words by up to k steps, past zero where `past` is not 0.
@@ -110,18 +127,10 @@ pub extern "C" fn pantheryl_advance_days(
     let rec = recordwords::record_of(before);
     let over = recordwords::patterns_of(nights);
     let beyond = recordwords::flag_of(past);
-    let done = planner::advance_days(rec, file, &over, k, beyond, buffer);
-    let outcome = done.outcome;
-    let letters = done.roster.letters;
-    let count = done.roster.count;
-    let said = answerwords::outcome_words(outcome, done.steps, done.penalty, count as u64);
-    *answer = said;
-    answerwords::put_letters(roster, letters, count);
-    if !answerwords::is_refused(outcome) {
-        let rec = done.after;
-        let after = recordwords::words_of(rec);
-        *words = after;
-    }
+    let advanced = planner::advance_days(rec, file, &over, k, beyond, buffer);
+    *answer = answerwords::advance_words(&advanced);
+    put_roster(roster, &advanced);
+    put_record(words, &advanced);
 }
 
 // Checks a roster against a ward file.
@@ -129,9 +138,7 @@ pub extern "C" fn pantheryl_advance_days(
 pub extern "C" fn pantheryl_check(file: &[u8], roster: &[u8], answer: &mut [u64; 6])
     ensures { answer.new ≡ check_words (check_says file.now roster.now) }
 {
-    let checked = planner::check(file, roster);
-    let said = answerwords::check_words(checked);
-    *answer = said;
+    *answer = answerwords::check_words(planner::check(file, roster));
 }
 
 // Keeps the record in words under the number, in storage.
@@ -147,9 +154,10 @@ pub extern "C" fn pantheryl_keep(
 {
     let before = *words;
     let rec = recordwords::record_of(before);
-    let kept = planner::keep(rec, number, storage);
-    let said = answerwords::count_words(kept, 0);
-    *answer = said;
+    match planner::keep(rec, number, storage) {
+        Ok(()) => *answer = answerwords::count_words(Ok(0)),
+        Err(n) => *answer = answerwords::count_words(Err(n)),
+    }
 }
 
 // Brings back the record that is kept under the number in storage.
@@ -163,18 +171,11 @@ pub extern "C" fn pantheryl_return(
     ensures says { answer.new ≡ count_words (answer_by (return_no storage.now number)) 0 }
     ensures keeps { words.new ≡ returned_words storage.now number words.old }
 {
-    let before = *words;
-    let rec = recordwords::record_of(before);
-    let done = planner::bring_back(rec, number, storage);
-    let returned = done.answer;
-    let said = answerwords::count_words(returned, 0);
-    *answer = said;
-    match returned {
-        Answer::No(_) => {}
-        Answer::Yes => {
-            let rec = done.after;
-            let after = recordwords::words_of(rec);
-            *words = after;
+    match planner::bring_back(number, storage) {
+        Ok(back) => {
+            *answer = answerwords::count_words(Ok(0));
+            *words = recordwords::words_of(back);
         }
+        Err(n) => *answer = answerwords::count_words(Err(n)),
     }
 }

@@ -1,27 +1,25 @@
 -- What is counted on columns is what the ward says: sums over 64 places are counts over the nurses.
-use mathlib.Core.Path.{◌≡◌, refl, sym, ap, ap₂, ◌∙◌, subst}
+use mathlib.Core.Path.{◌≡◌, refl, sym, ap, ap₂, ◌∙◌}
 use mathlib.Core.Bool.{Bool, true, false}
 use mathlib.Core.List.{List}
 use Prim.Native.Nat.{ℕ, ◌+◌, ◌-◌, ◌*◌, ◌≤◌, ◌<◌}
-use native.Mathlib.Nat.{zero-mul, zero-add, le_refl, add-le-add, mul-le-mul}
+use native.Mathlib.Nat.{zero-mul, le_refl, add-le-add, mul-le-mul}
 use native.Mathlib.Omega.{arith}
 use lib.ListN.{length, get_or}
-use Rattle.fields.specs.Sizes.{nurse_places, day_places}
-use Rattle.numbers.specs.Sum.{sum_to, Is}
+use Rattle.numbers.specs.Sum.{sum_to}
 use Rattle.numbers.specs.Digits.{has, put}
-use Rattle.numbers.proofs.SumLaws.{sum_ext, sum_mono, sum_add, sum_none, loop_start, loop_turn}
+use Rattle.numbers.proofs.SumLaws.{sum_zero, sum_suc, sum_ext, sum_mono, sum_add, sum_none}
 use Rattle.numbers.proofs.DigitLaws.{count_put, count_put_all}
 use Rattle.fields.specs.Fields.{Accepted, nurses, days, groups, weight, member_sets, needs, need, low, high}
-use Rattle.penalty.specs.declared.columns.Columns.{Columns}
 use Rattle.penalty.specs.declared.duty.Weights.{Weights}
 use Rattle.penalty.specs.declared.duty.Duty.{Duty}
 use Rattle.penalty.specs.declared.Penalty.{Penalty}
 use Rattle.history.specs.declared.Search.{Search}
 use Rattle.history.specs.declared.Search.TheVariants.{Nights, Days}
 use Rattle.history.specs.Slot.{Slot}
-use Rattle.penalty.specs.Penalty.{parts_of, on_duty, members, short_on, over_on, unplaced_in, night_parts, day_parts, parts_in}
-use Rattle.penalty.specs.CodeCounts.{Bounded, weights_of, no_high, Counts, members_in, need_term, low_term, high_term, group_term, duty_short, duty_over, duty_cost, short_in, over_in, DayCounts, short_at, over_at}
-use Rattle.penalty.specs.CodeColumns.{Same, Shows}
+use Rattle.penalty.specs.Penalty.{parts_of, on_duty, members, short_on, over_on, unplaced_in, at_night, available_in, at_day, night_parts, day_parts, parts_in}
+use Rattle.penalty.specs.CodeCounts.{weights_of, no_high, members_in, need_term, low_term, high_term, group_term, duty_short, duty_over, duty_cost, short_in, over_in, DayCounts}
+use Rattle.penalty.specs.CodeColumns.{Same, DayShows, AllShow}
 use Rattle.fields.proofs.FieldLaws.{length_member_sets}
 use Rattle.penalty.proofs.ColumnLaws.{count_same, all_same}
 
@@ -73,90 +71,77 @@ cost_falls wt sets needs k i f l =
     (short_falls wt.w (need needs k) _ _ (omega (arith, count_put_all 64 i f l)))
     (sum_mono (length sets) _ _ (λ g m. short_falls wt.u (low needs k g) _ _ (omega (arith, count_put 64 i f (has (get_or sets g 0)) l)))))
 
--- ---- one day, from what the calls gave
-
-pub duty_counts : (w : List ℕ) (k d column : ℕ) {wt : Weights} {sets numbers : List ℕ} {r : Duty} {b c : ℕ} → wt ≡ weights_of w k → sets ≡ member_sets w → numbers ≡ needs w d
-    → Counts r (duty_short wt sets numbers k (has column)) b (duty_over wt sets numbers k (has column)) c → Counts r (short_in w k d (has column)) b (over_in w k d (has column)) c
-duty_counts w k d column e m q h = record {
-  short_is = record { is = h.short_is.is ∙ (λ j. duty_short (e j) (m j) (q j) k (has column)); most = h.short_is.most };
-  over_is = record { is = h.over_is.is ∙ (λ j. duty_over (e j) (m j) (q j) k (has column)); most = h.over_is.most };
-}
-
-pub night_counts : (w : List ℕ) (d night day : ℕ) {a b r : Duty} → Counts a (short_in w 0 d (has night)) 81600 (over_in w 0 d (has night)) 104000
-    → Counts b (short_in w 1 d (has day)) 81600 (over_in w 1 d (has day)) 104000 → r.short ≡ a.short + b.short → r.over ≡ a.over → DayCounts Nights w d night day r
-night_counts w d night day x y e q = record {
-  short_is = record { is = e ∙ ap₂ (λ (m n : ℕ). m + n) x.short_is.is y.short_is.is; most = omega (arith, x.short_is.most, y.short_is.most, e) };
-  over_is = record { is = q ∙ x.over_is.is; most = omega (arith, x.over_is.most, q) };
-}
-
-pub worked_of : (w : List ℕ) (d day : ℕ) {r : Duty} → Counts r (short_in w 1 d (has day)) 81600 (over_in w 1 d (has day)) 104000 → (night : ℕ) → DayCounts Days w d night day r
-worked_of w d day h night = record { short_is = record { is = h.short_is.is; most = omega (arith, h.short_is.most) }; over_is = h.over_is }
-
--- in the search that was told
-pub counts_as : (which b : Search) (w : List ℕ) (d night day : ℕ) {r : Duty} → which ≡ b → DayCounts b w d night day r → DayCounts which w d night day r
-counts_as which b w d night day {r} e h = subst (λ (x : Search). DayCounts x w d night day r) (sym e) h
-
 -- ---- the month: the loop over the days
 
--- the sums of what is short and over on the first d days
-pub record MonthSums (short over : ℕ → ℕ) (n d unplaced : ℕ) (p : Penalty) : Type 0 where
-  pub inside : d ≤ n
-  pub short_sum : Is p.short (0 + sum_to d short) (0 + 163200 * d)
-  pub over_sum : Is p.over (0 + sum_to d over) (0 + 104000 * d)
+-- what a day adds, as the slots say
+pub short_day : Search → List ℕ → (ℕ → Slot) → ℕ → ℕ
+short_day Nights w slots d = short_on w 0 (at_night w slots d) d + short_on w 1 (available_in w slots d) d
+short_day Days w slots d = short_on w 1 (at_day w slots d) d
+
+pub over_day : Search → List ℕ → (ℕ → Slot) → ℕ → ℕ
+over_day Nights w slots d = over_on w 0 (at_night w slots d) d
+over_day Days w slots d = over_on w 1 (at_day w slots d) d
+
+-- the first d days are summed up; they are the slots' days where all columns show the slots
+pub record MonthSums (which : Search) (w : List ℕ) (gives : ℕ → ℕ × ℕ → Type 0) (unplaced d : ℕ) (p : Penalty) : Type 0 where
+  pub short_most : p.short ≤ 163200 * d
+  pub over_most : p.over ≤ 104000 * d
   pub unplaced_is : p.unplaced ≡ unplaced
+  pub short_sum : (slots : ℕ → Slot) → AllShow gives which w slots → p.short ≡ sum_to d (short_day which w slots)
+  pub over_sum : (slots : ℕ → Slot) → AllShow gives which w slots → p.over ≡ sum_to d (over_day which w slots)
 
-module _ (short over : ℕ → ℕ) (n u : ℕ) where
-  pub month_start : {p : Penalty} → p.short ≡ 0 → p.over ≡ 0 → p.unplaced ≡ u → MonthSums short over n 0 u p
+module _ (w : List ℕ) (a : Accepted w) (slots : ℕ → Slot) (d night day : ℕ) {t : Duty} where
+  day_short : (which : Search) → DayCounts which w d night day t → DayShows which w slots d night day → t.short ≡ short_day which w slots d
+  unfolding short_day
+  day_short Nights c s = c.short_is.is ∙ ap₂ (λ (x y : ℕ). x + y) (short_same w a 0 d _ _ s.0) (short_same w a 1 d _ _ s.1)
+  day_short Days c s = c.short_is.is ∙ short_same w a 1 d _ _ s
+
+  day_over : (which : Search) → DayCounts which w d night day t → DayShows which w slots d night day → t.over ≡ over_day which w slots d
+  unfolding over_day
+  day_over Nights c s = c.over_is.is ∙ over_same w a 0 d _ _ s.0
+  day_over Days c s = c.over_is.is ∙ over_same w a 1 d _ _ s
+
+module _ (w : List ℕ) (which : Search) (gives : ℕ → ℕ × ℕ → Type 0) (u : ℕ) where
+  pub month_start : {p : Penalty} → p.short ≡ 0 → p.over ≡ 0 → p.unplaced ≡ u → MonthSums which w gives u 0 p
   month_start e q h = record {
-    inside = omega arith;
-    short_sum = loop_start 0 0 _ (record { is = e; most = omega arith });
-    over_sum = loop_start 0 0 _ (record { is = q; most = omega arith });
+    short_most = omega arith;
+    over_most = omega arith;
     unplaced_is = h;
+    short_sum = λ slots s. e ∙ sym (sum_zero _);
+    over_sum = λ slots s. q ∙ sym (sum_zero _);
   }
 
-  pub month_turn : {d : ℕ} {p : Penalty} {t : Duty} → MonthSums short over n d u p → d < n → Counts t (short d) 163200 (over d) 104000
-      → MonthSums short over n (d + 1) u (record { short = p.short + t.short; over = p.over + t.over; unplaced = p.unplaced })
-  month_turn h l c = record {
-    inside = omega arith;
-    short_sum = loop_turn 0 0 163200 short _ h.short_sum c.short_is;
-    over_sum = loop_turn 0 0 104000 over _ h.over_sum c.over_is;
+  pub month_turn : {d : ℕ} {c : ℕ × ℕ} {p : Penalty} {t : Duty} → Accepted w → MonthSums which w gives u d p → d < days w → gives d c → DayCounts which w d c.0 c.1 t
+      → MonthSums which w gives u (d + 1) (record { short = p.short + t.short; over = p.over + t.over; unplaced = p.unplaced })
+  month_turn {d} {c} a h l g k = record {
+    short_most = omega (arith, h.short_most, k.short_is.most);
+    over_most = omega (arith, h.over_most, k.over_is.most);
     unplaced_is = h.unplaced_is;
+    short_sum = λ slots s. ap₂ (λ (x y : ℕ). x + y) (h.short_sum slots s) (day_short w a slots d c.0 c.1 which k (s d c l g)) ∙ sym (sum_suc d _);
+    over_sum = λ slots s. ap₂ (λ (x y : ℕ). x + y) (h.over_sum slots s) (day_over w a slots d c.0 c.1 which k (s d c l g)) ∙ sym (sum_suc d _);
   }
 
-  pub month_bounded : {d : ℕ} {p : Penalty} → MonthSums short over n d u p → n ≤ day_places → u ≤ nurse_places → Bounded p
-  month_bounded h l m = record {
-    short_most = omega (arith, h.short_sum.most, h.inside);
-    over_most = omega (arith, h.over_sum.most, h.inside);
-    unplaced_most = omega (arith, h.unplaced_is);
-  }
+-- the month's parts by its days
+short_in_all : (w : List ℕ) (slots : ℕ → Slot) (which : Search) → sum_to (days w) (short_day which w slots) ≡ (parts_in which w slots).short
+unfolding short_day night_parts day_parts
+short_in_all w slots Nights = refl
+short_in_all w slots Days = refl
+
+over_in_all : (w : List ℕ) (slots : ℕ → Slot) (which : Search) → sum_to (days w) (over_day which w slots) ≡ (parts_in which w slots).over
+unfolding over_day night_parts day_parts
+over_in_all w slots Nights = refl
+over_in_all w slots Days = refl
 
 unplaced_are : (w : List ℕ) (slots : ℕ → Slot) (which : Search) → unplaced_in w slots ≡ (parts_in which w slots).unplaced
 unfolding night_parts day_parts
 unplaced_are w slots Nights = refl
 unplaced_are w slots Days = refl
 
--- at the end they are the ward's, if those of all days are
-pub month_parts : (w : List ℕ) (slots : ℕ → Slot) (which : Search) {short over : ℕ → ℕ} {n d u : ℕ} {p : Penalty} → MonthSums short over n d u p → n ≤ d → n ≡ days w
-    → sum_to (days w) short ≡ (parts_in which w slots).short → sum_to (days w) over ≡ (parts_in which w slots).over → u ≡ unplaced_in w slots → parts_of p ≡ parts_in which w slots
-month_parts w slots which {short} {over} {n} {d} h l e s o q =
-    let m : d ≡ days w = omega (arith, h.inside) in
-    let x = h.short_sum.is ∙ zero-add _ ∙ ap (λ (k : ℕ). sum_to k short) m ∙ s in
-    let y = h.over_sum.is ∙ zero-add _ ∙ ap (λ (k : ℕ). sum_to k over) m ∙ o in
+-- at the end they are the ward's
+pub month_parts : (w : List ℕ) (which : Search) (gives : ℕ → ℕ × ℕ → Type 0) (u : ℕ) {d : ℕ} {p : Penalty} → MonthSums which w gives u d p → d ≡ days w
+    → (slots : ℕ → Slot) → AllShow gives which w slots → u ≡ unplaced_in w slots → parts_of p ≡ parts_in which w slots
+month_parts w which gives u {d} h e slots s q =
+    let x = h.short_sum slots s ∙ ap (λ (n : ℕ). sum_to n (short_day which w slots)) e ∙ short_in_all w slots which in
+    let y = h.over_sum slots s ∙ ap (λ (n : ℕ). sum_to n (over_day which w slots)) e ∙ over_in_all w slots which in
     let z = h.unplaced_is ∙ q ∙ unplaced_are w slots which in
     λ j. record { short = x j; over = y j; unplaced = z j }
-
--- the sums over columns that show the slots are the ward's
-module _ (w : List ℕ) (cols : Columns) (a : Accepted w) (slots : ℕ → Slot) where
-  shorts_are : (which : Search) → Shows which w slots cols → sum_to (days w) (short_at which w cols.night cols.day) ≡ (parts_in which w slots).short
-  unfolding short_at night_parts day_parts
-  shorts_are Nights g = sum_ext (days w) _ _ (λ d l. ap₂ (λ (x y : ℕ). x + y) (short_same w a 0 d _ _ (g.night_shown d l)) (short_same w a 1 d _ _ (g.available_shown d l)))
-  shorts_are Days g = sum_ext (days w) _ _ (λ d l. short_same w a 1 d _ _ (g.day_shown d l))
-
-  overs_are : (which : Search) → Shows which w slots cols → sum_to (days w) (over_at which w cols.night cols.day) ≡ (parts_in which w slots).over
-  unfolding over_at night_parts day_parts
-  overs_are Nights g = sum_ext (days w) _ _ (λ d l. over_same w a 0 d _ _ (g.night_shown d l))
-  overs_are Days g = sum_ext (days w) _ _ (λ d l. over_same w a 1 d _ _ (g.day_shown d l))
-
-  pub month_is : (which : Search) {n d u : ℕ} {p : Penalty} → MonthSums (short_at which w cols.night cols.day) (over_at which w cols.night cols.day) n d u p
-      → n ≤ d → n ≡ days w → Shows which w slots cols → u ≡ unplaced_in w slots → parts_of p ≡ parts_in which w slots
-  month_is which h l e g q = month_parts w slots which h l e (shorts_are which g) (overs_are which g) q

@@ -1,9 +1,9 @@
 -- One duty of one day: its terms' bounds, and what the loops over the groups add up.
-use mathlib.Core.Path.{◌≡◌, refl, ap, ◌∙◌}
+use mathlib.Core.Path.{◌≡◌, refl}
 use mathlib.Core.Bool.{Bool}
 use mathlib.Core.List.{List}
 use Prim.Native.Nat.{ℕ, ◌+◌, ◌-◌, ◌*◌, ◌≤◌, ◌<◌}
-use native.Mathlib.Nat.{mul-le-mul, zero-add}
+use native.Mathlib.Nat.{mul-le-mul}
 use native.Mathlib.Omega.{arith}
 use lib.ListN.{length}
 use Rattle.numbers.specs.Sum.{sum_to, count_to, Is}
@@ -11,7 +11,7 @@ use Rattle.numbers.proofs.SumLaws.{loop_start, loop_turn}
 use Rattle.fields.specs.Fields.{need, low, high}
 use Rattle.penalty.specs.declared.duty.Weights.{Weights}
 use Rattle.penalty.specs.declared.duty.Duty.{Duty}
-use Rattle.penalty.specs.CodeCounts.{Light, Counts, members_in, need_term, low_term, high_term, duty_short, duty_over}
+use Rattle.penalty.specs.CodeCounts.{Light, Counts, members_in, need_term, low_term, high_term}
 
 -- products of small numbers
 pub w_le : {wt : Weights} {a : ℕ} → Light wt → a ≤ 48 → wt.w * a ≤ 4800
@@ -57,12 +57,3 @@ module _ (wt : Weights) (sets needs : List ℕ) (k : ℕ) (f : ℕ → Bool) whe
     short_sum = loop_turn _ 4800 4800 _ _ h.short_sum c.short_is;
     over_sum = loop_turn 0 0 6500 _ _ h.over_sum c.over_is;
   }
-
-  pub sums_end : {g s o : ℕ} {r : Duty} → Sums wt sets needs k f g s o → length sets ≤ g → length sets ≤ 16 → r.short ≡ s → r.over ≡ o
-      → Counts r (duty_short wt sets needs k f) 81600 (duty_over wt sets needs k f) 104000
-  sums_end {g} {s} {o} {r} h l m e q =
-      let same : g ≡ length sets = omega (arith, h.inside) in
-      record {
-        short_is = record { is = e ∙ h.short_sum.is ∙ ap (λ (n : ℕ). need_term wt needs k f + sum_to n (low_term wt sets needs k f)) same; most = omega (arith, h.short_sum.most) };
-        over_is = record { is = q ∙ h.over_sum.is ∙ zero-add _ ∙ ap (λ (n : ℕ). sum_to n (high_term wt sets needs k f)) same; most = omega (arith, h.over_sum.most) };
-      }

@@ -36,6 +36,15 @@ Shown Days w slots m c = ShownDay w slots m c
 abbrev pub Shows : Search → List ℕ → (ℕ → Slot) → Columns → Type 0
 Shows which w slots c = Shown which w slots (nurses w) c
 
+-- the two columns of the day of index d show the slots; by day only the day's
+abbrev pub DayShows : Search → List ℕ → (ℕ → Slot) → ℕ → ℕ → ℕ → Type 0
+DayShows Nights w slots d night day = Same (nurses w) (has night) (at_night w slots d) × Same (nurses w) (has day) (available_in w slots d)
+DayShows Days w slots d night day = Same (nurses w) (has day) (at_day w slots d)
+
+-- of a month, where each day's two columns are those that a call gives
+abbrev pub AllShow : (ℕ → ℕ × ℕ → Type 0) → Search → List ℕ → (ℕ → Slot) → Type 0
+AllShow gives which w slots = (d : ℕ) (c : ℕ × ℕ) → d < days w → gives d c → DayShows which w slots d c.0 c.1
+
 -- nobody on any day
 pub record Empty (c : Columns) : Type 0 where
   pub no_nights : (d : ℕ) → get_or c.night d 0 ≡ 0

@@ -81,12 +81,6 @@ over_with Days w d night day = over_in w 1 d (has day)
 abbrev pub DayCounts : Search → List ℕ → ℕ → ℕ → ℕ → Duty → Type 0
 DayCounts which w d night day r = Counts r (short_with which w d night day) 163200 (over_with which w d night day) 104000
 
-unfoldable pub short_at : Search → List ℕ → List ℕ → List ℕ → ℕ → ℕ
-short_at which w night day d = short_with which w d (get_or night d 0) (get_or day d 0)
-
-unfoldable pub over_at : Search → List ℕ → List ℕ → List ℕ → ℕ → ℕ
-over_at which w night day d = over_with which w d (get_or night d 0) (get_or day d 0)
-
 -- a penalty's bounds, from which its total fits
 pub record Bounded (p : Penalty) : Type 0 where
   pub short_most : p.short ≤ 5059200

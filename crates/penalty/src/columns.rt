@@ -4,6 +4,7 @@ ghost use Rattle.fields.specs.Sizes.{day_places};
 ghost use Rattle.penalty.specs.CodeColumns.{Empty, NursePut, PutAt};
 
 use fields::sizes::DAYS;
+use numbers::Set;
 
 #[derive(Clone, Copy)]
 pub struct Columns {
@@ -23,15 +24,13 @@ impl Columns {
     }
 
     // The columns of n days with nurse i's nights and available days.
-    pub fn with_nurse(self, n: usize, i: usize, nights: u32, available: u32) -> Columns
+    pub fn with_nurse(mut self, n: usize, i: usize, nights: u32, available: u32) -> Columns
         requires { (n ≤ day_places) × (i < 64) }
         ensures { NursePut self result n i nights available }
     {
-        let mut night = self.night;
-        let mut day = self.day;
-        put(&mut night, n, i, nights);
-        put(&mut day, n, i, available);
-        Columns { night, day }
+        put(&mut self.night, n, i, nights);
+        put(&mut self.day, n, i, available);
+        self
     }
 }
 
@@ -42,7 +41,6 @@ pub fn put(cols: &mut [u64; DAYS], n: usize, i: usize, set: u32)
     ensures long { length cols.new ≡ day_places }
 {
     for d in 0..n {
-        let column = numbers::put_bit(cols[d], i, numbers::has_bit(set, d as u64));
-        cols[d] = column;
+        cols[d] = numbers::put_bit(cols[d], i, set.has(d));
     }
 }

@@ -8,12 +8,10 @@ pub mod weights;
 ghost use Rattle.std.specs.Prelude.{◌≡◌, ℕ, ◌<◌, ◌≤◌};
 ghost use Rattle.fields.specs.Sizes.{nurse_places};
 ghost use Rattle.fields.specs.Fields.{Accepted, days};
-ghost use Rattle.history.specs.declared.Search.TheVariants.{Nights, Days};
 ghost use Rattle.history.specs.Slot.{Slot};
 ghost use Rattle.penalty.specs.Penalty.{parts_of, total, unplaced_in, parts_in};
-ghost use Rattle.penalty.specs.CodeCounts.{Bounded};
-ghost use Rattle.penalty.specs.CodeColumns.{Shows};
-ghost use Rattle.penalty.specs.CodeCounts.{DayCounts};
+ghost use Rattle.penalty.specs.CodeCounts.{Bounded, DayCounts};
+ghost use Rattle.penalty.specs.CodeColumns.{AllShow, Shows};
 
 use columns::Columns;
 use duty::Duty;
@@ -30,7 +28,7 @@ impl Penalty {
     // What a nurse not yet placed adds, flat.
     pub const UNPLACED: u64 = 10_000_000;
 
-    // Nothing counted yet.
+    // Nothing counted yet. Named as document 01 names it, and no Default.
     pub fn fresh() -> Penalty
         ensures { result ≡ record { short = 0; over = 0; unplaced = 0 } }
     {
@@ -49,44 +47,51 @@ impl Penalty {
     }
 }
 
-// One day in the night search: nights on N days, day need and lows on available nurses, day highs ignored.
-fn night_day(w: &[u64], d: usize, night: u64, day: u64) -> Duty
-    requires { Accepted w.now × (d < days w.now) }
-    ensures { DayCounts Nights w.now d night day result }
-{
-    let sets = fields::member_sets(w);
-    let needs = fields::needs(w, d);
-    let a = duty::on_column(weights::weights(w, 0), sets, needs, 0, night);
-    let b = duty::on_column(weights::weights(w, 1), sets, needs, 1, day);
-    Duty {
-        short: a.short + b.short,
-        over: a.over,
-    }
-}
-
-// One day in the day search: the night terms are zero.
-fn day_day(w: &[u64], d: usize, day: u64) -> Duty
-    requires { Accepted w.now × (d < days w.now) }
-    ensures { (night : ℕ) → DayCounts Days w.now d night day result }
-{
-    duty::on_column(
-        weights::weights(w, 1),
-        fields::member_sets(w),
-        fields::needs(w, d),
-        1,
-        day,
-    )
-}
-
-// One day in either search.
+// One day in either search: by night nights on N days, and day need and lows on available nurses, with day highs ignored; by day the night terms are zero.
+#[tactic(auto, using(crate::proofs::FieldLaws::light_of, crate::proofs::FieldLaws::needs_of))]
 pub fn on_day(w: &[u64], d: usize, night: u64, day: u64, search: Search) -> Duty
     requires { Accepted w.now × (d < days w.now) }
     ensures { DayCounts search w.now d night day result }
 {
+    let sets = fields::member_sets(w);
+    let needs = fields::needs(w, d);
+    let by_day = duty::on_column(weights::weights(w, 1), sets, needs, 1, day);
     match search {
-        Search::Nights => night_day(w, d, night, day),
-        Search::Days => day_day(w, d, day),
+        Search::Nights => {
+            let by_night = duty::on_column(weights::weights(w, 0), sets, needs, 0, night);
+            Duty {
+                short: by_night.short + by_day.short,
+                over: by_night.over,
+            }
+        }
+        Search::Days => by_day,
     }
+}
+
+// The penalty of a month whose days have these columns, by night and by day.
+pub fn over_days<F: Fn(usize) -> (u64, u64)>(
+    w: &[u64],
+    columns: F,
+    unplaced: u64,
+    search: Search,
+) -> Penalty
+    requires accepted { Accepted w.now × (unplaced ≤ nurse_places) }
+    requires callable { (d : ℕ) → d < days w.now → F.pre columns d }
+    ensures bounded { Bounded result }
+    ensures parts { (slots : ℕ → Slot) → AllShow (F.post columns) search w.now slots → unplaced ≡ unplaced_in w.now slots →
+        parts_of result ≡ parts_in search w.now slots }
+{
+    let mut sum = Penalty {
+        unplaced,
+        ..Penalty::fresh()
+    };
+    for d in 0..fields::days(w) {
+        let (night, day) = columns(d);
+        let of_day = on_day(w, d, night, day, search);
+        sum.short += of_day.short;
+        sum.over += of_day.over;
+    }
+    sum
 }
 
 // The penalty of columns, by night or by day.
@@ -96,13 +101,5 @@ pub fn parts(w: &[u64], cols: Columns, unplaced: u64, search: Search) -> Penalty
     ensures parts { (slots : ℕ → Slot) → Shows search w.now slots cols → unplaced ≡ unplaced_in w.now slots →
         parts_of result ≡ parts_in search w.now slots }
 {
-    let mut sum = Penalty::fresh();
-    sum.unplaced = unplaced;
-    let n = fields::days(w);
-    for d in 0..n {
-        let t = on_day(w, d, cols.night[d], cols.day[d], search);
-        sum.short = sum.short + t.short;
-        sum.over = sum.over + t.over;
-    }
-    sum
+    over_days(w, |d| (cols.night[d], cols.day[d]), unplaced, search)
 }

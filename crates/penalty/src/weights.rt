@@ -6,6 +6,7 @@ ghost use Rattle.penalty.specs.CodeCounts.{weights_of, no_high};
 use crate::duty::Weights;
 
 // The weights of a duty: k is 0 for night and 1 for day.
+#[tactic(auto, unfolding(crate::specs::CodeCounts::weights_of))]
 pub fn weights(w: &[u64], k: usize) -> Weights
     requires { Accepted w.now × (k < 2) }
     ensures { result ≡ weights_of w.now k }
@@ -22,10 +23,8 @@ pub fn low_weights(w: &[u64], k: usize) -> Weights
     requires { Accepted w.now × (k < 2) }
     ensures { result ≡ no_high (weights_of w.now k) }
 {
-    let wt = weights(w, k);
     Weights {
-        w: wt.w,
-        u: wt.u,
         v: 0,
+        ..weights(w, k)
     }
 }

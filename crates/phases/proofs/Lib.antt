@@ -2,3 +2,4 @@ pub mod PhaseLaws
 pub mod QuestionLaws
 pub mod OpeningLaws
 pub mod FitLaws
+pub mod ExitLaws

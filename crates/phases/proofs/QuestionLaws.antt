@@ -1,5 +1,5 @@
 -- A nurse's own patterns by the test of one pattern, the three parts of question 11, and question 10 as a loop over the nurses asks it.
-use Prim.Native.Nat.{ℕ, zero, suc, ◌+◌, ◌-◌, ◌≤◌, ◌<◌, suc-le-suc, min}
+use Prim.Native.Nat.{ℕ, zero, suc, ◌+◌, ◌-◌, ◌≤◌, ◌<◌, suc-le-suc}
 use mathlib.Core.Path.{◌≡◌, refl, sym, ap, ap₂, ◌∙◌, subst}
 use mathlib.Core.Bool.{Bool, true, false, ◌&&◌, ◌||◌, false≢true}
 use mathlib.Core.List.{List, [], ◌∷◌, map}
@@ -150,22 +150,6 @@ module _ (which : Search) (w nights : List ℕ) (x : ℕ) (s : Slot) (named : x 
       sym (ap (λ (b : Bool). b && hers (phase_of which w nights) (x - 1) s) (le-ltb (x - 1) (phase_of which w nights).nurses past))
       ∙ ap (λ (y : ℕ). names (phase_of which w nights) y s) (sym (number_of x named))
 
--- ---- the loops over the nurses and over the removals held: all that are asked
-
-pub all_from : (t : ℕ → Bool) {m n : ℕ} → m ≡ n → all t (up_from 0 n) ≡ all t (up_from 0 (m - 0))
-all_from t {m} {n} e =
-    let q : n ≡ m - 0 = omega arith in
-    ap (λ (k : ℕ). all t (up_from 0 k)) q
-
-pub nurses_begin : (t : ℕ → Bool) (which : Search) (w nights : List ℕ) {m : ℕ} → m ≡ nurses w
-    → all t (up_from 0 (phase_of which w nights).nurses) ≡ all t (up_from 0 (m - 0))
-nurses_begin t which w nights e = all_from t (e ∙ sym (phase_nurses w nights which))
-
-pub held_all : (t : ℕ → Bool) (which : Search) (w nights : List ℕ) (steps : ℕ) {n tl : ℕ} {r : Bool} → r ≡ all t (up_from 0 n) → n ≡ min steps tl → tl ≡ tabu w
-    → r ≡ all t (up_from 0 (min steps (phase_of which w nights).tabu))
-held_all t which w nights steps h e q =
-    h ∙ ap (λ (k : ℕ). all t (up_from 0 k)) (e ∙ ap (λ (l : ℕ). min steps l) (q ∙ sym (phase_tabu w nights which)))
-
 -- ---- question 11, by its three parts
 
 module _ (which : Search) (w nights : List ℕ) (x : Stored) (a : Accepted w) (s : Sized x) where
@@ -210,11 +194,6 @@ unfolding up_from
 range_past m i h =
     let e : m - i ≡ 0 = omega arith in
     rw e
-
-pub lacking_begin : (lists : ℕ → List ℕ) {m n : ℕ} → m ≡ n → lacking lists (up_from 0 n) ≡ lacking lists (up_from 0 (m - 0))
-lacking_begin lists {m} {n} e =
-    let q : n ≡ m - 0 = omega arith in
-    ap (λ (k : ℕ). lacking lists (up_from 0 k)) q
 
 module _ (lists : ℕ → List ℕ) {m : ℕ} (i : ℕ) {W : Option Refusal} (left : W ≡ lacking lists (up_from i (m - i))) where
   lacking_here : i < m → W ≡ lacking lists (i ∷ up_from (i + 1) (m - (i + 1)))

@@ -11,7 +11,8 @@ ghost use Rattle.phases.specs.Phases.{nights_open, night_of};
 
 use fields::sizes::NURSES;
 use history::Search;
-use refusals::{Answer, question};
+use refusals::Refusal;
+use refusals::question::Question;
 use search::Record;
 
 // Whether each night pattern is hers, with its pair.
@@ -19,16 +20,7 @@ fn nights_hers(w: &[u64], nights: &[u64; NURSES]) -> bool
     requires { Accepted w.now }
     ensures { result ≡ all (λ i. own_pattern w.now i (night_of nights.now i)) (up_from 0 (nurses w.now)) }
 {
-    let m = fields::nurses(w);
-    let mut i: usize = 0;
-    while i < m {
-        if nights::is_own(w, i, nights[i]) {
-            i += 1;
-        } else {
-            return false;
-        }
-    }
-    true
+    (0..fields::nurses(w)).all(|i| nights::is_own(w, i, nights[i]))
 }
 
 // The night penalty, everyone placed.
@@ -36,11 +28,11 @@ fn night_penalty(w: &[u64], nights: &[u64; NURSES]) -> u64
     requires { Accepted w.now }
     ensures { result ≡ night_penalty w.now (λ i. some (night_of nights.now i)) }
 {
-    let patterns = *nights;
-    let placed = [true; NURSES];
-    let mut rec = Record::fresh();
-    rec.patterns = patterns;
-    rec.placed = placed;
+    let rec = Record {
+        patterns: *nights,
+        placed: [true; NURSES],
+        ..Record::fresh()
+    };
     search::slots::penalty_of(w, rec, Search::Nights)
 }
 
@@ -48,15 +40,12 @@ fn nights_open(w: &[u64], nights: &[u64; NURSES]) -> bool
     requires { Accepted w.now }
     ensures { result ≡ nights_open w.now (night_of nights.now) }
 {
-    if nights_hers(w, nights) {
-        return night_penalty(w, nights) == 0;
-    }
-    false
+    nights_hers(w, nights) && night_penalty(w, nights) == 0
 }
 
-pub fn nights_asked(w: &[u64], nights: &[u64; NURSES]) -> Answer
+pub fn nights_asked(w: &[u64], nights: &[u64; NURSES]) -> Result<(), Refusal>
     requires { Accepted w.now }
     ensures { refusal_in result ≡ unless (nights_open w.now (night_of nights.now)) question.nights 0 }
 {
-    refusals::unless(nights_open(w, nights), question::NIGHTS, 0)
+    Question::Nights.unless(nights_open(w, nights), 0)
 }

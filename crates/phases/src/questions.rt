@@ -16,16 +16,14 @@ ghost use Rattle.phases.specs.CodeQuestions.{phase_of};
 use fields::sizes::NURSES;
 use history::Search;
 use numbers::pattern;
-use refusals::{Answer, question};
+use refusals::Refusal;
+use refusals::question::Question;
 
 // k is allowed, and so are the steps so far with k more.
 fn steps_allowed(steps: u32, k: u32) -> bool
     ensures { result ≡ (leb k 10000 && leb (steps + k) 1000000) }
 {
-    if 10000 < k {
-        return false;
-    }
-    steps as u64 + k as u64 <= 1000000
+    k <= 10000 && u64::from(steps) + u64::from(k) <= 1000000
 }
 
 // Whether p is one of nurse i's own by day, over her pattern by night: it has no pair.
@@ -33,10 +31,7 @@ fn is_days_own(w: &[u64], i: usize, night: u64, p: u64) -> bool
     requires { Accepted w.now × (i < nurses w.now) }
     ensures { result ≡ among (map unpaired (day_list w.now i night)) p }
 {
-    if pattern::pair_of(p) == 0 {
-        return days::is_day_pattern(w, i, night, pattern::days_of(p));
-    }
-    false
+    pattern::pair_of(p) == 0 && days::is_day_pattern(w, i, night, pattern::days_of(p))
 }
 
 // Whether p is one of nurse i's own.
@@ -62,10 +57,7 @@ pub(crate) fn slot_hers(
     requires { Accepted w.now × (i < nurses w.now) }
     ensures { result ≡ hers (phase_of search w.now nights.now) i (slot placed p) }
 {
-    if placed {
-        return is_hers(w, nights, search, i, p);
-    }
-    true
+    !placed || is_hers(w, nights, search, i, p)
 }
 
 // Whether each placed nurse holds one of her own.
@@ -78,16 +70,7 @@ pub(crate) fn slots_hers(
     requires { Accepted w.now }
     ensures { result ≡ all (λ i. hers (phase_of search w.now nights.now) i (slot_at rec i)) (up_from 0 (phase_of search w.now nights.now).nurses) }
 {
-    let m = fields::nurses(w);
-    let mut i: usize = 0;
-    while i < m {
-        if slot_hers(w, nights, search, i, rec.placed[i], rec.patterns[i]) {
-            i += 1;
-        } else {
-            return false;
-        }
-    }
-    true
+    (0..fields::nurses(w)).all(|i| slot_hers(w, nights, search, i, rec.placed[i], rec.patterns[i]))
 }
 
 // Whether a removal names a nurse, with one of hers or with none.
@@ -121,18 +104,8 @@ pub(crate) fn removals_name(
     requires { Accepted w.now }
     ensures { result ≡ all (names_at (phase_of search w.now nights.now) rec.removals) (up_from 0 (held (phase_of search w.now nights.now).tabu rec)) }
 {
-    let n = removals::lesser(rec.steps as usize, fields::tabu(w));
-    let list = rec.removals;
-    let mut j: usize = 0;
-    while j < n {
-        let x = list[j];
-        if removal_names(w, nights, search, x) {
-            j += 1;
-        } else {
-            return false;
-        }
-    }
-    true
+    let n = (rec.steps as usize).min(fields::tabu(w));
+    (0..n).all(|j| removal_names(w, nights, search, rec.removals[j]))
 }
 
 // Each placed nurse holds one of her own, each removal held names a nurse, and unused fields are 0.
@@ -146,38 +119,29 @@ pub(crate) fn record_sound(
     ensures { result ≡ sound_stored (phase_of search w.now nights.now) rec }
 {
     let zero = rec.unused_zero(fields::nurses(w), fields::tabu(w));
-    if slots_hers(w, nights, search, rec) {
-        if removals_name(w, nights, search, rec) {
-            return zero;
-        }
-    }
-    false
+    slots_hers(w, nights, search, rec) && (removals_name(w, nights, search, rec) && zero)
 }
 
 // ---- the questions that an advance asks, by their number and place
 
 // Question 7.
-pub fn steps_asked(steps: u32, k: u32) -> Answer
+pub fn steps_asked(steps: u32, k: u32) -> Result<(), Refusal>
     ensures { refusal_in result ≡ unless (leb k 10000 && leb (steps + k) 1000000) question.steps 0 }
 {
-    refusals::unless(steps_allowed(steps, k), question::STEPS, 0)
+    Question::Steps.unless(steps_allowed(steps, k), 0)
 }
 
 // Question 10 by night.
-pub fn nights_lacking(w: &[u64]) -> Answer
+pub fn nights_lacking(w: &[u64]) -> Result<(), Refusal>
     requires { Accepted w.now }
     ensures { refusal_in result ≡ lacking (pattern_list w.now) (up_from 0 (nurses w.now)) }
 {
-    let m = fields::nurses(w);
-    let mut i: usize = 0;
-    while i < m {
-        if nightlists::some::has_pattern(w, i) {
-            i += 1;
-        } else {
-            return refusals::no(question::PATTERNS, i + 1);
+    for i in 0..fields::nurses(w) {
+        if !nightlists::some::has_pattern(w, i) {
+            return Err(Question::Patterns.at(i + 1));
         }
     }
-    Answer::Yes
+    Ok(())
 }
 
 // Question 11.
@@ -186,9 +150,9 @@ pub fn record_asked(
     nights: &[u64; NURSES],
     search: Search,
     rec: search::Record,
-) -> Answer
+) -> Result<(), Refusal>
     requires { Accepted w.now }
     ensures { refusal_in result ≡ unless (sound_stored (phase_of search w.now nights.now) rec) question.record_sound 0 }
 {
-    refusals::unless(record_sound(w, nights, search, rec), question::RECORD, 0)
+    Question::Record.unless(record_sound(w, nights, search, rec), 0)
 }

@@ -1,7 +1,7 @@
 -- What is kept comes back as it was, so every list of advances goes as from the moment of keeping.
 use mathlib.Core.Path.{ap}
 use Rattle.history.specs.Phase.{in_turn}
-use Rattle.keeping.specs.declared.Returned.{Returned}
+use Rattle.search.specs.declared.Record.{Record as Stored}
 use Rattle.keeping.proofs.AssuranceLaws.{assurance}
 use Rattle.planner.specs.Advances.{advance_nights, advance_days}
 use Rattle.planner.specs.Assurance.{Assured}
@@ -10,7 +10,7 @@ pub assured : Assured
 assured storage n kept in_hand meanwhile sized may others =
     let back = assurance.unchanged storage n kept in_hand meanwhile sized may others in
     record {
-      done = ap (λ (x : Returned). x.answer) back;
-      nights = λ file cs. ap (λ (x : Returned). in_turn (advance_nights file) cs x.after) back;
-      days = λ file nights cs. ap (λ (x : Returned). in_turn (advance_days file nights) cs x.after) back;
+      done = back.0;
+      nights = λ file cs. ap (λ (x : Stored). in_turn (advance_nights file) cs x) back.1;
+      days = λ file nights cs. ap (λ (x : Stored). in_turn (advance_days file nights) cs x) back.1;
     }

@@ -1,7 +1,7 @@
 -- Demand 1: each call refuses exactly by its first fault.
 use Prim.Native.Nat.{ℕ, ◌+◌, ◌*◌, ◌≤◌, ◌<◌}
 use mathlib.Core.Path.{◌≡◌, refl, sym, ap, ap₂, ◌∙◌, subst}
-use mathlib.Core.Bool.{Bool, true, false, cond, ◌&&◌, true≢false}
+use mathlib.Core.Bool.{Bool, true, false, ◌&&◌, true≢false}
 use mathlib.Core.Logic.{◌≢◌, ◌↔◌, ◌⊎◌, inl, inr}
 use mathlib.Core.List.{List}
 use mathlib.Core.Option.{Option, none, some, none-ne-some, some-injective}
@@ -15,7 +15,7 @@ use Rattle.layout.specs.Grammar.{Read, good, bad, bytes_of}
 use Rattle.layout.specs.Layout.{ward}
 use Rattle.layout.specs.Faults.{FileFault, ListFault}
 use Rattle.layout.proofs.LongestLaws.{longest_file, longest_there}
-use Rattle.ward.specs.Answers.{read_ward, reading_of, refused_of, counted, check_ward, unwritten, writing_of, left_of}
+use Rattle.ward.specs.Answers.{read_ward, reading_of, counted, check_ward, writing_of, left_of}
 use Rattle.ward.specs.declared.Ward.{Ward}
 use Rattle.codec.proofs.NumberLaws.{all_bytes}
 use Rattle.ward.proofs.FaultLaws.{file_fault, fault_file, file_good, good_file, list_fault, fault_list, list_good, good_list, good_accepted}
@@ -25,11 +25,11 @@ use Rattle.nights.specs.NightRule.{PatternHers}
 use Rattle.nights.proofs.PairRuleLaws.{pattern_rule}
 use Rattle.penalty.specs.Penalty.{night_penalty}
 use Rattle.letters.specs.Letters.{misplaced}
-use Rattle.rostercheck.specs.CodeCheck.{holds}
-use Rattle.history.specs.Phase.{Phase, Call, Answer, refused, ended, end_zero, end_asked, end_none, refusal}
+use Rattle.history.specs.Phase.{Phase, Call, Answer, refused, ended, refusal}
 use Rattle.refusals.proofs.OrderLaws.{first_last}
 use Rattle.refusals.specs.declared.Refusal.{Refusal}
-use Rattle.refusals.specs.Refusals.{numbered, refusal_in, first, unless}
+use Rattle.refusals.specs.Refusals.{numbered, first, unless}
+use Rattle.std.specs.declared.result.Result.TheVariants.{Err}
 use Rattle.refusals.specs.Questions as question
 use Rattle.history.specs.Record.{lacking, reply_of}
 use Rattle.history.specs.Questions.{Questions, end, ask, FirstNo}
@@ -41,15 +41,14 @@ use Rattle.search.specs.declared.Record.{Record as Stored}
 use Rattle.search.proofs.SoundLaws.{sound_when}
 use Rattle.search.proofs.AdvanceLaws.{stored_refused, stored_goes}
 use Rattle.phases.specs.Phases.{night_phase, day_phase, nights_open, common_fits, lists_fit, day_list_over, night_of}
-use Rattle.outcomes.specs.Outcomes.{advance_of, roster_of, left_by, call_of}
+use Rattle.outcomes.specs.Outcomes.{advance_of, left_by, call_of}
 use Rattle.phases.proofs.FitLaws.{over_answers}
 use Rattle.phases.proofs.PhaseLaws.{night_fits, day_fits}
 use Rattle.planner.specs.Advances.{advance_over, advance_nights, advance_days}
 use Rattle.planner.specs.Answers.{check_letters, check_over, check_says}
-use Rattle.outcomes.specs.declared.Checked.TheVariants as checks
 use Rattle.planner.specs.Left.{list_of, night_left, lists_of, day_left}
 use Rattle.planner.specs.Faults.{StepsFault, NightsFault, CommonFault, ListsFault, PatternFault, RecordFault, LettersFault, night_questions, day_questions, check_questions, FileNo, in_file, in_call, WriterNo, in_numbers, in_buffer}
-use Rattle.planner.specs.Demand1.{Refuses, Bytes, no_in_outcome, no_in_check, refused_by, ReadRefuses, WriteRefuses, NightsRefuse, DaysRefuse, CheckRefuses, Demand1}
+use Rattle.planner.specs.Demand1.{Refuses, Bytes, no_in_result, refused_by, ReadRefuses, WriteRefuses, NightsRefuse, DaysRefuse, CheckRefuses, Demand1}
 use Rattle.planner.proofs.LetterFaultLaws.{misplaced_fault, fault_misplaced}
 use Rattle.planner.proofs.KeepFaultLaws.{keep_refuses, return_refuses}
 
@@ -203,22 +202,20 @@ module _ (file : List ℕ) (bytes : Bytes file) (questions : List ℕ → Questi
 
 -- ---- the calls
 
-advance_no : (a : Answer × Stored) → no_in_outcome (advance_of a).outcome ≡ no_in a.0
+advance_no : (a : Answer × Stored) → no_in_result (advance_of a) ≡ no_in a.0
 unfolding advance_of
 advance_no (refused n, r) = refl
-advance_no (ended end_zero steps penalty roster, r) = refl
-advance_no (ended end_asked steps penalty roster, r) = refl
-advance_no (ended end_none steps penalty roster, r) = refl
+advance_no (ended e steps penalty roster, r) = refl
 
 -- an advance whose answer refuses so: what it gives, and what it leaves where `list` is what it would write
 module _ (Fault : ℕ → ℕ → Type 0) (a : Answer × Stored) (r : Stored) (list buffer : List ℕ) (f : AnswerRefuses Fault a r) where
-  refuses : Refuses Fault (advance_of a) (λ x. no_in_outcome x.outcome) (refused_by r) (left_by a.0 list buffer ≡ buffer)
-  unfolding advance_of left_by roster_of
+  refuses : Refuses Fault (advance_of a) no_in_result refused_by ((a.1 ≡ r) × (left_by a.0 list buffer ≡ buffer))
+  unfolding advance_of left_by
   refuses = record {
     only = λ q p e. f.only q p (sym (advance_no a) ∙ e);
     always = λ q p w.
         let s = f.always q p w in
-        (ap advance_of s, ap (λ (x : Answer × Stored). left_by x.0 list buffer) s);
+        (ap advance_of s, (ap (λ (x : Answer × Stored). x.1) s, ap (λ (x : Answer × Stored). left_by x.0 list buffer) s));
   }
 
 module _ (file : List ℕ) (bytes : Bytes file) (r : Stored) (sized : Sized r) (c : Call) where
@@ -242,46 +239,42 @@ days_refuse file bytes nights r sized k past_zero buffer =
     refuses (FileNo file (day_questions (night_of nights) c r)) (advance_days file nights c r) r (lists_of (read_ward file) nights) buffer
     (days_answer file bytes r sized c nights)
 
-no_refusal : (b : Bool) → no_in_check (cond b checks.Passed checks.Broken) ≡ none
-no_refusal true = refl
-no_refusal false = refl
-
 check_refuses : (file : List ℕ) → Bytes file → (roster : List ℕ) → CheckRefuses file roster
 unfolding check_over check_letters FirstNo
 check_refuses file bytes roster = record { only = only; always = λ q p f. (always q p f, tt) }
   where
-    letters_no : (w : List ℕ) (n : Refusal) (o : Option ℕ) → misplaced (nurses w * days w) roster ≡ o → no_in_check (check_letters w roster) ≡ some n
+    letters_no : (w : List ℕ) (n : Refusal) (o : Option ℕ) → misplaced (nurses w * days w) roster ≡ o → no_in_result (check_letters w roster) ≡ some n
         → FirstNo (check_questions roster w) n.question n.place
-    letters_no w n none q e = absurd (none-ne-some n (sym (rw (q, check_letters) (no_refusal (holds w roster))) ∙ e))
+    letters_no w n none q e = absurd (none-ne-some n (sym (rw (q, check_letters) refl) ∙ e))
     letters_no w n (some place) q e =
         let x : some (numbered question.letters place) ≡ some n = sym (rw (q, check_letters)) ∙ e in
         let same : numbered question.letters place ≡ n = some_no x in
         inl (sym (ap (λ (m : Refusal). m.question) same), subst (LettersFault (nurses w * days w) roster) (ap (λ (m : Refusal). m.place) same) (misplaced_fault (nurses w * days w) roster place q))
 
-    only : (q p : ℕ) → no_in_check (check_says file roster) ≡ some (numbered q p) → FileNo file (check_questions roster) q p
+    only : (q p : ℕ) → no_in_result (check_says file roster) ≡ some (numbered q p) → FileNo file (check_questions roster) q p
     only q p e = go (read_ward file) refl e
       where
-        go : (x : Read) → read_ward file ≡ x → no_in_check (check_over x roster) ≡ some (numbered q p) → FileNo file (check_questions roster) q p
+        go : (x : Read) → read_ward file ≡ x → no_in_result (check_over x roster) ≡ some (numbered q p) → FileNo file (check_questions roster) q p
         go (bad m) s x = unread file bytes (check_questions roster) (numbered q p) m s x
         go (good w) s x =
             let b = body_of w in
             in_call w (file_good file w (all_bytes file bytes) s) (letters_no b (numbered q p) (misplaced (nurses b * days b) roster) refl x)
 
-    always : (q p : ℕ) → FileNo file (check_questions roster) q p → check_says file roster ≡ checks.Refused (numbered q p)
+    always : (q p : ℕ) → FileNo file (check_questions roster) q p → check_says file roster ≡ Err (numbered q p)
     always q p (in_file f) = ap (λ (x : Read). check_over x roster) (fault_file file q p f)
     always q p (in_call w g (inl f)) =
         ap (λ (x : Read). check_over x roster) (good_file file w g) ∙ rw (fault_misplaced (nurses (body_of w) * days (body_of w)) roster p f.1, check_letters)
-        (ap (λ (k : ℕ). checks.Refused (numbered k p)) (sym f.0))
+        (ap (λ (k : ℕ). Err (numbered k p)) (sym f.0))
     always q p (in_call w g (inr f)) = absurd f.1
 
 read_refuses : (file : List ℕ) → Bytes file → ReadRefuses file
-unfolding reading_of refused_of
+unfolding reading_of
 read_refuses file bytes = record {
   only = λ q p e. go (read_ward file) refl q p e;
   always = λ q p f. (ap reading_of (fault_file file q p f), tt);
 }
   where
-    go : (x : Read) → read_ward file ≡ x → (q p : ℕ) → refusal_in (reading_of x).answer ≡ some (numbered q p) → FileFault ward file q p
+    go : (x : Read) → read_ward file ≡ x → (q p : ℕ) → no_in_result (reading_of x) ≡ some (numbered q p) → FileFault ward file q p
     go (good w) s q p e = absurd (none-ne-some _ e)
     go (bad m) s q p e =
         let f = file_fault file (all_bytes file bytes) m.question m.place s in
@@ -290,7 +283,7 @@ read_refuses file bytes = record {
 -- the writer's questions of the numbers ws, with so many places
 module _ (ws buffer : List ℕ) where
   abbrev Says : Read → ℕ → ℕ → Type 0
-  Says x q p = refusal_in (writing_of (length buffer) x).answer ≡ some (numbered q p)
+  Says x q p = no_in_result (writing_of (length buffer) x) ≡ some (numbered q p)
 
   room : (vs : List ℕ) (b : Bool) → ltb (length buffer) (length (bytes_of vs)) ≡ b → check_ward ws ≡ good vs → (q p : ℕ) → Says (good vs) q p → WriterNo ws (length buffer) q p
   unfolding writing_of
@@ -309,12 +302,12 @@ module _ (ws buffer : List ℕ) where
       in_numbers (subst (λ (l : Refusal). ListFault ward ws l.question l.place) (some_no e) (list_fault ws m.question m.place s))
 
   write_always : (q p : ℕ) → WriterNo ws (length buffer) q p
-      → (writing_of (length buffer) (check_ward ws) ≡ unwritten (numbered q p)) × (left_of buffer (check_ward ws) ≡ buffer)
+      → (writing_of (length buffer) (check_ward ws) ≡ Err (numbered q p)) × (left_of buffer (check_ward ws) ≡ buffer)
   unfolding writing_of left_of
   write_always q p (in_numbers f) = rw (fault_list ws q p f) (refl, refl)
   write_always q p (in_buffer e f) =
       rw (good_list ws f.1, lt-ltb (length buffer) (length (bytes_of ws)) f.2)
-      (ap₂ (λ (a b : ℕ). unwritten (numbered a b)) (sym e) (sym f.0), refl)
+      (ap₂ (λ (a b : ℕ). Err (numbered a b)) (sym e) (sym f.0), refl)
 
 write_refuses : (w : Ward) (buffer : List ℕ) → WriteRefuses w buffer
 write_refuses w buffer = record { only = λ q p e. write_only (counted w) buffer (check_ward (counted w)) refl q p e; always = write_always (counted w) buffer }

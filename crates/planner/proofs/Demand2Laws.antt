@@ -29,19 +29,22 @@ use Rattle.letters.proofs.LetterLaws.{placed_long}
 use Rattle.rostercheck.specs.Check.{Holds}
 use Rattle.rostercheck.specs.CodeCheck.{holds}
 use Rattle.rostercheck.proofs.CheckLaws.{holds_sound, holds_complete}
-use Rattle.outcomes.specs.declared.Checked.{Checked}
-use Rattle.outcomes.specs.declared.Checked.TheVariants.{Refused, Passed, Broken}
+use Rattle.std.specs.declared.result.Result.{Result}
+use Rattle.std.specs.declared.result.Result.TheVariants.{Ok, Err}
+use Rattle.refusals.specs.declared.Refusal.{Refusal}
+use Rattle.outcomes.specs.declared.Verdict.{Verdict}
+use Rattle.outcomes.specs.declared.Verdict.TheVariants.{Passed, Broken}
 use Rattle.planner.specs.Answers.{check_letters, check_over, check_says}
 use Rattle.planner.specs.Demand2.{Passes, Demand2}
 
 -- ---- the check
 
-abbrev is_yes : Checked → Bool
-is_yes (Refused n) = false
-is_yes Passed = true
-is_yes Broken = false
+abbrev is_yes : Result Verdict Refusal → Bool
+is_yes (Err n) = false
+is_yes (Ok Passed) = true
+is_yes (Ok Broken) = false
 
-yes_when : (b : Bool) → is_yes (cond b Passed Broken) ≡ b
+yes_when : (b : Bool) → is_yes (Ok (cond b Passed Broken)) ≡ b
 yes_when true = refl
 yes_when false = refl
 
@@ -49,26 +52,26 @@ module _ (w roster : List ℕ) (few : pair_count w < 2 ^ 32) where
   abbrev place : Option ℕ
   place = misplaced (nurses w * days w) roster
 
-  letters_yes : check_letters w roster ≡ Passed → (place ≡ none) × Holds w roster
+  letters_yes : check_letters w roster ≡ Ok Passed → (place ≡ none) × Holds w roster
   unfolding check_letters
   letters_yes e = go place refl
     where
       go : (o : Option ℕ) → place ≡ o → (place ≡ none) × Holds w roster
       go none q =
-          let y : cond (holds w roster) Passed Broken ≡ check_letters w roster = sym (rw (q, check_letters)) in
+          let y : Ok (cond (holds w roster) Passed Broken) ≡ check_letters w roster = sym (rw (q, check_letters)) in
           (q, holds_sound w roster few (placed_long (nurses w * days w) roster q) (sym (yes_when (holds w roster)) ∙ ap is_yes (y ∙ e)))
       go (some p) q =
-          let y : Refused (numbered question.letters p) ≡ check_letters w roster = sym (rw (q, check_letters)) in
+          let y : Err (numbered question.letters p) ≡ check_letters w roster = sym (rw (q, check_letters)) in
           absurd (false≢true (ap is_yes (y ∙ e)))
 
-  yes_letters : place ≡ none → Holds w roster → check_letters w roster ≡ Passed
+  yes_letters : place ≡ none → Holds w roster → check_letters w roster ≡ Ok Passed
   unfolding check_letters
   yes_letters q h = rw (q, check_letters, holds_complete w roster few (placed_long (nurses w * days w) roster q) h)
 
 few_read : (file ws : List ℕ) → read_ward file ≡ good ws → pair_count (body_of ws) < 2 ^ 32
 few_read file ws e = omega (arith, (list_accepted file ws e).pairs_most)
 
-yes_passes : (file roster : List ℕ) → check_says file roster ≡ Passed → Passes file roster
+yes_passes : (file roster : List ℕ) → check_says file roster ≡ Ok Passed → Passes file roster
 unfolding check_over
 yes_passes file roster e = go (read_ward file) refl
   where
@@ -78,7 +81,7 @@ yes_passes file roster e = go (read_ward file) refl
         record { numbers = ws; reads = q; lettered = y.0; holds = y.1 }
     go (bad n) q = absurd (false≢true (ap is_yes (sym (ap (λ (x : Read). check_over x roster) q) ∙ e)))
 
-passes_yes : (file roster : List ℕ) → Passes file roster → check_says file roster ≡ Passed
+passes_yes : (file roster : List ℕ) → Passes file roster → check_says file roster ≡ Ok Passed
 unfolding check_over
 passes_yes file roster p = ap (λ (x : Read). check_over x roster) p.reads ∙ yes_letters (body_of p.numbers) roster (few_read file p.numbers p.reads) p.lettered p.holds
 

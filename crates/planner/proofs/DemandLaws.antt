@@ -55,7 +55,8 @@ use Rattle.rostercheck.specs.CodeCheck.{holds}
 use Rattle.rostercheck.proofs.GivenLaws.{duty_alike, members_alike, Patterns, placed_all, given_at_zero}
 use Rattle.phases.specs.Phases.{night_phase, nights_open, lists_fit, day_list_over, day_patterns_over, day_phase, night_of}
 use Rattle.planner.specs.Advances.{advance_over, advance_nights, advance_days}
-use Rattle.outcomes.specs.declared.Checked.TheVariants.{Passed}
+use Rattle.std.specs.declared.result.Result.TheVariants.{Ok}
+use Rattle.outcomes.specs.declared.Verdict.TheVariants.{Passed}
 use Rattle.planner.specs.Answers.{check_letters, check_over, check_says}
 use Rattle.planner.specs.Demand3.{NightPatterns, DayPatterns, Rightly, Settled, UnlessRefused, Each, DayDemand, start_of, image_of, Demanded}
 use Rattle.phases.proofs.PhaseLaws.{night_fits, night_lawful, day_fits, day_lawful}
@@ -154,7 +155,7 @@ module _ (w : List ℕ) (nights : ℕ → ℕ) where
         (g.placed, g.yes_said)
 
     module _ (file : List ℕ) (reads : (l : List ℕ) → check_says file l ≡ check_letters w l) where
-      check_yes : (l : List ℕ) → YesTo l → check_says file l ≡ Passed
+      check_yes : (l : List ℕ) → YesTo l → check_says file l ≡ Ok Passed
       unfolding check_over check_letters
       check_yes l y = reads l ∙ rw (y.0, check_letters, y.1)
 

@@ -11,14 +11,15 @@ use borrow.Author.Tests.{leb-false, lt-leb, eq-eqb, eqb-true}
 use Rattle.refusals.specs.Refusals.{numbered, answer_by, unless}
 use Rattle.refusals.specs.Questions as question
 use Rattle.refusals.specs.declared.Refusal.{Refusal}
-use Rattle.refusals.proofs.OrderLaws.{first_last, refusal_back}
+use Rattle.refusals.proofs.OrderLaws.{first_last}
+use Rattle.std.specs.declared.result.Result.TheVariants.{Ok, Err}
 use Rattle.history.specs.Session.{keep_number}
 use Rattle.history.specs.Questions.{end, ask}
 use Rattle.history.proofs.FirstLaws.{Answers, AnswersAll, none_answers, first_answers, unless_answers}
 use Rattle.search.specs.declared.Record.{Record as Stored}
-use Rattle.keeping.specs.Storage.{storage_words, entry_at, has_room, is_kept, may_keep, keep_no, kept_in, may_return, return_no, returned_to}
+use Rattle.keeping.specs.Storage.{storage_words, entry_at, has_room, is_kept, may_keep, keep_no, kept_in, may_return, return_no, record_at, returned_to, returned_of}
 use Rattle.planner.specs.Faults.{KeepFault, ReturnFault, keep_questions, return_questions}
-use Rattle.planner.specs.Demand1.{KeepRefuses, ReturnRefuses}
+use Rattle.planner.specs.Demand1.{no_in_result, KeepRefuses, ReturnRefuses}
 
 -- ---- where a test of two parts fails
 
@@ -81,14 +82,27 @@ return_leaves : (storage : List ℕ) (n : ℕ) (r : Stored) {no : Refusal} → r
 unfolding return_no returned_to
 return_leaves storage n r e = rw (not_done (may_return storage n) e)
 
+-- the refusal in an answer, and in what a return answers
+no_back : (o : Option Refusal) → no_in_result (answer_by o) ≡ o
+no_back none = refl
+no_back (some n) = refl
+
+return_back : (o : Option Refusal) (r : Stored) → no_in_result {T = Stored} (elim o [ none ↦ Ok r | some x ↦ Err x ]) ≡ o
+return_back none r = refl
+return_back (some n) r = refl
+
+-- a return's answer by its refusal
+pub return_answered : (storage : List ℕ) (n : ℕ) (x : Refusal) → no_in_result (answer_by (return_no storage n)) ≡ some x → no_in_result (returned_of storage n) ≡ some x
+return_answered storage n x e = return_back (return_no storage n) (record_at storage n) ∙ sym (no_back (return_no storage n)) ∙ e
+
 pub keep_refuses : (r : Stored) (n : ℕ) (storage : List ℕ) → KeepRefuses r n storage
 keep_refuses r n storage = record {
-  only = λ q p e. (keep_answers storage n (numbered q p)).0 (sym (refusal_back (keep_no storage n)) ∙ e);
+  only = λ q p e. (keep_answers storage n (numbered q p)).0 (sym (no_back (keep_no storage n)) ∙ e);
   always = λ q p f. let e = (keep_answers storage n (numbered q p)).1 f in (ap answer_by e, keep_leaves storage n r e);
 }
 
 pub return_refuses : (r : Stored) (n : ℕ) (storage : List ℕ) → ReturnRefuses r n storage
 return_refuses r n storage = record {
-  only = λ q p e. (return_answers storage n (numbered q p)).0 (sym (refusal_back (return_no storage n)) ∙ e);
-  always = λ q p f. let e = (return_answers storage n (numbered q p)).1 f in (rw (return_leaves storage n r e, e), tt);
+  only = λ q p e. (return_answers storage n (numbered q p)).0 (sym (return_back (return_no storage n) (record_at storage n)) ∙ e);
+  always = λ q p f. let e = (return_answers storage n (numbered q p)).1 f in (rw (returned_of, e), return_leaves storage n r e);
 }

@@ -1,33 +1,28 @@
 -- Demand 1 in one record: for every published call and any input, a refusal comes exactly for the fault that it names, at its place, no earlier question
--- being a no, and then all else in the result is 0 and all that was lent holds what it held. That a call otherwise answers is its contract's equation.
-use Rattle.fields.specs.Sizes.{letter_places, number_places}
-use Rattle.refusals.specs.Refusals.{numbered, refusal_in, answer_by}
-use Rattle.std.specs.Prelude.{ℕ, ◌≤◌, ◌<◌, ◌≡◌, Bool, List, length, get_or, replicate}
+-- being a no, and then the result is that refusal alone, and all that was lent or handed in is what it was. That a call otherwise answers is its contract's equation.
+use Rattle.refusals.specs.Refusals.{numbered, answer_by}
+use Rattle.std.specs.declared.result.Result.{Result}
+use Rattle.std.specs.declared.result.Result.TheVariants.{Ok, Err}
+use Rattle.std.specs.Prelude.{ℕ, ◌≤◌, ◌<◌, ◌≡◌, Bool, List, length, get_or}
 use Rattle.std.proofs.Math.Option.{Option, none, some}
 use Rattle.layout.specs.Layout.{ward}
 use Rattle.layout.specs.Faults.{FileFault, FileGood}
 use Rattle.ward.specs.Answers.{read_ward, reading_of, counted, check_ward, writing_of, left_of}
-use Rattle.refusals.specs.declared.Answer.TheVariants.{No}
 use Rattle.ward.specs.declared.Ward.{Ward}
 use Rattle.refusals.specs.declared.Refusal.{Refusal}
 use Rattle.search.specs.Stored.{Sized}
 use Rattle.search.specs.declared.Record.{Record as Stored}
 use Rattle.phases.specs.Phases.{night_of}
 use Rattle.outcomes.specs.Outcomes.{advance_of, call_of}
-use Rattle.outcomes.specs.declared.Advance.{Advance}
-use Rattle.outcomes.specs.declared.Outcome.{Outcome}
-use Rattle.outcomes.specs.declared.Outcome.TheVariants as outcomes
 use Rattle.planner.specs.Advances.{advance_nights, advance_days}
-use Rattle.outcomes.specs.declared.Checked.{Checked}
-use Rattle.outcomes.specs.declared.Checked.TheVariants as checks
 use Rattle.planner.specs.Answers.{check_says}
 use Rattle.planner.specs.Left.{night_left, day_left}
 use Rattle.history.specs.Questions.{FirstNo}
-use Rattle.keeping.specs.Storage.{keep_no, kept_in, returned_of}
+use Rattle.keeping.specs.Storage.{keep_no, kept_in, returned_to, returned_of}
 use Rattle.planner.specs.Faults.{night_questions, day_questions, check_questions, keep_questions, return_questions, FileNo, WriterNo}
 
--- A call that gives `result`: `no_in` reads the refusal off it, `refused_by` is the result of a refusal with 0 in all else, and Left says that what was
--- lent holds what it held.
+-- A call that gives `result`: `no_in` reads the refusal off it, `refused_by` is the result of a refusal, and Left says that what was lent or handed in
+-- is what it was.
 pub record Refuses {R : Type 0} (Fault : ℕ → ℕ → Type 0) (result : R) (no_in : R → Option Refusal) (refused_by : ℕ → ℕ → R) (Left : Type 0) : Type 0 where
   -- only for the fault that it names
   pub only : (q p : ℕ) → no_in result ≡ some (numbered q p) → Fault q p
@@ -36,16 +31,13 @@ pub record Refuses {R : Type 0} (Fault : ℕ → ℕ → Type 0) (result : R) (n
 
 -- ---- the refusal in a result
 
-abbrev pub no_in_outcome : Outcome → Option Refusal
-no_in_outcome (outcomes.Refused n) = some n
-no_in_outcome outcomes.Zero = none
-no_in_outcome outcomes.Asked = none
-no_in_outcome outcomes.None = none
+abbrev pub no_in_result : {T : Type 0} → Result T Refusal → Option Refusal
+no_in_result (Ok x) = none
+no_in_result (Err n) = some n
 
-abbrev pub no_in_check : Checked → Option Refusal
-no_in_check (checks.Refused n) = some n
-no_in_check checks.Passed = none
-no_in_check checks.Broken = none
+-- the result of a refusal
+abbrev pub refused_by : {T : Type 0} → ℕ → ℕ → Result T Refusal
+refused_by q p = Err (numbered q p)
 
 -- ---- the calls
 
@@ -54,43 +46,37 @@ abbrev pub Bytes : List ℕ → Type 0
 Bytes file = (i : ℕ) → get_or file i 0 < 256
 
 abbrev pub ReadRefuses : List ℕ → Type 0
-ReadRefuses file =
-    Refuses (FileFault ward file) (reading_of (read_ward file)) (λ x. refusal_in x.answer)
-    (λ q p. record { answer = No (numbered q p); ward = record { numbers = replicate number_places 0; count = 0 } }) Unit
+ReadRefuses file = Refuses (FileFault ward file) (reading_of (read_ward file)) no_in_result refused_by Unit
 
 abbrev pub WriteRefuses : Ward → List ℕ → Type 0
 WriteRefuses w buffer =
-    Refuses (WriterNo (counted w) (length buffer)) (writing_of (length buffer) (check_ward (counted w))) (λ x. refusal_in x.answer)
-    (λ q p. record { answer = No (numbered q p); bytes = 0 }) (left_of buffer (check_ward (counted w)) ≡ buffer)
+    Refuses (WriterNo (counted w) (length buffer)) (writing_of (length buffer) (check_ward (counted w))) no_in_result refused_by
+    (left_of buffer (check_ward (counted w)) ≡ buffer)
 
--- a refused advance: the record as it was handed in, and all else 0
-abbrev pub refused_by : Stored → ℕ → ℕ → Advance
-refused_by r q p = record { after = r; penalty = 0; steps = 0; outcome = outcomes.Refused (numbered q p); roster = record { letters = replicate letter_places 0; count = 0 } }
-
+-- a refused advance leaves the record as it was handed in
 abbrev pub NightsRefuse : List ℕ → Stored → ℕ → Bool → List ℕ → Type 0
 NightsRefuse file r k past_zero buffer =
     let c = call_of k past_zero (length buffer) in
     let a = advance_nights file c r in
-    Refuses (FileNo file (night_questions c r)) (advance_of a) (λ x. no_in_outcome x.outcome) (refused_by r) (night_left file r k past_zero buffer ≡ buffer)
+    Refuses (FileNo file (night_questions c r)) (advance_of a) no_in_result refused_by ((a.1 ≡ r) × (night_left file r k past_zero buffer ≡ buffer))
 
 abbrev pub DaysRefuse : List ℕ → List ℕ → Stored → ℕ → Bool → List ℕ → Type 0
 DaysRefuse file nights r k past_zero buffer =
     let c = call_of k past_zero (length buffer) in
     let a = advance_days file nights c r in
-    Refuses (FileNo file (day_questions (night_of nights) c r)) (advance_of a) (λ x. no_in_outcome x.outcome) (refused_by r) (day_left file nights r k past_zero buffer ≡ buffer)
+    Refuses (FileNo file (day_questions (night_of nights) c r)) (advance_of a) no_in_result refused_by ((a.1 ≡ r) × (day_left file nights r k past_zero buffer ≡ buffer))
 
 abbrev pub CheckRefuses : List ℕ → List ℕ → Type 0
-CheckRefuses file roster =
-    Refuses (FileNo file (check_questions roster)) (check_says file roster) no_in_check (λ q p. checks.Refused (numbered q p)) Unit
+CheckRefuses file roster = Refuses (FileNo file (check_questions roster)) (check_says file roster) no_in_result refused_by Unit
 
 abbrev pub KeepRefuses : Stored → ℕ → List ℕ → Type 0
 KeepRefuses r number storage =
-    Refuses (FirstNo (keep_questions storage number)) (answer_by (keep_no storage number)) refusal_in (λ q p. No (numbered q p)) (kept_in storage number r ≡ storage)
+    Refuses (FirstNo (keep_questions storage number)) (answer_by (keep_no storage number)) no_in_result refused_by (kept_in storage number r ≡ storage)
 
+-- a refused return leaves the record in hand
 abbrev pub ReturnRefuses : Stored → ℕ → List ℕ → Type 0
 ReturnRefuses r number storage =
-    Refuses (FirstNo (return_questions storage number)) (returned_of storage number r) (λ x. refusal_in x.answer)
-    (λ q p. record { after = r; answer = No (numbered q p) }) Unit
+    Refuses (FirstNo (return_questions storage number)) (returned_of storage number) no_in_result refused_by (returned_to storage number r ≡ r)
 
 -- proofs/Demand1Laws shows it
 pub record Demand1 : Type 0 where

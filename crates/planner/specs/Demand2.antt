@@ -24,7 +24,8 @@ use Rattle.penalty.specs.Held.{NightHeld, DayHeld}
 use Rattle.letters.specs.Letters.{misplaced}
 use Rattle.rostercheck.specs.Check.{Holds}
 use Rattle.planner.specs.Answers.{check_says}
-use Rattle.outcomes.specs.declared.Checked.TheVariants.{Passed}
+use Rattle.std.specs.declared.result.Result.TheVariants.{Ok}
+use Rattle.outcomes.specs.declared.Verdict.TheVariants.{Passed}
 
 -- a penalty is zero exactly where nothing is broken, and is never above 485,059,200
 pub record Weighs (penalty : (ℕ → Slot) → ℕ) (Held : (ℕ → Slot) → Type 0) : Type 0 where
@@ -73,4 +74,4 @@ pub record Demand2 : Type 0 where
   -- the rules and the penalties, of every ward that the reader says yes to
   pub means : (file ws : List ℕ) → ((i : ℕ) → get_or file i 0 < 256) → read_ward file ≡ good ws → WardMeans (body_of ws)
   -- the check says yes exactly when every rule holds
-  pub check_yes : (file roster : List ℕ) → (check_says file roster ≡ Passed) ↔ Passes file roster
+  pub check_yes : (file roster : List ℕ) → (check_says file roster ≡ Ok Passed) ↔ Passes file roster

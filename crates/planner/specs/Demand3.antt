@@ -20,7 +20,8 @@ use Rattle.keeping.specs.Operations.{perform, held}
 use Rattle.phases.specs.Phases.{night_phase, day_phase, day_list_over, night_of}
 use Rattle.planner.specs.Advances.{advance_nights, advance_days}
 use Rattle.planner.specs.Answers.{check_says}
-use Rattle.outcomes.specs.declared.Checked.TheVariants.{Passed}
+use Rattle.std.specs.declared.result.Result.TheVariants.{Ok}
+use Rattle.outcomes.specs.declared.Verdict.TheVariants.{Passed}
 
 -- by night, every nurse has a pattern
 abbrev pub NightPatterns : List ℕ → Type 0
@@ -33,7 +34,7 @@ DayPatterns w nights = (i : ℕ) → i < nurses w → day_list_over w nights i �
 -- an advance gives out a roster exactly where it leaves penalty zero, whatever its end, and the check says yes to it
 abbrev pub Rightly : List ℕ → Answer → Type 0
 Rightly file (refused n) = Unit
-Rightly file (ended e steps penalty roster) = (penalty ≡ 0 → check_says file roster ≡ Passed) × (penalty ≢ 0 → roster ≡ [])
+Rightly file (ended e steps penalty roster) = (penalty ≡ 0 → check_says file roster ≡ Ok Passed) × (penalty ≢ 0 → roster ≡ [])
 
 -- nights are settled before days: each night pattern with its pair is hers, at night penalty 0
 pub record Settled (w : List ℕ) (nights : ℕ → ℕ) : Type 0 where

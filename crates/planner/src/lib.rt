@@ -12,20 +12,22 @@ ghost use Rattle.refusals.specs.Refusals.{answer_by};
 ghost use Rattle.keeping.specs.Storage.{keep_no, kept_in, returned_of};
 
 use fields::sizes::{NUMBERS, NURSES};
-pub use keeping::Returned;
-use letters::Place;
-pub use outcomes::{Advance, Checked, Outcome};
-use refusals::{Answer, Refusal, question};
+pub use outcomes::{Advance, Verdict};
+use refusals::Refusal;
+use refusals::question::Question;
+pub use search::Ending;
+use search::Record;
+use ward::Ward;
 
 // The ward of a file, or the first of questions 1 to 5 that it fails.
-pub fn read(file: &[u8]) -> ward::Reading
+pub fn read(file: &[u8]) -> Result<Ward, Refusal>
     ensures { result ≡ reading_of (read_ward file.now) }
 {
     ward::read(file)
 }
 
-// The counted numbers as bytes from the buffer's start, or the first of questions 1, 3, 4, 5 and 6 that they fail.
-pub fn write(ward: ward::Ward, buffer: &mut [u8]) -> ward::Writing
+// The counted numbers as bytes from the buffer's start, and how many, or the first of questions 1, 3, 4, 5 and 6 that they fail.
+pub fn write(ward: Ward, buffer: &mut [u8]) -> Result<usize, Refusal>
     ensures says { result ≡ writing_of (length buffer.old) (check_ward (counted ward)) }
     ensures leaves { buffer.new ≡ left_of buffer.old (check_ward (counted ward)) }
 {
@@ -33,110 +35,86 @@ pub fn write(ward: ward::Ward, buffer: &mut [u8]) -> ward::Writing
 }
 
 // Question 12, then the rules, over an accepted ward.
-fn check_letters(w: &[u64], roster: &[u8]) -> Checked
+fn check_letters(w: &[u64], roster: &[u8]) -> Result<Verdict, Refusal>
     requires { Accepted w.now }
     ensures { result ≡ check_letters w.now roster.now }
 {
     let m = fields::nurses(w);
     let n = fields::days(w);
     match letters::misplaced_at(roster, m * n) {
-        Place::At(place) => Checked::Refused(Refusal {
-            question: question::LETTERS,
-            place,
-        }),
-        Place::Nowhere => {
+        Some(place) => Err(Question::Letters.at(place)),
+        None => {
             if rostercheck::roster_holds(w, roster) {
-                return Checked::Passed;
+                return Ok(Verdict::Passed);
             }
-            Checked::Broken
+            Ok(Verdict::Broken)
         }
     }
 }
 
 // Whether a roster keeps the rules of a ward, or the first of questions 1 to 5 and 12 that is a no.
-pub fn check(file: &[u8], roster: &[u8]) -> Checked
+pub fn check(file: &[u8], roster: &[u8]) -> Result<Verdict, Refusal>
     ensures { result ≡ check_says file.now roster.now }
 {
     let mut numbers = [0u64; NUMBERS];
-    let read = ward::read_into(file, &mut numbers);
-    let answer = read.answer;
-    match answer {
-        Answer::No(n) => Checked::Refused(n),
-        Answer::Yes => {
-            let count = read.count;
-            check_letters(fields::body(&numbers[..count]), roster)
-        }
-    }
+    let count = ward::read_into(file, &mut numbers)?;
+    check_letters(fields::body(&numbers[..count]), roster)
 }
 
 // Advances a night search by up to k steps, past zero or not, or says the first of questions 1 to 5, 7, 9, 10 and 11 that is a no.
 // The buffer then has the common list from its start; a refused call leaves it was.
 pub fn advance_nights(
-    rec: search::Record,
+    rec: Record,
     file: &[u8],
     k: u32,
     past: bool,
     buffer: &mut [u32],
-) -> Advance
+) -> Result<Advance, Refusal>
     ensures says { result ≡ advance_of (advance_nights file.now (call_of k past (length buffer.old)) rec) }
     ensures leaves { buffer.new ≡ night_left file.now rec k past buffer.old }
 {
     let mut numbers = [0u64; NUMBERS];
-    let read = ward::read_into(file, &mut numbers);
-    let answer = read.answer;
-    match answer {
-        Answer::No(n) => outcomes::refuse(rec, n),
-        Answer::Yes => {
-            let count = read.count;
-            nightadvance::advance_on(rec, fields::body(&numbers[..count]), k, past, buffer)
-        }
-    }
+    let count = ward::read_into(file, &mut numbers)?;
+    nightadvance::advance_on(rec, fields::body(&numbers[..count]), k, past, buffer)
 }
 
 // Advances a day search over one choice of nights by up to k steps, past zero or not, or says the first of questions 1 to 5 and 7 to 11 that is a no.
 // The buffer then has each nurse's day list in turn; a refused call leaves it was. The roster is given out where the
 // advance leaves penalty zero.
 pub fn advance_days(
-    rec: search::Record,
+    rec: Record,
     file: &[u8],
     nights: &[u64; NURSES],
     k: u32,
     past: bool,
     buffer: &mut [u32],
-) -> Advance
+) -> Result<Advance, Refusal>
     ensures says { result ≡ advance_of (advance_days file.now nights.now (call_of k past (length buffer.old)) rec) }
     ensures leaves { buffer.new ≡ day_left file.now nights.now rec k past buffer.old }
 {
     let mut numbers = [0u64; NUMBERS];
-    let read = ward::read_into(file, &mut numbers);
-    let answer = read.answer;
-    match answer {
-        Answer::No(n) => outcomes::refuse(rec, n),
-        Answer::Yes => {
-            let count = read.count;
-            dayadvance::advance_on(
-                rec,
-                fields::body(&numbers[..count]),
-                nights,
-                k,
-                past,
-                buffer,
-            )
-        }
-    }
+    let count = ward::read_into(file, &mut numbers)?;
+    dayadvance::advance_on(
+        rec,
+        fields::body(&numbers[..count]),
+        nights,
+        k,
+        past,
+        buffer,
+    )
 }
 
 // Keeps the record under the number, 1 to 8, in place of what was kept there; or says question 13, and leaves the storage as it was.
-pub fn keep(rec: search::Record, number: u32, storage: &mut [u32]) -> Answer
+pub fn keep(rec: Record, number: u32, storage: &mut [u32]) -> Result<(), Refusal>
     ensures says { result ≡ answer_by (keep_no storage.old number) }
     ensures leaves { storage.new ≡ kept_in storage.old number rec }
 {
     keeping::keep(rec, number, storage)
 }
 
-// The record that is kept under the number; or question 13, and the record in hand.
-pub fn bring_back(rec: search::Record, number: u32, storage: &[u32]) -> Returned
-    ensures { result ≡ returned_of storage.now number rec }
+// The record that is kept under the number; or question 13.
+pub fn bring_back(number: u32, storage: &[u32]) -> Result<Record, Refusal>
+    ensures { result ≡ returned_of storage.now number }
 {
-    keeping::bring_back(rec, number, storage)
+    keeping::bring_back(number, storage)
 }

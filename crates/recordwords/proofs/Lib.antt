@@ -1,3 +1,4 @@
 pub mod WordLaws
+pub mod MadeLaws
 pub mod WrittenLaws
 pub mod BackLaws

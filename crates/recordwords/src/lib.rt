@@ -12,6 +12,7 @@ use fields::sizes::{NURSES, REMOVALS};
 use numbers::pattern;
 use removals::Removal;
 use search::Record;
+use std::array;
 
 // The words of everyone's patterns: 48 sets of days, and 48 pairs.
 pub const PATTERNS: usize = 96;
@@ -28,11 +29,7 @@ pub fn patterns_of(words: &[u32]) -> [u64; NURSES]
     requires { pattern_words ≤ length words.now }
     ensures { result ≡ patterns_of_words words.now }
 {
-    let mut patterns = [0u64; NURSES];
-    for i in 0..NURSES {
-        patterns[i] = pattern::of(words[i], words[NURSES + i]);
-    }
-    patterns
+    array::from_fn(|i| pattern::of(words[i], words[NURSES + i]))
 }
 
 // Any word but 0 sets a flag.
@@ -45,11 +42,7 @@ pub fn flag_of(word: u32) -> bool
 fn flags_of(words: &[u32; WORDS]) -> [bool; NURSES]
     ensures { result ≡ map flag_of (take nurse_places (drop flags_at words.now)) }
 {
-    let mut flags = [false; NURSES];
-    for i in 0..NURSES {
-        flags[i] = flag_of(words[PATTERNS + i]);
-    }
-    flags
+    array::from_fn(|i| flag_of(words[PATTERNS + i]))
 }
 
 fn removal_at(words: &[u32; WORDS], j: usize) -> Removal
@@ -70,16 +63,7 @@ fn removal_at(words: &[u32; WORDS], j: usize) -> Removal
 fn removals_of(words: &[u32; WORDS]) -> [Removal; REMOVALS]
     ensures { result ≡ map (removal_at words.now) (up_from 0 removal_places) }
 {
-    let mut removals = [Removal {
-        nurse: 0,
-        has: false,
-        pattern: 0,
-    }; REMOVALS];
-    for j in 0..REMOVALS {
-        let x = removal_at(words, j);
-        removals[j] = x;
-    }
-    removals
+    array::from_fn(|j| removal_at(words, j))
 }
 
 pub fn record_of(words: [u32; WORDS]) -> Record
@@ -100,7 +84,7 @@ pub fn record_of(words: [u32; WORDS]) -> Record
 fn flag_word(flag: bool) -> u32
     ensures { result ≡ flag_word flag }
 {
-    if flag { 1 } else { 0 }
+    u32::from(flag)
 }
 
 // Everyone's sets of days.
@@ -108,8 +92,8 @@ fn put_days(words: &mut [u32; WORDS], rec: &Record)
     requires { Sized rec.now }
     ensures { Written (words_of_record rec.now) words.old 0 → Written (words_of_record rec.now) words.new pairs_at }
 {
-    for i in 0..NURSES {
-        words[i] = pattern::days_of(rec.patterns[i]);
+    for (i, p) in rec.patterns.iter().enumerate() {
+        words[i] = pattern::days_of(*p);
     }
 }
 
@@ -118,8 +102,8 @@ fn put_pairs(words: &mut [u32; WORDS], rec: &Record)
     requires { Sized rec.now }
     ensures { Written (words_of_record rec.now) words.old pairs_at → Written (words_of_record rec.now) words.new flags_at }
 {
-    for i in 0..NURSES {
-        words[NURSES + i] = pattern::pair_of(rec.patterns[i]);
+    for (i, p) in rec.patterns.iter().enumerate() {
+        words[NURSES + i] = pattern::pair_of(*p);
     }
 }
 
@@ -128,8 +112,8 @@ fn put_flags(words: &mut [u32; WORDS], rec: &Record)
     requires { Sized rec.now }
     ensures { Written (words_of_record rec.now) words.old flags_at → Written (words_of_record rec.now) words.new removals_at }
 {
-    for i in 0..NURSES {
-        words[PATTERNS + i] = flag_word(rec.placed[i]);
+    for (i, flag) in rec.placed.iter().enumerate() {
+        words[PATTERNS + i] = flag_word(*flag);
     }
 }
 
@@ -148,9 +132,8 @@ fn put_removals(words: &mut [u32; WORDS], rec: &Record)
     requires { Sized rec.now }
     ensures { Written (words_of_record rec.now) words.old removals_at → Written (words_of_record rec.now) words.new steps_at }
 {
-    for j in 0..REMOVALS {
-        let x = rec.removals[j];
-        put_removal(words, x, REMOVALS_AT + j * 4);
+    for (j, x) in rec.removals.iter().enumerate() {
+        put_removal(words, *x, REMOVALS_AT + j * 4);
     }
 }
 

@@ -5,16 +5,16 @@ use mathlib.Core.Path.{◌≡◌, refl, sym, ap, ◌∙◌}
 use mathlib.Core.Option.{Option, none, some}
 use native.Mathlib.Omega.{arith}
 use Rattle.refusals.specs.declared.Refusal.{Refusal}
-use Rattle.refusals.specs.declared.Answer.{Answer}
-use Rattle.refusals.specs.declared.Answer.TheVariants.{Yes, No}
+use Rattle.std.specs.declared.result.Result.{Result}
+use Rattle.std.specs.declared.result.Result.TheVariants.{Ok, Err}
 use Rattle.refusals.specs.Refusals.{refusal_in, answer_by, unless, first}
 
 -- where a question that code asked is a no, and where it is a yes
-module _ {a : Answer} {A : Option Refusal} (B : Option Refusal) (asked : refusal_in a ≡ A) where
-  pub first_no_lem : {n : Refusal} → a ≡ No n → some n ≡ first A B
+module _ {a : Result (Unit {0}) Refusal} {A : Option Refusal} (B : Option Refusal) (asked : refusal_in a ≡ A) where
+  pub first_no_lem : {n : Refusal} → a ≡ Err n → some n ≡ first A B
   first_no_lem e = let q : A ≡ some _ = sym asked ∙ ap refusal_in e in rw q
 
-  pub first_yes : a ≡ Yes → B ≡ first A B
+  pub first_yes : a ≡ Ok tt → B ≡ first A B
   first_yes e = let q : A ≡ none = sym asked ∙ ap refusal_in e in rw q
 
 pub first_assoc : (a b c : Option Refusal) → first (first a b) c ≡ first a (first b c)

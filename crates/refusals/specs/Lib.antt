@@ -1,2 +1,4 @@
 pub mod Questions
+pub mod Numbers
+pub mod Numbered
 pub mod Refusals

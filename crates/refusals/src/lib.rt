@@ -1,36 +1,77 @@
-// A call's yes, or its refusal: the number of the question that is a no, and a place.
+// A refusal: the question that is a no, and a place.
 #![tactic(auto)]
 
 pub mod question;
 
 ghost use Rattle.std.specs.Prelude.{◌≡◌};
+ghost use Rattle.refusals.specs.Numbers.{number};
 ghost use Rattle.refusals.specs.Refusals.{numbered, refusal_in, unless};
 
-#[derive(Clone, Copy)]
+use question::Question;
+use std::error::Error;
+use std::fmt;
+use std::marker::Model;
+
+#[derive(Clone, Copy, Debug, PartialEq, Eq)]
 pub struct Refusal {
-    pub question: u32,
-    pub place: usize,
+    question: Question,
+    place: usize,
 }
 
-#[derive(Clone, Copy)]
-pub enum Answer {
-    Yes,
-    No(Refusal),
+// What contracts see of it is the question's number and the place.
+impl Model for Refusal {
+    ghost use Rattle.std.specs.Prelude.{◌≡◌};
+    ghost use Rattle.refusals.specs.Numbered.{Numbered};
+
+    ghost Value = { Numbered };
+
+    ghost use Rattle.refusals.specs.Numbers.{number, question_of, question_back};
+    ghost use Rattle.std.proofs.Common.{ap};
+
+    ghost view = { λ r. record { question = number r.question; place = r.place } };
+
+    ghost inverse = { λ n. record { question = question_of n.question; place = n.place } };
+
+    ghost inverse_ok = { λ a h. ap (λ q. record { question = q; place = a.place }) (question_back a.question) };
 }
 
-// The question is a no at the place.
-pub fn no(question: u32, place: usize) -> Answer
-    ensures { result ≡ Answer.No (numbered question place) }
-{
-    Answer::No(Refusal { question, place })
-}
-
-// A question that is answered yes, or its no.
-pub fn unless(yes: bool, question: u32, place: usize) -> Answer
-    ensures { refusal_in result ≡ unless yes question place }
-{
-    if yes {
-        return Answer::Yes;
+impl Question {
+    // This question is a no at the place.
+    pub fn at(self, place: usize) -> Refusal
+        ensures { result ≡ numbered (number self) place }
+    {
+        Refusal {
+            question: self,
+            place,
+        }
     }
-    Answer::No(Refusal { question, place })
+
+    // A question that is answered yes, or its no.
+    pub fn unless(self, yes: bool, place: usize) -> Result<(), Refusal>
+        ensures { refusal_in result ≡ unless yes (number self) place }
+    {
+        if yes { Ok(()) } else { Err(self.at(place)) }
+    }
 }
+
+impl Refusal {
+    pub fn question(self) -> u32
+        ensures { result ≡ self.question }
+    {
+        self.question.number()
+    }
+
+    pub fn place(self) -> usize
+        ensures { result ≡ self.place }
+    {
+        self.place
+    }
+}
+
+impl fmt::Display for Refusal {
+    fn fmt<W: fmt::Write>(&self, f: &mut fmt::Formatter<W>) -> fmt::Result {
+        write!(f, "{} {}", self.question(), self.place())
+    }
+}
+
+impl Error for Refusal {}

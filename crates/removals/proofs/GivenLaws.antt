@@ -5,11 +5,10 @@ use mathlib.Core.Bool.{Bool, true, false, cond, ◌&&◌, ◌||◌, and-false, o
 use mathlib.Core.List.{List, [], ◌∷◌, ◌++◌, map}
 use native.Mathlib.Numerals.{add-one}
 use native.Mathlib.Omega.{arith}
-use borrow.Author.Count.{below_more}
 use borrow.Author.Tests.{eq-eqb, ne_eqb, eqb-true}
 use lib.Dec.{eqb}
 use lib.ListN.{length, get_or, take, set, length-set}
-use lib.Seq.{take-suc, take-suc-set, get_or-set_same, get_or-set_other}
+use lib.Seq.{take-suc, take-suc-set}
 use Rattle.fields.specs.Sizes.{removal_places}
 use Rattle.history.specs.Phase.{holds}
 use Rattle.history.specs.Record.{barred}
@@ -23,42 +22,11 @@ use Rattle.removals.specs.declared.Given.{Given}
 
 -- ---- the removals as numbers
 
--- one more number after those of f
-column_turn : (f : ℕ → ℕ) (l : List ℕ) (k v : ℕ) → k < length l → ((j : ℕ) → j < k → get_or l j 0 ≡ f j) → v ≡ f k → (j : ℕ) → j < k + 1 → get_or (set l k v) j 0 ≡ f j
-column_turn f l k v h g e =
-    below_more
-    (λ (j : ℕ). get_or (set l k v) j 0 ≡ f j)
-    k
-    (λ j i. get_or-set_other l k j v 0 (λ q. omega arith) ∙ g j i)
-    (get_or-set_same l k v 0 h ∙ e)
-
 -- the loop has taken the first k
-pub record Taken (list : List StoredRemoval) (held k : ℕ) (r : Given) : Type 0 where
-  pub upto : k ≤ held
+pub record Taken (list : List StoredRemoval) (k : ℕ) (r : Given) : Type 0 where
   pub nurses_long : length r.nurses ≡ removal_places
   pub patterns_long : length r.patterns ≡ removal_places
   pub taken : GivenUp list k r
-
-pub taken_turn : {list : List StoredRemoval} {held k : ℕ} {r : Given} {a : ℕ} → Taken list held k r → held ≤ removal_places → k < held
-    → a ≡ cond (get_or list k no_removal).has (get_or list k no_removal).nurse 0
-    → Taken list held (k + 1) (record { nurses = set r.nurses k a; patterns = set r.patterns k (get_or list k no_removal).pattern })
-taken_turn {list} {held} {k} {r} {a} t h l e =
-    let x = get_or list k no_removal in
-    record {
-      upto = omega arith;
-      nurses_long = length-set r.nurses k a ∙ t.nurses_long;
-      patterns_long = length-set r.patterns k x.pattern ∙ t.patterns_long;
-      taken =
-          record {
-            nurses_are = column_turn (λ j. cond (get_or list j no_removal).has (get_or list j no_removal).nurse 0) r.nurses k a (omega arith) t.taken.nurses_are e;
-            patterns_are = column_turn (λ j. (get_or list j no_removal).pattern) r.patterns k x.pattern (omega arith) t.taken.patterns_are refl;
-          };
-    }
-
-pub taken_end : {list : List StoredRemoval} {held k : ℕ} {r : Given} → Taken list held k r → held ≤ k → GivenUp list held r
-taken_end {list} {held} {k} {r} t h =
-    let e : k ≡ held = omega arith in
-    rw (← e) t.taken
 
 -- ---- a nurse's bars
 
@@ -141,12 +109,6 @@ module _ {nurses patterns : List ℕ} {held number : ℕ} {placed : Bool} {curre
             (λ (b : Bool). (placed && eqb current p) || b)
             (sym (up_more nurses patterns number p k false (ne_eqb (get_or nurses k 0) number n) ∙ or-false (given_up_by nurses patterns number p k)));
       }
-
-  pub bars_end : {bars : List ℕ} {count k : ℕ} → Bars nurses patterns held number placed current bars count k → held ≤ removal_places → held ≤ k
-      → (count ≤ bar_places) × (((p : ℕ) → any_of (λ x. eqb x p) (take count bars) ≡ ((placed && eqb current p) || given_up_by nurses patterns number p held)) × (length bars ≡ bar_places))
-  bars_end {bars} {count} {k} s h l =
-      let e : k ≡ held = omega arith in
-      (omega arith, (λ p. s.are p ∙ ap (λ (j : ℕ). (placed && eqb current p) || given_up_by nurses patterns number p j) e, s.long))
 
 -- ---- what the record bars
 

@@ -1,2 +1,1 @@
-pub mod RemovalLaws
 pub mod GivenLaws

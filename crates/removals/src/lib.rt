@@ -16,20 +16,15 @@ pub const BARS: usize = 65;
 
 // One of the TL places: a nurse's number, from 1, and the pattern that she gave up, or none where the step placed her.
 // A place not in use is all 0.
+// The flag stands beside the pattern, and is no Option, since a record of any content comes in over C: also a pattern without its flag.
 #[derive(Clone, Copy)]
 pub struct Removal {
     pub nurse: u32,
     pub has: bool,
     pub pattern: u64,
 }
-
-pub fn lesser(a: usize, b: usize) -> usize
-    ensures { result ≡ min a b }
-{
-    if a < b { a } else { b }
-}
-
 // The removals held, as numbers: who gave up a pattern, 0 where none was given up, and which.
+// Two arrays, as the list comes from a record of any content: a place has both numbers, whatever its flag says.
 #[derive(Clone, Copy)]
 pub struct Given {
     pub nurses: [u32; REMOVALS],
@@ -40,10 +35,7 @@ pub struct Given {
 fn giver(x: Removal) -> u32
     ensures { result ≡ cond x.has x.nurse 0 }
 {
-    if x.has {
-        return x.nurse;
-    }
-    0
+    if x.has { x.nurse } else { 0 }
 }
 
 // The first `held` removals.
@@ -55,9 +47,8 @@ pub fn given_of(list: [Removal; REMOVALS], held: usize) -> Given
         nurses: [0; REMOVALS],
         patterns: [0; REMOVALS],
     };
-    for k in 0..held {
-        let x = list[k];
-        r.nurses[k] = giver(x);
+    for (k, x) in list[..held].iter().enumerate() {
+        r.nurses[k] = giver(*x);
         r.patterns[k] = x.pattern;
     }
     r
@@ -83,10 +74,10 @@ pub fn bars_of(
         bars[0] = current;
         count = 1;
     }
-    for k in 0..held {
-        if nurses[k] == number {
+    for (k, nurse) in nurses[..held].iter().enumerate() {
+        if *nurse == number {
             bars[count] = patterns[k];
-            count = count + 1;
+            count += 1;
         }
     }
     count
@@ -98,17 +89,13 @@ fn put_in_front(list: [Removal; REMOVALS], k: usize, x: Removal) -> [Removal; RE
     ensures { result ≡ in_front k x list }
 {
     let mut moved = list;
-    let mut i = k;
-    while 0 < i {
-        let e = moved[i - 1];
-        moved[i] = e;
-        i -= 1;
-    }
+    moved.copy_within(0..k, 1);
     moved[0] = x;
     moved
 }
 
 // One removal more, after so many steps; the last `tl` are kept.
+#[tactic(auto, unfolding(crate::specs::CodePush::pushed))]
 pub fn push(list: [Removal; REMOVALS], tl: usize, steps: usize, x: Removal) -> [Removal; REMOVALS]
     requires { tl ≤ tabu_most }
     ensures { result ≡ pushed tl steps x list }
@@ -116,6 +103,6 @@ pub fn push(list: [Removal; REMOVALS], tl: usize, steps: usize, x: Removal) -> [
     if tl == 0 {
         return list;
     }
-    let staying = lesser(steps, tl - 1);
+    let staying = steps.min(tl - 1);
     put_in_front(list, staying, x)
 }

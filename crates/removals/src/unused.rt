@@ -12,42 +12,29 @@ fn slot_zero(here: bool, placed: bool, pattern: u64) -> bool
     ensures { result ≡ cond here (placed || eqb pattern 0) (not placed && eqb pattern 0) }
 {
     if here {
-        return placed || pattern == 0;
+        placed || pattern == 0
+    } else {
+        !placed && pattern == 0
     }
-    !placed && pattern == 0
 }
 
 // All 48, of whom the ward has m.
 pub fn slots_zero(placed: [bool; NURSES], patterns: [u64; NURSES], m: usize) -> bool
     ensures { result ≡ all (slot_zero m placed patterns) (up_from 0 nurse_places) }
 {
-    for i in 0..NURSES {
-        if !slot_zero(i < m, placed[i], patterns[i]) {
-            return false;
-        }
-    }
-    true
+    (0..NURSES).all(|i| slot_zero(i < m, placed[i], patterns[i]))
 }
 
 // One removal, in use or not.
 fn removal_zero(here: bool, x: Removal) -> bool
     ensures { result ≡ cond here (x.has || eqb x.pattern 0) (eqb x.nurse 0 && (not x.has && eqb x.pattern 0)) }
 {
-    if here {
-        return x.has || x.pattern == 0;
-    }
-    x.nurse == 0 && (!x.has && x.pattern == 0)
+    (here || x.nurse == 0) && slot_zero(here, x.has, x.pattern)
 }
 
 // All 64, of which the first `held` are in use.
 pub fn removals_zero(list: [Removal; REMOVALS], held: usize) -> bool
     ensures { result ≡ all (removal_zero held list) (up_from 0 removal_places) }
 {
-    for k in 0..REMOVALS {
-        let x = list[k];
-        if !removal_zero(k < held, x) {
-            return false;
-        }
-    }
-    true
+    (0..REMOVALS).all(|k| removal_zero(k < held, list[k]))
 }

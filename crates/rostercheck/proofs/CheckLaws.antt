@@ -1,6 +1,6 @@
 -- The test says yes exactly when the roster's rules hold: every row follows from patterns, and every day's needs, lows and highs hold.
 use mathlib.Core.Path.{◌≡◌, sym, ap, ap₂, ◌∙◌}
-use mathlib.Core.Bool.{Bool, true, false, ◌&&◌}
+use mathlib.Core.Bool.{Bool, true, ◌&&◌}
 use mathlib.Core.List.{List}
 use mathlib.Core.Logic.{◌↔◌}
 use Prim.Native.Nat.{ℕ, zero, suc, ◌+◌, ◌*◌, ◌^◌, ◌≤◌, ◌<◌}
@@ -23,7 +23,7 @@ use Rattle.days.proofs.SheetLaws.{rule_below}
 use Rattle.penalty.specs.Penalty.{on_duty, members}
 use Rattle.letters.specs.Letters.{letter, row_letters}
 use Rattle.rostercheck.specs.Check.{Follows, Holds, at_duty}
-use Rattle.rostercheck.specs.CodeCheck.{letters_in, letters_at, same_row, pair_holds, row_holds, rows_hold, group_holds, duty_holds, day_holds, days_hold, holds}
+use Rattle.rostercheck.specs.CodeCheck.{letters_at, same_row, pair_holds, row_holds, rows_hold, group_holds, duty_holds, day_holds, days_hold, holds}
 use Rattle.letters.proofs.RowLaws.{row_fits}
 use Rattle.rostercheck.proofs.RowLaws.{worked_available, each_of_row, row_of_each, same_each, each_same, starts_read, worked_read}
 
@@ -31,49 +31,11 @@ use Rattle.rostercheck.proofs.RowLaws.{worked_available, each_of_row, row_of_eac
 abbrev pub some_pair : List ℕ → ℕ → ℕ → ℕ → Bool
 some_pair w i p q = any_of (pair_holds w i p q) (pair_numbers w)
 
--- of one pair, as the code asks it
-module _ (w : List ℕ) (i p q k : ℕ) where
-  pub pair_asked : {c : ℕ} {r : Bool} → pair_fits w i p k ≡ true → c ≡ pattern p k → r ≡ day_rule_of w i c q → r ≡ pair_holds w i p q k
-  pair_asked f e h = h ∙ ap (λ (x : ℕ). day_rule_of w i x q) e ∙ sym (rw f)
-
-  pub pair_unfit : pair_fits w i p k ≡ false → false ≡ pair_holds w i p q k
-  pair_unfit f = sym (rw f)
-
 -- a row's test by its patterns
 row_is : (w roster : List ℕ) (i p q : ℕ) → p ≡ letters_at w roster i (letter 2) → q ≡ letters_at w roster i (letter 1)
     → row_holds w roster i ≡ (hers_of w i p && (some_pair w i p q && same_row (block w i) (days w) roster (i * days w) p q))
 unfolding row_holds
 row_is w roster i p q ep eq = sym (ap₂ (λ (x y : ℕ). hers_of w i x && (some_pair w i x y && same_row (block w i) (days w) roster (i * days w) x y)) ep eq)
-
--- as the code asks it, the days and the letters being n, N and `-`
-module _ (w roster : List ℕ) (i n : ℕ) {p q : ℕ} (en : n ≡ days w) (ep : p ≡ letters_in roster (i * n) 78 n) (eq : q ≡ letters_in roster (i * n) 45 n) where
-  asked : row_holds w roster i ≡ (hers_of w i p && (some_pair w i p q && same_row (block w i) n roster (i * n) p q))
-  unfolding letter
-  asked =
-      row_is w roster i p q (ep ∙ ap (λ (k : ℕ). letters_in roster (i * k) 78 k) en) (eq ∙ ap (λ (k : ℕ). letters_in roster (i * k) 45 k) en)
-      ∙ ap (λ (k : ℕ). hers_of w i p && (some_pair w i p q && same_row (block w i) k roster (i * k) p q)) (sym en)
-
-  pub row_not_hers : hers_of w i p ≡ false → false ≡ row_holds w roster i
-  row_not_hers h = sym (asked ∙ rw h)
-
-  pub row_no_days : hers_of w i p ≡ true → some_pair w i p q ≡ false → false ≡ row_holds w roster i
-  row_no_days h d = sym (asked ∙ rw (h, d))
-
-  pub row_compared : {b : List ℕ} {r : Bool} → hers_of w i p ≡ true → some_pair w i p q ≡ true → b ≡ block w i → r ≡ same_row b n roster (i * n) p q → r ≡ row_holds w roster i
-  row_compared h d e s = s ∙ ap (λ (y : List ℕ). same_row y n roster (i * n) p q) e ∙ sym (asked ∙ rw (h, d))
-
--- what its parts ask: the row ends within the roster, and the block is hers
-pub row_ends : (w roster : List ℕ) (i : ℕ) {n : ℕ} → length roster ≡ nurses w * days w → i < nurses w → n ≡ days w → i * n + n ≤ length roster
-row_ends w roster i {n} l h e = rw e (omega (arith, row_fits (nurses w) (days w) i h))
-
--- rows and days together
-pub rows_and_days : (w roster : List ℕ) {r : Bool} → rows_hold w roster ≡ true → r ≡ days_hold w roster → r ≡ holds w roster
-unfolding holds
-rows_and_days w roster e f = f ∙ rw e
-
-pub rows_fail : (w roster : List ℕ) → rows_hold w roster ≡ false → false ≡ holds w roster
-unfolding holds
-rows_fail w roster e = rw e
 
 -- a night pattern of hers with a pair of hers is a pattern of hers
 own_of : (w : List ℕ) (i p k : ℕ) → k < 2 ^ 32 → hers_of w i p ≡ true → pair_fits w i p k ≡ true → own_pattern w i (pattern p k) ≡ true

@@ -1,23 +1,24 @@
--- The loops over nurses, groups and days that judge a roster's needs: counts over a column are counts over the nurses.
-use mathlib.Core.Path.{◌≡◌, sym, ap, ap₂, ◌∙◌, subst}
-use mathlib.Core.Bool.{Bool, true, false, ◌&&◌}
+-- Counts over a column are counts over the nurses, so that needs, lows and highs are judged by columns.
+use mathlib.Core.Path.{◌≡◌, ap, ap₂, ◌∙◌, subst}
+use mathlib.Core.Bool.{Bool, false, ◌&&◌}
 use mathlib.Core.List.{List}
 use Prim.Native.Nat.{ℕ, ◌≤◌, ◌<◌}
 use native.Mathlib.Omega.{arith}
 use borrow.Author.Tests.{lt-leb, le-leb}
-use lib.Dec.{leb}
 use lib.ListN.{get_or}
 use Rattle.numbers.specs.Range.{up_from, all}
 use Rattle.numbers.specs.Sum.{count_to, Is}
-use Rattle.numbers.specs.Digits.{has}
+use Rattle.numbers.specs.Digits.{has, number_of}
+use Rattle.numbers.proofs.DigitLaws.{number_lt, number_has}
+use Rattle.numbers.proofs.SetLaws.{has_above}
 use Rattle.numbers.proofs.AgreeLaws.{all_agree}
-use Rattle.fields.specs.Fields.{Accepted, nurses, days, groups, member_sets, needs, need, low, high}
+use Rattle.fields.specs.Fields.{Accepted, nurses, days, groups, member_sets, needs, need}
 use Rattle.fields.proofs.FieldLaws.{length_member_sets}
 use Rattle.penalty.specs.Penalty.{on_duty, members}
 use Rattle.penalty.specs.CodeColumns.{Same}
 use Rattle.penalty.proofs.ColumnLaws.{count_same, all_same}
 use Rattle.rostercheck.specs.Check.{duty_letter, lettered, at_duty}
-use Rattle.rostercheck.specs.CodeCheck.{group_holds, duty_holds, day_holds}
+use Rattle.rostercheck.specs.CodeCheck.{group_holds, duty_holds}
 use Rattle.rostercheck.specs.CodeBounds.{bounds_hold, all_bounds_hold}
 
 module _ (w roster : List ℕ) (k d col : ℕ) (a : Accepted w) (s : Same (nurses w) (has col) (at_duty w roster k d)) where
@@ -53,18 +54,12 @@ module _ (w roster : List ℕ) (k d col : ℕ) (a : Accepted w) (s : Same (nurse
       b ∙ ap₂ (λ (y z : List ℕ). all_bounds_hold y z k col) m e ∙ all_bounds_are
       ∙ rw (le-leb (need (needs w d) k) (on_duty w (at_duty w roster k d)) (omega (arith, q.is, column_count)))
 
--- a group's bounds, as two tests find them
-module _ (sets needs : List ℕ) (k col g : ℕ) {lo hi count : ℕ} (el : lo ≡ low needs k g) (eh : hi ≡ high needs k g)
-    (ec : count ≡ count_to 64 (λ i. has col i && has (get_or sets g 0) i)) where
-  tests_are : bounds_hold sets needs k col g ≡ (leb lo count && leb count hi)
-  unfolding bounds_hold
-  tests_are = λ j. leb (sym el j) (sym ec j) && leb (sym ec j) (sym eh j)
-
-  pub low_met : lo ≤ count → leb count hi ≡ bounds_hold sets needs k col g
-  low_met h = sym (tests_are ∙ ap (λ (b : Bool). b && leb count hi) (le-leb lo count h))
-
-  pub low_missed : count < lo → leb lo count ≡ bounds_hold sets needs k col g
-  low_missed h = lt-leb lo count h ∙ sym (tests_are ∙ ap (λ (b : Bool). b && leb count hi) (lt-leb lo count h))
+-- a set of the first m nurses
+pub same_set : (t : ℕ → Bool) (m x : ℕ) → x ≡ number_of t m → Same m (has x) t
+same_set t m x e = record {
+  above = λ i l. has_above m x i (rw e (number_lt t m)) l;
+  bits = λ i l. ap (λ (y : ℕ). has y i) e ∙ number_has t m i l;
+}
 
 -- the column as the code asks for it
 pub column_as : (w roster : List ℕ) (k d col : ℕ) {m n c : ℕ} → Same m (has col) (lettered roster n d c) → m ≡ nurses w → n ≡ days w → c ≡ duty_letter k
@@ -73,17 +68,3 @@ column_as w roster k d col {m} {n} {c} s em en ec =
     subst (λ (x : ℕ). Same x (has col) (lettered roster (days w) d (duty_letter k))) em
     (subst (λ (y : ℕ). Same m (has col) (lettered roster y d (duty_letter k))) en
     (subst (λ (z : ℕ). Same m (has col) (lettered roster n d z)) ec s))
-
-pub column_end : {m i : ℕ} {f on : ℕ → Bool} → Same i f on → i ≤ m → m ≤ i → Same m f on
-column_end {m} {i} {f} {on} s l g = let same : i ≡ m = omega arith in subst (λ (x : ℕ). Same x f on) same s
-
--- ---- both duties of a day
-
-module _ (w roster : List ℕ) (d : ℕ) where
-  pub both_duties : {r : Bool} → duty_holds w roster 0 d ≡ true → r ≡ duty_holds w roster 1 d → r ≡ day_holds w roster d
-  unfolding day_holds
-  both_duties e f = f ∙ rw e
-
-  pub night_fails : duty_holds w roster 0 d ≡ false → false ≡ day_holds w roster d
-  unfolding day_holds
-  night_fails e = rw e

@@ -1,21 +1,17 @@
 -- A row of letters: its length, each of its letters, and the patterns that are read off it.
-use mathlib.Core.Path.{◌≡◌, sym, ap, ap₂, ◌∙◌}
-use mathlib.Core.Bool.{Bool, true, false, cond}
+use mathlib.Core.Path.{◌≡◌, sym, ap, ◌∙◌}
+use mathlib.Core.Bool.{Bool, true}
 use mathlib.Core.List.{List}
-use Prim.Native.Nat.{ℕ, suc, ◌+◌, ◌-◌, ◌^◌, ◌≤◌, ◌<◌}
-use native.Mathlib.Nat.{sub-zero}
+use Prim.Native.Nat.{ℕ, suc, ◌+◌, ◌^◌, ◌≤◌, ◌<◌}
 use native.Mathlib.Omega.{arith}
-use borrow.Author.Tests.{eqb-true, eq-eqb, ne_eqb}
+use borrow.Author.Tests.{eqb-true, eq-eqb}
 use lib.Dec.{eqb}
-use lib.Pow.{pow-lt}
 use lib.ListN.{length, get_or, take, drop, length-drop}
 use lib.Seq.{length-take-le, get_or-take, get_or-drop, ext_get_or}
-use Rattle.fields.specs.Sizes.{day_places}
-use Rattle.numbers.specs.Range.{up_from, all}
+use Rattle.std.specs.Prelude.{Decides}
 use Rattle.numbers.specs.Digits.{has}
 use Rattle.numbers.specs.Patterns.{days_of, pair_of}
-use Rattle.numbers.proofs.RangeLaws.{and_parts, range_all, range_each, all_more, all_stop, all_end}
-use Rattle.numbers.proofs.DigitLaws.{number_lt, number_zero, number_suc}
+use Rattle.numbers.proofs.RangeLaws.{and_parts, tests_alike, range_all, range_each}
 use Rattle.numbers.proofs.SetLaws.{number_is}
 use Rattle.fields.specs.Fields.{days, block, mark_on}
 use Rattle.rows.specs.Rows.{started, row_state, available_on, duty_on}
@@ -82,6 +78,10 @@ module _ (roster : List ℕ) (at n : ℕ) (fits : at + n ≤ length roster) wher
         range_all (λ x. eqb (get_or roster (at + x) 0) (letter (duty_on b p q (suc x)))) 0 n
         (λ d l h. (let m : d < n = omega arith in eq-eqb (get_or roster (at + d) 0) (letter (duty_on b p q (suc d))) (e d m)))
 
+    -- as one comparison
+    pub row_same : {row : List ℕ} {r : Bool} → row ≡ row_letters_of b n p q → Decides r (take n (drop at roster) ≡ row) → r ≡ same_row b n roster at p q
+    row_same e d = tests_alike _ _ (λ t. each_same (each_of_row (d.0 t ∙ e))) (λ t. d.1 (row_of_each (same_each t) ∙ sym e))
+
     -- the patterns are the sets of its letters
     pub starts_read : Each → p < 2 ^ n → p ≡ letters_in roster at (letter 2) n
     unfolding letters_in
@@ -94,60 +94,3 @@ module _ (roster : List ℕ) (at n : ℕ) (fits : at + n ≤ length roster) wher
     worked_read e l a =
         number_is (λ d. eqb (get_or roster (at + d) 0) (letter 1)) n q l
         (λ d h. sym (ap (λ (c : ℕ). eqb c (letter 1)) (e d h) ∙ worked_letter b p q d (a d h)))
-
--- ---- the loop that compares a row's letters with those of its patterns
-
-module _ (b : List ℕ) (n : ℕ) (roster : List ℕ) (at p q : ℕ) where
-  -- the days from d on
-  unfoldable pub row_from : ℕ → Bool
-  row_from d = all (λ e. eqb (get_or roster (at + e) 0) (letter (duty_on b p q (suc e)))) (up_from d (n - d))
-
-  pub row_start : same_row b n roster at p q ≡ row_from 0
-  unfolding same_row row_from
-  row_start = rw (sub-zero n)
-
-  module _ (d : ℕ) {W : Bool} (w : W ≡ row_from d) where
-    pub row_more : {l : ℕ} → d < n → l ≡ letter (duty_on b p q (suc d)) → get_or roster (at + d) 0 ≡ l → W ≡ row_from (d + 1)
-    unfolding row_from
-    row_more h l e =
-        all_more (λ x. eqb (get_or roster (at + x) 0) (letter (duty_on b p q (suc x)))) n d w h
-        (eq-eqb (get_or roster (at + d) 0) (letter (duty_on b p q (suc d))) (e ∙ l))
-
-    pub row_stop : {l : ℕ} → d < n → l ≡ letter (duty_on b p q (suc d)) → (get_or roster (at + d) 0 ≡ l → ⊥) → false ≡ W
-    unfolding row_from
-    row_stop h l e =
-        all_stop (λ x. eqb (get_or roster (at + x) 0) (letter (duty_on b p q (suc x)))) n d w h
-        (ne_eqb (get_or roster (at + d) 0) (letter (duty_on b p q (suc d))) (λ s. e (s ∙ sym l)))
-
-    pub row_end : n ≤ d → true ≡ W
-    unfolding row_from
-    row_end h = all_end (λ x. eqb (get_or roster (at + x) 0) (letter (duty_on b p q (suc x)))) n d w h
-
--- ---- the loop that reads a pattern off
-
-module _ (roster : List ℕ) (at c : ℕ) where
-  pub read_start : 0 ≡ letters_in roster at c 0
-  unfolding letters_in
-  read_start = sym (number_zero (λ e. eqb (get_or roster (at + e) 0) c))
-
-  module _ (d : ℕ) {x : ℕ} (e : x ≡ letters_in roster at c d) where
-    pub read_more : {y : ℕ} → y ≡ cond (eqb (get_or roster (at + d) 0) c) (2 ^ d) 0 → x + y ≡ letters_in roster at c (d + 1)
-    unfolding letters_in
-    read_more h = ap₂ (λ (a b : ℕ). a + b) e h ∙ sym (number_suc (λ j. eqb (get_or roster (at + j) 0) c) d)
-
-    pub read_fits : {y : ℕ} → d < day_places → y ≡ cond (eqb (get_or roster (at + d) 0) c) (2 ^ d) 0 → x + y < 4294967296
-    unfolding letters_in
-    read_fits {y} h p =
-        let a : 2 ^ d < 2 ^ 31 = pow-lt h in
-        let b : x < 2 ^ d = rw e (number_lt (λ j. eqb (get_or roster (at + j) 0) c) d) in
-        let l : y ≤ 2 ^ d = rw p (at_most (eqb (get_or roster (at + d) 0) c) (2 ^ d)) in
-        omega arith
-      where
-        at_most : (b : Bool) (z : ℕ) → cond b z 0 ≤ z
-        at_most true z = omega arith
-        at_most false z = omega arith
-
-    pub read_end : {n : ℕ} → d ≤ n → n ≤ d → x ≡ letters_in roster at c n
-    read_end {n} l g =
-        let same : d ≡ n = omega arith in
-        e ∙ ap (letters_in roster at c) same

@@ -15,16 +15,11 @@ fn column(roster: &[u8], m: usize, n: usize, d: usize, c: u8) -> u64
     requires { (m ≤ nurse_places) × (n ≤ day_places) × (d < n) × (length roster.now ≡ m * n) }
     ensures { Same m (has result) (lettered roster.now n d c) }
 {
-    let mut col: u64 = 0;
-    let mut i: usize = 0;
-    while i < m {
-        col = numbers::put_bit(col, i, roster[i * n + d] == c);
-        i += 1;
-    }
-    col
+    numbers::set_of(m, |i| roster[i * n + d] == c)
 }
 
 // The low and high of the group of index g.
+#[tactic(auto, unfolding(crate::specs::CodeBounds::bounds_hold))]
 fn bounds_hold(sets: &[u64], needs: &[u64], k: usize, col: u64, g: usize) -> bool
     requires { (k < 2) × (g < length sets.now) × (length needs.now ≡ 4 * length sets.now + 2) × (length sets.now ≤ 16) }
     ensures { result ≡ bounds_hold sets.now needs.now k col g }
@@ -39,15 +34,7 @@ fn all_bounds_hold(sets: &[u64], needs: &[u64], k: usize, col: u64) -> bool
     requires { (k < 2) × (length needs.now ≡ 4 * length sets.now + 2) × (length sets.now ≤ 16) }
     ensures { result ≡ all_bounds_hold sets.now needs.now k col }
 {
-    let mut g: usize = 0;
-    while g < sets.len() {
-        if bounds_hold(sets, needs, k, col, g) {
-            g += 1;
-        } else {
-            return false;
-        }
-    }
-    true
+    (0..sets.len()).all(|g| bounds_hold(sets, needs, k, col, g))
 }
 
 // N by night, `-` by day.
@@ -67,21 +54,17 @@ fn duty_holds(w: &[u64], roster: &[u8], k: usize, d: usize) -> bool
     let n = fields::days(w);
     let col = column(roster, m, n, d, duty_letter(k));
     let needs = fields::needs(w, d);
-    if numbers::on_duty(col) < day::need(needs, k) {
-        return false;
-    }
-    all_bounds_hold(fields::member_sets(w), needs, k, col)
+    day::need(needs, k) <= numbers::on_duty(col)
+        && all_bounds_hold(fields::member_sets(w), needs, k, col)
 }
 
 // Both duties of the day of index d.
+#[tactic(auto, unfolding(crate::specs::CodeCheck::day_holds))]
 fn day_holds(w: &[u64], roster: &[u8], d: usize) -> bool
     requires { Accepted w.now × (length roster.now ≡ nurses w.now * days w.now) × (d < days w.now) }
     ensures { result ≡ day_holds w.now roster.now d }
 {
-    if duty_holds(w, roster, 0, d) {
-        return duty_holds(w, roster, 1, d);
-    }
-    false
+    duty_holds(w, roster, 0, d) && duty_holds(w, roster, 1, d)
 }
 
 // Every day's.
@@ -89,14 +72,5 @@ pub(crate) fn days_hold(w: &[u64], roster: &[u8]) -> bool
     requires { Accepted w.now × (length roster.now ≡ nurses w.now * days w.now) }
     ensures { result ≡ days_hold w.now roster.now }
 {
-    let n = fields::days(w);
-    let mut d: usize = 0;
-    while d < n {
-        if day_holds(w, roster, d) {
-            d += 1;
-        } else {
-            return false;
-        }
-    }
-    true
+    (0..fields::days(w)).all(|d| day_holds(w, roster, d))
 }

@@ -1,6 +1,6 @@
--- Laws of the pairs of days off: their days, when one is a nurse's, and when she is available under a pattern.
+-- Laws of the pairs of days off: their days, and when one is a nurse's.
 use mathlib.Core.Path.{◌≡◌, refl, sym, ap, ap₂, ◌∙◌}
-use mathlib.Core.Bool.{Bool, true, false, not, ◌&&◌, ◌||◌, false≢true, and-true}
+use mathlib.Core.Bool.{Bool, true, false, ◌&&◌, ◌||◌, false≢true}
 use mathlib.Core.List.{List}
 use Prim.Native.Nat.{ℕ, zero, suc, ◌-◌, ◌^◌, ◌≤◌, ◌<◌}
 use native.Mathlib.Omega.{arith}
@@ -10,30 +10,20 @@ use lib.Bits.{bit_or}
 use lib.Dec.{eqb, eqb-suc-suc}
 use Rattle.numbers.specs.Digits.{has}
 use Rattle.numbers.specs.Sum.{one_if}
-use Rattle.numbers.specs.Patterns.{pattern}
 use Rattle.numbers.proofs.DigitLaws.{bit_pow, bit_of_zero}
 use Rattle.numbers.proofs.SetLaws.{has_or}
-use Rattle.numbers.proofs.PatternLaws.{days_of_pattern, pair_of_pattern}
 use Rattle.fields.specs.Fields.{block, mark_on, pair_count, pair_day}
-use Rattle.rows.specs.Rows.{row_state, available_on}
-use Rattle.rows.specs.Pairs.{in_pair, rest_mark, at_rest, at_rest_on, pair_fits, free_on}
+use Rattle.rows.specs.Rows.{row_state}
+use Rattle.rows.specs.Pairs.{in_pair, at_rest, at_rest_on, pair_fits}
 
 -- ---- the days of a pair
-
-pub in_none : (w : List ℕ) (d : ℕ) → in_pair w 0 d ≡ false
-unfolding in_pair
-in_none w d = refl
-
-pub in_beyond : (w : List ℕ) (k d : ℕ) → pair_count w < k → in_pair w k d ≡ false
-unfolding in_pair
-in_beyond w k d h = rw (lt-ltb 0 k (omega arith), lt-leb k (pair_count w) h)
 
 pub in_pair_lem : (w : List ℕ) (k d : ℕ) → 1 ≤ k → k ≤ pair_count w → in_pair w k d ≡ (eqb d (pair_day w k) || eqb d (suc (pair_day w k)))
 unfolding in_pair
 in_pair_lem w k d l h = rw (lt-ltb 0 k l, le-leb k (pair_count w) h)
 
 -- as a set
-has_none : (d : ℕ) → has 0 d ≡ false
+pub has_none : (d : ℕ) → has 0 d ≡ false
 has_none d = ap (λ (x : ℕ). eqb x 1) (bit_of_zero d)
 
 has_one : (i d : ℕ) → has (2 ^ i) d ≡ eqb d i
@@ -42,12 +32,6 @@ has_one i d = ap (λ (x : ℕ). eqb x 1) (bit_pow i d) ∙ one_is (eqb d i)
     one_is : (b : Bool) → eqb (one_if b) 1 ≡ b
     one_is true = refl
     one_is false = refl
-
-pub set_none : (w : List ℕ) (k : ℕ) → k ≡ 0 → (d : ℕ) → has 0 d ≡ in_pair w k (suc d)
-set_none w k e d = has_none d ∙ sym (ap (λ (j : ℕ). in_pair w j (suc d)) e ∙ in_none w (suc d))
-
-pub set_beyond : (w : List ℕ) (k : ℕ) {count : ℕ} → count ≡ pair_count w → count < k → (d : ℕ) → has 0 d ≡ in_pair w k (suc d)
-set_beyond w k e h d = has_none d ∙ sym (in_beyond w k (suc d) (omega (arith, e)))
 
 -- of the days x and x + 1, by their index
 two_days : (x d : ℕ) → 1 ≤ x → has (bit_or (2 ^ (x - 1)) (2 ^ x)) d ≡ (eqb (suc d) x || eqb (suc d) (suc x))
@@ -68,15 +52,6 @@ set_two w k {second} f h q s ea eb d =
     ∙ sym (in_pair_lem w k (suc d) (omega (arith, f)) h)
 
 -- ---- whether a pair is hers
-
-pub rest_open : (mark state : ℕ) {r : Bool} → r ≡ rest_mark mark → state ≡ 0 → r ≡ at_rest mark state
-rest_open mark state e q = rw q e
-
-pub rest_owed : (mark state : ℕ) {r : Bool} → r ≡ rest_mark mark → state ≡ 3 → r ≡ at_rest mark state
-rest_owed mark state e q = rw q e
-
-pub rest_neither : (mark state : ℕ) → (state ≡ 0 → ⊥) → (state ≡ 3 → ⊥) → false ≡ at_rest mark state
-rest_neither mark state f g = rw (ne_eqb state 0 f, ne_eqb state 3 g)
 
 pub fits_none : (w : List ℕ) (i p : ℕ) → pair_fits w i p 0 ≡ eqb (pair_count w) 0
 unfolding pair_fits
@@ -101,62 +76,12 @@ fits_most w i p k e = go (dec_lt (pair_count w) k)
 pub fits_some : (w : List ℕ) (i p k : ℕ) → pair_fits w i p k ≡ true → (pair_count w ≡ 0 → ⊥) → k ≡ 0 → ⊥
 fits_some w i p k e f q = false≢true (sym (ne_eqb (pair_count w) 0 f) ∙ sym (fits_none w i p) ∙ ap (pair_fits w i p) (sym q) ∙ e)
 
--- as the code asks: 0, past the count, or the two days, of which `second` is the index of the later one
-pub asked_none : (w : List ℕ) (i p k : ℕ) {count : ℕ} → count ≡ pair_count w → k ≡ 0 → eqb count 0 ≡ pair_fits w i p k
-asked_none w i p k e q = ap (λ (x : ℕ). eqb x 0) e ∙ sym (ap (pair_fits w i p) q ∙ fits_none w i p)
-
-pub asked_beyond : (w : List ℕ) (i p k : ℕ) {count : ℕ} → count ≡ pair_count w → count < k → false ≡ pair_fits w i p k
-asked_beyond w i p k e h = sym (fits_beyond w i p k (omega (arith, e)))
-
-rests_as : (b : List ℕ) (p d : ℕ) {mark state : ℕ} {r : Bool} → mark ≡ mark_on b d → state ≡ row_state b p d → r ≡ at_rest mark state → r ≡ at_rest_on b p d
+-- as the code asks, by the indices of the two days
+pub fits_days : (w : List ℕ) (i p k : ℕ) {count second : ℕ} {b : List ℕ} → (k ≡ 0 → ⊥) → k ≤ count → count ≡ pair_count w → b ≡ block w i → second ≡ pair_day w k → 1 ≤ second
+    → pair_fits w i p k ≡ (at_rest (mark_on b (suc (second - 1))) (row_state b p (suc (second - 1))) && at_rest (mark_on b (suc second)) (row_state b p (suc second)))
 unfolding at_rest_on
-rests_as b p d m s e = e ∙ ap₂ at_rest m s
-
--- what is known of the pair that the code looks at
-pub record Asked (w : List ℕ) (i k : ℕ) (b : List ℕ) (second : ℕ) : Type 0 where
-  pub some : k ≡ 0 → ⊥
-  pub most : k ≤ pair_count w
-  pub block_is : b ≡ block w i
-  pub day_is : second ≡ pair_day w k
-  pub day_some : 1 ≤ second
-
-pub asked : (w : List ℕ) (i k : ℕ) {count second : ℕ} {b : List ℕ} → (k ≡ 0 → ⊥) → k ≤ count → count ≡ pair_count w → b ≡ block w i → second ≡ pair_day w k → 1 ≤ second
-    → Asked w i k b second
-asked w i k f h e eb es s = record { some = f; most = omega arith; block_is = eb; day_is = es; day_some = s }
-
-module _ (w : List ℕ) (i p k : ℕ) {b : List ℕ} {second : ℕ} (a : Asked w i k b second) where
-  first_rests : {mark state : ℕ} {r : Bool} → mark ≡ mark_on b (suc (second - 1)) → state ≡ row_state b p (suc (second - 1)) → r ≡ at_rest mark state
-      → r ≡ at_rest_on (block w i) p (pair_day w k)
-  first_rests m s e =
-      let q : suc (second - 1) ≡ second = omega (arith, a.day_some) in
-      rests_as b p (suc (second - 1)) m s e ∙ ap₂ (λ (x : List ℕ) (d : ℕ). at_rest_on x p d) a.block_is (q ∙ a.day_is)
-
-  second_rests : {mark state : ℕ} {r : Bool} → mark ≡ mark_on b (suc second) → state ≡ row_state b p (suc second) → r ≡ at_rest mark state
-      → r ≡ at_rest_on (block w i) p (suc (pair_day w k))
-  second_rests m s e = rests_as b p (suc second) m s e ∙ ap₂ (λ (x : List ℕ) (d : ℕ). at_rest_on x p (suc d)) a.block_is a.day_is
-
-  fits_asked : pair_fits w i p k ≡ (at_rest_on (block w i) p (pair_day w k) && at_rest_on (block w i) p (suc (pair_day w k)))
-  fits_asked = fits_pair w i p k (omega (arith, a.some)) a.most
-
-  -- the first day decides, or leaves it to the second
-  module _ {mark state : ℕ} {r : Bool} (m : mark ≡ mark_on b (suc (second - 1))) (s : state ≡ row_state b p (suc (second - 1))) (e : r ≡ at_rest mark state) where
-    pub asked_first : r ≡ false → false ≡ pair_fits w i p k
-    asked_first q = sym (fits_asked ∙ ap (λ (x : Bool). x && at_rest_on (block w i) p (suc (pair_day w k))) (sym (first_rests m s e) ∙ q))
-
-    pub asked_both : {mark2 state2 : ℕ} {r2 : Bool} → r ≡ true → mark2 ≡ mark_on b (suc second) → state2 ≡ row_state b p (suc second) → r2 ≡ at_rest mark2 state2
-        → r2 ≡ pair_fits w i p k
-    asked_both q m2 s2 e2 =
-        second_rests m2 s2 e2
-        ∙ sym (fits_asked ∙ ap (λ (x : Bool). x && at_rest_on (block w i) p (suc (pair_day w k))) (sym (first_rests m s e) ∙ q))
-
--- ---- when she is available under a pattern
-
-pub free_with : (w : List ℕ) (i p k d : ℕ) → k < 2 ^ 32 → free_on w i (pattern p k) d ≡ (available_on (block w i) p d && not (in_pair w k d))
-unfolding free_on
-free_with w i p k d h = rw (days_of_pattern p k h, pair_of_pattern p k h)
-
-pub free_alone : (w : List ℕ) (i p d : ℕ) → free_on w i (pattern p 0) d ≡ available_on (block w i) p d
-free_alone w i p d =
-    free_with w i p 0 d (omega arith)
-    ∙ ap (λ (x : Bool). available_on (block w i) p d && not x) (in_none w d)
-    ∙ and-true (available_on (block w i) p d)
+fits_days w i p k {second = second} n h e eb es s =
+    let q : suc (second - 1) ≡ pair_day w k = omega (arith, es, s) in
+    let f : List ℕ → ℕ → Bool = λ x d. at_rest_on x p d in
+    fits_pair w i p k (omega (arith, n)) (omega (arith, h, e))
+    ∙ ap₂ (λ (x y : Bool). x && y) (ap₂ f (sym eb) (sym q)) (ap₂ (λ (x : List ℕ) (d : ℕ). f x (suc d)) (sym eb) (sym es))

@@ -1,15 +1,15 @@
--- A loop over the pair numbers of a ward that looks for one that passes a test.
-use mathlib.Core.Path.{◌≡◌, refl, sym, ap, ◌∙◌}
+-- Whether one of the pair numbers of a ward passes a test.
+use mathlib.Core.Path.{◌≡◌, refl, sym, ◌∙◌}
 use mathlib.Core.Bool.{Bool, true, false, ◌||◌, or-false, or-true, false≢true}
 use mathlib.Core.List.{List}
 use mathlib.Core.Logic.{⊎_elim}
-use Prim.Native.Nat.{ℕ, zero, suc, ◌+◌, ◌-◌, ◌≤◌, ◌<◌}
+use Prim.Native.Nat.{ℕ, zero, suc, ◌+◌, ◌≤◌, ◌<◌}
 use native.Mathlib.Nat.{eq-or-lt_of_le}
 use native.Mathlib.Omega.{arith}
 use borrow.Author.Tests.{ne_eqb, eq-eqb, eqb-true, leb-true}
 use lib.Dec.{leb, eqb}
 use Rattle.numbers.specs.Range.{up_from, any_of}
-use Rattle.numbers.proofs.RangeLaws.{range_next, range_done, and_parts}
+use Rattle.numbers.proofs.RangeLaws.{and_parts}
 use Rattle.fields.specs.Fields.{pair_count}
 use Rattle.rows.specs.Pairs.{pair_numbers, pair_fits}
 
@@ -41,34 +41,10 @@ module _ (w : List ℕ) (t : ℕ → Bool) where
   unfolding any_of pair_numbers
   pairs_none e = rw (eq-eqb (pair_count w) 0 e) (or-false (t 0))
 
-  -- from pair k on
-  unfoldable pub pairs_from : ℕ → Bool
-  pairs_from k = any_of t (up_from k (suc (pair_count w) - k))
-
-  pairs_from_lem : (k : ℕ) → pairs_from k ≡ any_of t (up_from k (suc (pair_count w) - k))
-  unfolding pairs_from
-  pairs_from_lem k = refl
-
-  pub pairs_first : (pair_count w ≡ 0 → ⊥) → any_of t (pair_numbers w) ≡ pairs_from 1
-  unfolding pair_numbers pairs_from
-  pairs_first f =
-      let all : pair_count w ≡ suc (pair_count w) - 1 = omega arith in
-      rw (ne_eqb (pair_count w) 0 f) (ap (λ (n : ℕ). any_of t (up_from 1 n)) all)
-
-  turn : (k : ℕ) → k ≤ pair_count w → pairs_from k ≡ (t k || pairs_from (k + 1))
-  unfolding any_of pairs_from
-  turn k l = ap (any_of t) (range_next k (k + 1) (suc (pair_count w)) k (omega arith) (omega arith))
-
-  module _ (k : ℕ) {W : Bool} (e : W ≡ pairs_from k) where
-    pub pairs_found : k ≤ pair_count w → t k ≡ true → true ≡ W
-    pairs_found l q = sym (e ∙ turn k l ∙ rw q)
-
-    pub pairs_next : k ≤ pair_count w → t k ≡ false → W ≡ pairs_from (k + 1)
-    pairs_next l q = e ∙ turn k l ∙ rw q
-
-    pub pairs_never : pair_count w < k → false ≡ W
-    unfolding any_of pairs_from
-    pairs_never l = sym (e ∙ ap (any_of t) (range_done k (suc (pair_count w)) k l))
+  -- in a ward with pairs
+  pub pairs_all : {count : ℕ} → count ≡ pair_count w → (count ≡ 0 → ⊥) → any_of t (up_from 1 count) ≡ any_of t (pair_numbers w)
+  unfolding pair_numbers
+  pairs_all e f = rw (ne_eqb (pair_count w) 0 (λ z. f (e ∙ z)), e)
 
   -- a number that fits is one of them
   pub pairs_has : (i p k : ℕ) → pair_fits w i p k ≡ true → t k ≡ true → any_of t (pair_numbers w) ≡ true
@@ -84,6 +60,5 @@ module _ (w : List ℕ) (t : ℕ → Bool) where
       go : (b : Bool) → eqb (pair_count w) 0 ≡ b → (k : ℕ) × (k ≤ pair_count w) × (t k ≡ true)
       go true q = (0, omega arith, sym (pairs_none (eqb-true (pair_count w) 0 q)) ∙ e)
       go false q =
-          let first = pairs_first (λ z. false≢true (sym q ∙ eq-eqb (pair_count w) 0 z)) in
-          let r = any_found t 1 (suc (pair_count w) - 1) (sym (pairs_from_lem 1) ∙ sym first ∙ e) in
+          let r = any_found t 1 (pair_count w) (pairs_all refl (λ z. false≢true (sym q ∙ eq-eqb (pair_count w) 0 z)) ∙ e) in
           (r.0, omega (arith, r.1), r.2)

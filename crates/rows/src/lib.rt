@@ -9,6 +9,7 @@ ghost use Rattle.rows.specs.Rows.{allow_table, allows, state_after, day_zero, ro
 
 use fields::nurse;
 use fields::sizes::DAYS;
+use numbers::Set;
 
 // What each mark allows, by the day's state: O, N, n, R.
 const ALLOWS: [[u8; 4]; 7] = [
@@ -41,16 +42,12 @@ fn state_after(before: usize, started: bool) -> usize
     ensures is { result ≡ state_after before started }
     ensures small { result < 4 }
 {
-    if started {
-        return 1;
+    match before {
+        _ if started => 1,
+        1 => 2,
+        2 => 3,
+        _ => 0,
     }
-    if before == 1 {
-        return 2;
-    }
-    if before == 2 {
-        return 3;
-    }
-    0
 }
 
 // The state of day 0, by its duty.
@@ -58,16 +55,15 @@ fn day_zero(duty: u64) -> usize
     ensures is { result ≡ day_zero duty }
     ensures small { result < 3 }
 {
-    if duty == 2 {
-        return 1;
+    match duty {
+        2 => 1,
+        3 => 2,
+        _ => 0,
     }
-    if duty == 3 {
-        return 2;
-    }
-    0
 }
 
 // The state of every day of a month of n days under night pattern p, and 0 after them.
+#[tactic(auto, using(crate::proofs::RowLaws::state_small, crate::proofs::RowLaws::row_zero))]
 pub fn states(b: &[u64], n: usize, p: u32) -> [usize; DAYS]
     requires { (n ≤ day_places) × (7 ≤ length b.now) }
     ensures are { (d : ℕ) → d < n → get_or result d 0 ≡ row_state b.now p (suc d) }
@@ -75,11 +71,9 @@ pub fn states(b: &[u64], n: usize, p: u32) -> [usize; DAYS]
 {
     let mut states = [0usize; DAYS];
     let mut state = day_zero(nurse::last_duty(b));
-    let mut d: usize = 0;
-    while d < n {
-        state = state_after(state, numbers::has_bit(p, d as u64));
+    for d in 0..n {
+        state = state_after(state, p.has(d));
         states[d] = state;
-        d = d + 1;
     }
     states
 }
@@ -88,7 +82,7 @@ pub fn states(b: &[u64], n: usize, p: u32) -> [usize; DAYS]
 pub fn is_available(mark: u64, state: usize) -> bool
     ensures { result ≡ available mark state }
 {
-    state == 0 && (mark == 0 || (mark == 2 || mark == 5))
+    state == 0 && matches!(mark, 0 | 2 | 5)
 }
 
 // The duty of a day: 0 rest, 1 day, 2 the night's first day, 3 its second day, 4 other.
@@ -100,20 +94,8 @@ pub fn duty_of(mark: u64, state: usize, worked: bool) -> u64
         1 => 2,
         2 => 3,
         3 => 0,
-        _ => open_duty(mark, worked),
+        _ if worked => 1,
+        _ if mark == 4 => 4,
+        _ => 0,
     }
-}
-
-// The duty of an open day.
-fn open_duty(mark: u64, worked: bool) -> u64
-    ensures is { result ≡ duty_of mark 0 worked }
-    ensures small { result < 5 }
-{
-    if worked {
-        return 1;
-    }
-    if mark == 4 {
-        return 4;
-    }
-    0
 }

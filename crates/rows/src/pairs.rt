@@ -10,31 +10,23 @@ use fields::nurse;
 pub fn is_rest_mark(mark: u64) -> bool
     ensures { result ≡ rest_mark mark }
 {
-    mark == 0 || (mark == 1 || (mark == 5 || mark == 6))
+    matches!(mark, 0 | 1 | 5 | 6)
 }
 
 // O or R, under such a mark.
 fn is_at_rest(mark: u64, state: usize) -> bool
     ensures { result ≡ at_rest mark state }
 {
-    if state == 0 {
-        return is_rest_mark(mark);
-    }
-    if state == 3 {
-        return is_rest_mark(mark);
-    }
-    false
+    matches!(state, 0 | 3) && is_rest_mark(mark)
 }
 
 // The two days of pair k, as a set; none where there is no such pair.
+#[tactic(auto, using(crate::proofs::PairLaws::has_none), unfolding(crate::specs::Pairs::in_pair))]
 pub fn pair_days(w: &[u64], k: usize) -> u32
     requires { Accepted w.now }
     ensures { (d : ℕ) → has result d ≡ in_pair w.now k (suc d) }
 {
-    if k == 0 {
-        return 0;
-    }
-    if fields::pair_count(w) < k {
+    if k == 0 || fields::pair_count(w) < k {
         return 0;
     }
     let second = fields::pair_day(w, k);
@@ -42,6 +34,7 @@ pub fn pair_days(w: &[u64], k: usize) -> u32
 }
 
 // Whether pair k is nurse i's under the night pattern p.
+#[tactic(auto, unfolding(crate::specs::Pairs::pair_fits, crate::specs::Pairs::at_rest_on))]
 pub fn pair_fits(w: &[u64], i: usize, p: u32, k: usize) -> bool
     requires { Accepted w.now × (i < nurses w.now) }
     ensures { result ≡ pair_fits w.now i p k }
@@ -57,8 +50,6 @@ pub fn pair_fits(w: &[u64], i: usize, p: u32, k: usize) -> bool
     let states = crate::states(b, fields::days(w), p);
     let second = fields::pair_day(w, k) as usize;
     let first = second - 1;
-    if is_at_rest(nurse::mark(b, first), states[first]) {
-        return is_at_rest(nurse::mark(b, second), states[second]);
-    }
-    false
+    is_at_rest(nurse::mark(b, first), states[first])
+        && is_at_rest(nurse::mark(b, second), states[second])
 }

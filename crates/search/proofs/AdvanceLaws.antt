@@ -5,9 +5,11 @@ use mathlib.Core.Bool.{Bool, true, false, cond, ◌&&◌, false≢true}
 use mathlib.Core.Logic.{◌≢◌}
 use mathlib.Core.List.{List, []}
 use mathlib.Core.Option.{Option, none, some}
+use Rattle.std.specs.Prelude.{Option as StoredOption, Some, None}
+use Rattle.std.specs.Option.{is_some, unwrap_or}
 use native.Mathlib.Nat.{sub-zero, add-zero}
 use native.Mathlib.Omega.{arith}
-use lib.Dec.{leb, eqb}
+use lib.Dec.{eqb}
 use lib.ListN.{length}
 use borrow.Author.Tests.{eqb-true}
 use Rattle.numbers.specs.Range.{Ascending, up_from}
@@ -19,18 +21,17 @@ use Rattle.history.specs.Slot.{Slot}
 use Rattle.history.specs.Phase.{Step, Phase, Call, Answer, refused, ended, End, end_zero, end_asked, end_none, exchanges, run, stops, refusal, given, in_turn}
 use Rattle.refusals.specs.declared.Refusal.{Refusal}
 use Rattle.history.specs.History.{History, penalty, extend, reply, advance}
-use Rattle.history.specs.Record.{Record, record_of, may_take, cost_after, total, best, stepped, proceed, among, hers, all_name, lacking, sound, reply_of}
+use Rattle.history.specs.Record.{Record, record_of, may_take, cost_after, total, best, stepped, proceed, among, hers, all_name, sound, reply_of}
 use Rattle.history.specs.Session.{Operation, begun, known, act, answers, session}
 use Rattle.history.specs.Claim.{Without, or_ten}
 use Rattle.history.proofs.Lawful.{Lawful}
 use Rattle.search.specs.Stored.{store, view, view_of, all_zero, unused_zero, sound_stored, refusal_stored, reply_stored, advance_stored, Sized}
 use Rattle.search.proofs.Fits.{Fits}
-use Rattle.best.specs.CodeBest.{best_over, found}
+use Rattle.best.specs.CodeBest.{Best, best_over, found}
 use Rattle.search.specs.CodeSteps.{exchanged_in, stepped_of}
 use Rattle.search.specs.declared.Record.{Record as Stored}
 use Rattle.search.specs.declared.Stepped.{Stepped}
-use Rattle.best.specs.declared.Best.{Best}
-use Rattle.best.specs.declared.Best.TheVariants.{Nothing, Exchange}
+use Rattle.best.specs.declared.Exchange.{Exchange}
 use Rattle.history.proofs.TestLaws.{and_true}
 use Rattle.history.proofs.ChooseLaws.{least_first, offers_only, range_only}
 use Rattle.history.proofs.RunLaws.{run_zero, run_asked, run_none_left, run_on}
@@ -159,53 +160,55 @@ module _ {P : Phase} {past_zero : Bool} {k : ℕ} {r₀ r : Stored} {made pen : 
 
 -- ---- a step as its own function
 
-pub step_none : (P : Phase) (r : Stored) {pen : ℕ} → best P (view_of P r) ≡ none → pen ≡ P.cost (view_of P r).slots
-    → record { moved = false; after = r; penalty = pen } ≡ stepped_of P r
-unfolding stepped_of
-step_none P r e c = sym (rw (e, c, stepped_of))
+some_step : Stepped → StoredOption Stepped
+some_step x = Some x
 
-pub step_some : (P : Phase) (r : Stored) (s : Step) {r' : Stored} {pen : ℕ} → best P (view_of P r) ≡ some s → r' ≡ exchanged_in P.tabu r s.nurse s.pattern
-    → pen ≡ cost_after P (view_of P r) s → record { moved = true; after = r'; penalty = pen } ≡ stepped_of P r
+pub step_none : (P : Phase) (r : Stored) → best P (view_of P r) ≡ none → None ≡ stepped_of P r
 unfolding stepped_of
-step_some P r s e q c = sym (rw (e, q, c, stepped_of))
+step_none P r e = sym (rw (e, stepped_of))
+
+pub step_some : (P : Phase) (r : Stored) (s : Step) {x : Stepped} → best P (view_of P r) ≡ some s → x.after ≡ exchanged_in P.tabu r s.nurse s.pattern
+    → x.penalty ≡ cost_after P (view_of P r) s → Some x ≡ stepped_of P r
+unfolding stepped_of some_step
+step_some P r s {x} e q c = ap₂ (λ (r' : Stored) (pen : ℕ). some_step (record { after = r'; penalty = pen })) q c ∙ sym (rw (e, stepped_of))
 
 -- by the best exchange that loops over the nurses found
 module _ (P : Phase) (r : Stored) (up : (i : ℕ) → i < P.nurses → Ascending (P.patterns i)) {b : Best} (e : b ≡ best_over P (view_of P r) P.nurses) where
   best_found : best P (view_of P r) ≡ found b
   best_found = sym (ap found e ∙ found_best P (view_of P r) up)
 
-  pub takes_none : {pen : ℕ} → b ≡ Nothing → pen ≡ P.cost (view_of P r).slots → record { moved = false; after = r; penalty = pen } ≡ stepped_of P r
-  takes_none q c = step_none P r (best_found ∙ ap found q) c
+  pub takes_none : b ≡ None → None ≡ stepped_of P r
+  takes_none q = step_none P r (best_found ∙ ap found q)
 
-  pub takes_some : {i p c : ℕ} {r' : Stored} {pen : ℕ} → b ≡ Exchange i p c → r' ≡ exchanged_in P.tabu r i p
-      → pen ≡ cost_after P (view_of P r) (record { nurse = i; pattern = p }) → record { moved = true; after = r'; penalty = pen } ≡ stepped_of P r
-  takes_some {i} {p} q f g = step_some P r (record { nurse = i; pattern = p }) (best_found ∙ ap found q) f g
+  pub takes_some : {y : Exchange} {x : Stepped} → b ≡ Some y → x.after ≡ exchanged_in P.tabu r y.nurse y.pattern
+      → x.penalty ≡ cost_after P (view_of P r) (record { nurse = y.nurse; pattern = y.pattern }) → Some x ≡ stepped_of P r
+  takes_some {y} q f g = step_some P r (record { nurse = y.nurse; pattern = y.pattern }) (best_found ∙ ap found q) f g
 
-  pub takes_nurse : {i p c : ℕ} → b ≡ Exchange i p c → i < P.nurses
-  takes_nurse {i} {p} q = best_nurse P (view_of P r) (record { nurse = i; pattern = p }) (best_found ∙ ap found q)
+  pub takes_nurse : {y : Exchange} → b ≡ Some y → y.nurse < P.nurses
+  takes_nurse {y} q = best_nurse P (view_of P r) (record { nurse = y.nurse; pattern = y.pattern }) (best_found ∙ ap found q)
 
--- what a step says
-pub step_stays : (P : Phase) (r : Stored) {x : Stepped} → x ≡ stepped_of P r → x.moved ≡ false → best P (view_of P r) ≡ none
-step_stays P r {x} e f = go (best P (view_of P r)) refl
+-- what a step says: that there is none to make
+pub step_stays : (P : Phase) (r : Stored) → None ≡ stepped_of P r → best P (view_of P r) ≡ none
+step_stays P r e = go (best P (view_of P r)) refl
   where
     go : (o : Option Step) → best P (view_of P r) ≡ o → best P (view_of P r) ≡ none
     go none q = q
-    go (some s) q = absurd (false≢true (sym f ∙ ap (λ (y : Stepped). y.moved) (e ∙ sym (step_some P r s q refl refl))))
+    go (some s) q = absurd (false≢true (ap (λ (o : StoredOption Stepped). is_some o) (e ∙ sym (step_some P r s q refl refl))))
 
--- a step that moved: the exchange, the record after it and its penalty
+-- or the exchange, the record after it and its penalty
 pub record Moves (P : Phase) (r : Stored) (x : Stepped) : Type 0 where
   pub exchange : Step
   pub chosen : best P (view_of P r) ≡ some exchange
   pub after_is : x.after ≡ exchanged_in P.tabu r exchange.nurse exchange.pattern
   pub penalty_is : x.penalty ≡ cost_after P (view_of P r) exchange
 
-pub step_moves : (P : Phase) (r : Stored) {x : Stepped} → x ≡ stepped_of P r → x.moved ≡ true → Moves P r x
-step_moves P r {x} e f = go (best P (view_of P r)) refl
+pub step_moves : (P : Phase) (r : Stored) {x : Stepped} → Some x ≡ stepped_of P r → Moves P r x
+step_moves P r {x} e = go (best P (view_of P r)) refl
   where
     go : (o : Option Step) → best P (view_of P r) ≡ o → Moves P r x
-    go none q = absurd (false≢true (ap (λ (y : Stepped). y.moved) (step_none P r q refl ∙ sym e) ∙ f))
+    go none q = absurd (false≢true (ap (λ (o : StoredOption Stepped). is_some o) (step_none P r q ∙ sym e)))
     go (some s) q =
-        let as-stepped = e ∙ sym (step_some P r s q refl refl) in
+        let as-stepped = ap (λ (o : StoredOption Stepped). unwrap_or o x) (e ∙ sym (step_some P r s q refl refl)) in
         record {
           exchange = s;
           chosen = q;
@@ -215,18 +218,18 @@ step_moves P r {x} e f = go (best P (view_of P r)) refl
 
 -- the loop's last two cases, by the step that it made
 module _ {P : Phase} {past_zero : Bool} {k : ℕ} {r₀ r : Stored} {made pen : ℕ} (t : Turn P past_zero k r₀ r made pen) (n : stops past_zero pen ≡ false) (l : made ≢ k)
-    {x : Stepped} (q : x ≡ stepped_of P r) where
+    {o : StoredOption Stepped} (q : o ≡ stepped_of P r) where
   below : made < k
   below = omega (arith, t.running.at_most, l)
 
-  pub stays_none : x.moved ≡ false → reply_stored P past_zero k r₀ ≡ (ended end_none made pen (cond (eqb pen 0) (P.letters (view_of P r).slots) []), r)
-  stays_none m = ends_none t n below (step_stays P r q m)
+  pub stays_none : o ≡ None → reply_stored P past_zero k r₀ ≡ (ended end_none made pen (cond (eqb pen 0) (P.letters (view_of P r).slots) []), r)
+  stays_none m = ends_none t n below (step_stays P r (sym m ∙ q))
 
   -- the next turn: the penalty carried on is that of the record after the step
-  pub turn_on : x.moved ≡ true → Turn P past_zero k r₀ x.after (made + 1) x.penalty
+  pub turn_on : {x : Stepped} → o ≡ Some x → Turn P past_zero k r₀ x.after (made + 1) x.penalty
   unfolding stepped
   turn_on m =
-      let y = step_moves P r q m in
+      let y = step_moves P r (sym m ∙ q) in
       let i = best_nurse P (view_of P r) y.exchange y.chosen in
       let then = view_exchanged P.nurses P.tabu r t.running.whole t.fits.nurses_most t.fits.tabu_at_most y.exchange.nurse y.exchange.pattern i in
       record {
@@ -254,28 +257,6 @@ module _ (P : Phase) (c : Call) (r : Stored) where
       go : (o : Option Refusal) → refusal P c r.steps ≡ o → advance_stored P c r ≡ (refused (or_ten i o), r)
       go none e = stored_refused (numbered question.patterns (suc i)) (rw (e, lacking_lowest P i w))
       go (some n) e = stored_refused n (rw e)
-
-  -- the questions in turn
-  pub asks_seven : (leb c.steps 10000 && leb (r.steps + c.steps) 1000000) ≡ false → refusal_stored P c r ≡ some (numbered question.steps 0)
-  unfolding refusal_stored refusal
-  asks_seven e = rw e
-
-  pub asks_room : {n : Refusal} → (leb c.steps 10000 && leb (r.steps + c.steps) 1000000) ≡ true → P.room c.places ≡ some n → refusal_stored P c r ≡ some n
-  unfolding refusal_stored refusal
-  asks_room e f = rw (e, f)
-
-  module _ (e : (leb c.steps 10000 && leb (r.steps + c.steps) 1000000) ≡ true) (f : P.room c.places ≡ none) where
-    pub asks_lacking : {n : Refusal} → lacking P.patterns (up_from 0 P.nurses) ≡ some n → refusal_stored P c r ≡ some n
-    unfolding refusal_stored refusal
-    asks_lacking g = rw (e, f, g)
-
-    pub asks_sound : lacking P.patterns (up_from 0 P.nurses) ≡ none → sound_stored P r ≡ false → refusal_stored P c r ≡ some (numbered question.record_sound 0)
-    unfolding refusal_stored refusal
-    asks_sound g h = rw (e, f, g, h)
-
-    pub asks_none : lacking P.patterns (up_from 0 P.nurses) ≡ none → sound_stored P r ≡ true → refusal_stored P c r ≡ none
-    unfolding refusal_stored refusal
-    asks_none g h = rw (e, f, g, h)
 
 -- ---- advances over stored records follow the history
 

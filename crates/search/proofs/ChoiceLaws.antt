@@ -1,16 +1,15 @@
 -- The exchange that a step takes, over everyone's lists; and what a step makes of columns and penalty.
-use Prim.Native.Nat.{ℕ, ◌+◌, ◌-◌, ◌*◌, ◌≤◌, ◌<◌, min}
+use Prim.Native.Nat.{ℕ, ◌+◌, ◌*◌, ◌≤◌, ◌<◌, min}
 use mathlib.Core.Path.{◌≡◌, refl, sym, ap, ap₂, ◌∙◌, subst, fun_ext}
 use mathlib.Core.Bool.{Bool, true, false, cond, not, ◌&&◌, ◌||◌, false≢true}
 use mathlib.Core.List.{List}
 use mathlib.Core.Option.{some}
 use native.Mathlib.Omega.{arith}
-use native.Mathlib.Nat.{add-zero}
 use lib.Dec.{eqb}
-use lib.ListN.{length, get_or, take, drop, set, replicate}
-use lib.Seq.{get_or-set_same, get_or-set_other, length-take-le}
+use lib.ListN.{get_or, set, replicate}
+use lib.Seq.{get_or-set_same, get_or-set_other}
 use borrow.Author.Tests.{lt-ltb, eqb-true, eqb-false}
-use Rattle.fields.specs.Sizes.{nurse_places, tabu_most}
+use Rattle.fields.specs.Sizes.{nurse_places}
 use Rattle.numbers.specs.Range.{any_of}
 use Rattle.numbers.specs.Sum.{count_to, one_if, Is}
 use Rattle.numbers.specs.Digits.{has, put}
@@ -23,26 +22,27 @@ use Rattle.history.specs.Phase.{Phase}
 use Rattle.history.specs.Record.{may_take, cost_after}
 use Rattle.penalty.specs.declared.Penalty.{Penalty}
 use Rattle.penalty.specs.Penalty.{parts_of, total, rest, unplaced_in, starts_in, at_night, available_in, at_day, parts_in}
-use Rattle.penalty.specs.CodeColumns.{Same, Shows, columns_of, PutAt}
+use Rattle.penalty.specs.CodeColumns.{Same, Shows, PutAt}
 use Rattle.penalty.proofs.ColumnLaws.{zeros, same_as, night_after, available_after, day_after}
 use Rattle.penalty.proofs.BoundLaws.{night_split, day_split, unplaced_after}
 use Rattle.trials.specs.Trials.{CountsIn}
 use Rattle.removals.specs.Removals.{slot}
 use Rattle.removals.specs.declared.Given.{Given}
-use Rattle.removals.specs.CodeGiven.{bar_places, GivenUp, given_up_by}
-use Rattle.margins.specs.CodeMargins.{Slight, SearchMargins}
-use Rattle.best.specs.CodeBest.{over_list, cost_in, best_over}
+use Rattle.removals.specs.CodeGiven.{GivenUp, given_up_by}
+use Rattle.margins.specs.CodeMargins.{Slight}
+use Rattle.std.specs.Prelude.{Some, None}
+use Rattle.best.specs.CodeBest.{Best, over_list, cost_in, best_over}
 use Rattle.best.proofs.BestLaws.{nurses_none, nurses_turn}
-use Rattle.best.specs.declared.Best.{Best}
-use Rattle.best.specs.declared.Best.TheVariants.{Nothing, Exchange}
-use Rattle.tries.specs.CodeTries.{Bars, tried_in, NurseNeeds}
-use Rattle.ownlists.specs.declared.Own.{Own}
+use Rattle.best.specs.declared.Exchange.{Exchange}
+use Rattle.tries.specs.CodeTries.{Bars, NightList, tried_in}
+use Rattle.tries.specs.declared.nurse.Counts.{Counts}
 use Rattle.search.specs.Stored.{slot_at, view, view_of, sound_stored, Sized}
 use Rattle.search.specs.CodeSteps.{exchanged_in, stepped_of}
-use Rattle.search.specs.CodeSeek.{cost_of, Agree, SeeksBy, tried_at}
-use Rattle.search.specs.CodeChoice.{ColumnsOf, Tries, MayBy, OneNeeds, BestNeeds, Room, ExchangeNeeds, StepNeeds, list_of}
+use Rattle.search.specs.CodeSeek.{cost_of, Agree, SeeksBy, list_at}
+use Rattle.search.specs.CodeChoice.{ColumnsOf, MayBy, OneNeeds, BestNeeds, tried_in_offers, Room, SeeksIn, StepNeeds}
 use Rattle.tables.proofs.SumLaws.{zeros_blank}
-use Rattle.search.specs.declared.choice.Nurse.{Nurse}
+use Rattle.search.specs.declared.choice.Offers.{Offers}
+use Rattle.penalty.specs.declared.columns.Columns.{Columns}
 use Rattle.search.specs.declared.Stepped.{Stepped}
 use Rattle.search.specs.declared.Record.{Record as Stored}
 use Rattle.search.proofs.Fits.{Fits}
@@ -59,54 +59,23 @@ pub slight_zeros : Slight (replicate 1152 0)
 slight_zeros = record { slight = λ e q. omega (arith, zeros 1152 e) }
 
 -- before the first step
-pub room_fresh : (w : List ℕ) → Room w (replicate 1152 0) (replicate 1152 0) (replicate 1536 0)
+pub room_fresh : (w : List ℕ) → Room w (record { nightly = replicate 1152 0; daily = replicate 1152 0; table = replicate 1536 0 })
 room_fresh w = record { nightly_slight = slight_zeros; daily_slight = slight_zeros; table_blank = zeros_blank (days w) }
-
--- ---- the unplaced besides her
-
-pub others_placed : {b : Bool} (u a : ℕ) → b ≡ true → u ≡ a + one_if (not b) → u ≡ a
-others_placed u a e q = (rw e at q) ∙ add-zero a
-
-pub others_unplaced : {b : Bool} (u a : ℕ) → b ≡ false → u ≡ a + one_if (not b) → u ≡ a + 1
-others_unplaced u a e q = rw e at q
 
 -- ---- one nurse
 
--- what is read of nurse i
-abbrev pub nurse_of : Own → Stored → ℕ → Nurse
-nurse_of plan r i = record {
-  begin = get_or plan.begins i 0;
-  end = get_or plan.ends i 0;
-  kept = get_or plan.kept i false;
-  whole = get_or plan.whole i false;
-  workable = get_or plan.workable i 0;
-  before = get_or plan.before i 0;
-  placed = get_or r.placed i false;
-  current = get_or r.patterns i 0;
-}
+module _ {o : Offers} {cols : Columns} {u : ℕ} {r : Stored} (n : BestNeeds o cols u r) where
+  abbrev in_search : Search
+  in_search = o.search
 
-module _ {which : Search} {w lists own : List ℕ} {plan : Own} {night day : List ℕ} {u : ℕ} {r : Stored} (n : BestNeeds which w lists own plan night day u r) where
-  pub one_needs : {nightly daily : List ℕ} {count m : ℕ} (i : ℕ) → SearchMargins which w night day nightly daily → count ≤ tabu_most → m ≡ nurses w → i < m
-      → OneNeeds which w lists own (nurse_of plan r i) night day nightly daily count u i
-  one_needs i s k e h =
-      let l : i < nurses w = omega arith in
-      let at = n.tries.each i l in
-      record {
-        ward = n.ward;
-        nurse = l;
-        begins = at.begins;
-        finishes = at.finishes;
-        stretch_hers = λ z. (at.by_night z).stretch_hers;
-        whole_hers = λ z. (at.by_night z).whole_hers;
-        common = λ z. (at.by_night z).common;
-        workable_are = λ z. (at.by_night z).workable_are;
-        before_is = λ z. (at.by_night z).before_is;
-        margins = s;
-        count_most = k;
-        unplaced_most = n.counted.most;
-      }
+  abbrev w : List ℕ
+  w = o.ward.now
 
-  module _ (P : Phase) (s : SeeksBy which w (tried_at which w lists own plan) P) (i : ℕ) (l : i < nurses w) where
+  -- what she tries
+  abbrev tried : ℕ → List ℕ
+  tried = tried_in_offers o
+
+  module _ (P : Phase) (s : SeeksBy in_search w tried P) (i : ℕ) (l : i < nurses w) where
     abbrev slots_in : ℕ → Slot
     slots_in = (view_of P r).slots
 
@@ -133,10 +102,10 @@ module _ {which : Search} {w lists own : List ℕ} {plan : Own} {night day : Lis
     same_others p = omega (arith, others_then 0, others_then p)
 
     -- her cost is the phase's
-    costs : (λ p. rest (parts_in which w (exchanged slots_in i p)) + 10000000 * others) ≡ cost_in P (view_of P r) i
+    costs : (λ p. rest (parts_in in_search w (exchanged slots_in i p)) + 10000000 * others) ≡ cost_in P (view_of P r) i
     costs =
-        fun_ext (λ p. ap (λ (x : ℕ). rest (parts_in which w (exchanged slots_in i p)) + 10000000 * x) (same_others p)
-        ∙ sym (s.cost_is (exchanged slots_in i p) ∙ splits which p))
+        fun_ext (λ p. ap (λ (x : ℕ). rest (parts_in in_search w (exchanged slots_in i p)) + 10000000 * x) (same_others p)
+        ∙ sym (s.cost_is (exchanged slots_in i p) ∙ splits in_search p))
       where
         splits : (d : Search) (p : ℕ) → cost_of d w (exchanged slots_in i p) ≡ rest (parts_in d w (exchanged slots_in i p)) + 10000000 * unplaced_in w (exchanged slots_in i p)
         splits Days p = (day_split w (exchanged slots_in i p) n.ward).0 ∙ omega arith
@@ -144,66 +113,47 @@ module _ {which : Search} {w lists own : List ℕ} {plan : Own} {night day : Lis
 
     -- what she may take, by what was gathered
     may_gathered : {k : ℕ} {given : Given} → Sized r → k ≡ min r.steps (tabu w) → GivenUp r.removals k given
-        → MayBy may given.nurses given.patterns k i (nurse_of plan r i)
+        → MayBy may given.nurses given.patterns k i r
     may_gathered z q g p = may_by P.nurses P.tabu r i p (omega (arith, s.nurses_are)) z (q ∙ ap (min r.steps) (sym s.tabu_is)) (omega (arith, s.tabu_is, n.ward.tabu_at_most)) g
 
     -- what the loop over her list found, as the phase has it
     pub nurse_found : (held : Best) {k : ℕ} {given : Given} {res : Best} → Sized r → k ≡ min r.steps (tabu w) → GivenUp r.removals k given
-        → ((slots : ℕ → Slot) (f : ℕ → Bool) (o : ℕ) → Shows which w slots (columns_of night day) → MayBy f given.nurses given.patterns k i (nurse_of plan r i)
-        → u ≡ o + one_if (not (nurse_of plan r i).placed)
-        → res ≡ over_list f (λ p. rest (parts_in which w (exchanged slots i p)) + 10000000 * o) i held (list_of which w lists own (nurse_of plan r i) i))
+        → ((slots : ℕ → Slot) (f : ℕ → Bool) (a : ℕ) → Shows in_search w slots cols → MayBy f given.nurses given.patterns k i r → u ≡ a + one_if (not (get_or r.placed i false))
+        → res ≡ over_list f (λ p. rest (parts_in in_search w (exchanged slots i p)) + 10000000 * a) i held (tried i))
         → res ≡ over_list may (cost_in P (view_of P r) i) i held (P.patterns i)
     nurse_found held z q g f =
         f slots_in may others (n.shown.shows slots_in agrees) (may_gathered z q g) (others_then 0)
-        ∙ ap (λ (c : ℕ → ℕ). over_list may c i held (tried_at which w lists own plan i)) costs
+        ∙ ap (λ (c : ℕ → ℕ). over_list may c i held (tried i)) costs
         ∙ ap (over_list may (cost_in P (view_of P r) i) i held) (sym (s.patterns_are i l))
 
 -- by her list, where she may take what is not among those gathered
-pub bars_are : (may : ℕ → Bool) (nurses patterns : List ℕ) (count i : ℕ) (x : Nurse) (bars : List ℕ) {number : ℕ} → number ≡ i + 1 → MayBy may nurses patterns count i x
-    → ((p : ℕ) → any_of (λ y. eqb y p) bars ≡ ((x.placed && eqb x.current p) || given_up_by nurses patterns number p count)) → Bars may bars
-bars_are may nurses patterns count i x bars e m g p =
-    m p ∙ ap (λ (k : ℕ). not ((x.placed && eqb x.current p) || given_up_by nurses patterns k p count)) (sym e) ∙ ap not (sym (g p))
+pub bars_are : (may : ℕ → Bool) (nurses patterns : List ℕ) (count i : ℕ) (r : Stored) (bars : List ℕ) → MayBy may nurses patterns count i r
+    → ((p : ℕ) → any_of (λ y. eqb y p) bars ≡ ((get_or r.placed i false && eqb (get_or r.patterns i 0) p) || given_up_by nurses patterns (i + 1) p count)) → Bars may bars
+bars_are may nurses patterns count i r bars m g p = m p ∙ ap not (sym (g p))
 
-module _ {which : Search} {w lists own : List ℕ} {x : Nurse} {night day nightly daily : List ℕ} {count unplaced i : ℕ}
-    (n : OneNeeds which w lists own x night day nightly daily count unplaced i) {others : ℕ} (o : others ≤ unplaced) where
-  -- her own stretch
-  pub kept_needs : x.kept ≡ true → NurseNeeds which w (take (x.end - x.begin) (drop x.begin own)) true night day nightly daily x.workable x.before others i
-  kept_needs e = record {
-    ward = n.ward;
-    nurse = n.nurse;
-    listed = λ z. record { when_whole = λ y. n.stretch_hers z e; when_common = λ y. absurd (false≢true (sym y)) };
-    before_is = n.before_is;
-    workable_are = n.workable_are;
-    others_most = omega (arith, n.unplaced_most);
-    margins = n.margins;
-  }
+-- by night her stretch is all hers, or the lists are the common one
+pub night_list : {o : Offers} {c : Counts} {count unplaced i : ℕ} → OneNeeds o c count unplaced i → o.search ≡ Nights → {list : List ℕ} {whole : Bool}
+    → list ≡ list_at o.lists.now o.own.now o.plan.now i → whole ≡ (get_or o.plan.now.kept i false || get_or o.plan.now.whole i false) → NightList o.ward.now list i whole
+night_list {o} {c} {i = i} n z {list} {whole} e q = go (get_or o.plan.now.kept i false) refl
+  where
+    go : (b : Bool) → get_or o.plan.now.kept i false ≡ b → NightList o.ward.now list i whole
+    go true f = record {
+      when_whole = λ _. rw (e, f) ((n.plan_at.by_night z).stretch_hers f);
+      when_common = λ h. absurd (false≢true (sym h ∙ q ∙ rw f));
+    }
+    go false f = record {
+      when_whole = λ h. rw (e, f) ((n.plan_at.by_night z).whole_hers (sym (q ∙ rw f) ∙ h));
+      when_common = λ _. rw (e, f) (n.plan_at.by_night z).common;
+    }
 
-  -- the lists
-  pub other_needs : NurseNeeds which w lists x.whole night day nightly daily x.workable x.before others i
-  other_needs = record {
-    ward = n.ward;
-    nurse = n.nurse;
-    listed = λ z. record { when_whole = n.whole_hers z; when_common = λ y. n.common z };
-    before_is = n.before_is;
-    workable_are = n.workable_are;
-    others_most = omega (arith, n.unplaced_most);
-    margins = n.margins;
-  }
-
--- what was found of one or the other
-pub found_in : (which : Search) (w lists own : List ℕ) (x : Nurse) (i : ℕ) (may : ℕ → Bool) (cost : ℕ → ℕ) (held : Best) {others o : ℕ} {list : List ℕ} {r : Best} → o ≡ others
-    → list ≡ cond x.kept (take (x.end - x.begin) (drop x.begin own)) lists → r ≡ over_list may (λ p. cost p + 10000000 * o) i held (tried_in which w i list)
-    → r ≡ over_list may (λ p. cost p + 10000000 * others) i held (list_of which w lists own x i)
-found_in which w lists own x i may cost held {others} q e f =
-    f ∙ ap₂ (λ (k : ℕ) (l : List ℕ). over_list may (λ p. cost p + 10000000 * k) i held (tried_in which w i l)) q e
-
--- as many of them as were gathered
-pub prefix_long : (xs : List ℕ) {n : ℕ} → n ≤ bar_places → length xs ≡ bar_places → n ≡ length (take n xs)
-prefix_long xs {n} h e = sym (length-take-le n xs (omega (arith, e)))
+-- what was found, by her list and the unplaced besides her
+pub found_in : (which : Search) (w : List ℕ) (may : ℕ → Bool) (cost : ℕ → ℕ) (i : ℕ) (held : Best) {others a : ℕ} {list tried : List ℕ} {r : Best} → a ≡ others → list ≡ tried
+    → r ≡ over_list may (λ p. cost p + 10000000 * a) i held (tried_in which w i list) → r ≡ over_list may (λ p. cost p + 10000000 * others) i held (tried_in which w i tried)
+found_in which w may cost i held q e f = f ∙ ap₂ (λ (k : ℕ) (l : List ℕ). over_list may (λ p. cost p + 10000000 * k) i held (tried_in which w i l)) q e
 
 -- the loop over the nurses
 module _ {which : Search} {w : List ℕ} {tried : ℕ → List ℕ} {P : Phase} (s : SeeksBy which w tried P) (r : Stored) where
-  pub best_start : Nothing ≡ best_over P (view_of P r) 0
+  pub best_start : None ≡ best_over P (view_of P r) 0
   best_start = nurses_none (may_take (view_of P r)) (cost_in P (view_of P r)) P.patterns
 
   pub best_turn : (i : ℕ) {b b' : Best} → b ≡ best_over P (view_of P r) i → b' ≡ over_list (may_take (view_of P r) i) (cost_in P (view_of P r) i) i b (P.patterns i) → b' ≡ best_over P (view_of P r) (i + 1)
@@ -226,15 +176,14 @@ module _ {which : Search} {w : List ℕ} {tried : ℕ → List ℕ} {P : Phase} 
       → ((slots : ℕ → Slot) → Agree w r slots → pen ≡ cost_of which w slots) → Turn P past_zero k r r 0 pen
   turn_start a r z e past_zero k f = record { running = running_start P past_zero k r z e; fits = seeks_fits a; cost = seeks_cost r f }
 
-  pub seeks_nurse : (r : Stored) {b : Best} {i p c : ℕ} → b ≡ best_over P (view_of P r) P.nurses → b ≡ Exchange i p c → i < nurses w
-  seeks_nurse r {b} {i} e q = let l : i < P.nurses = takes_nurse P r s.ascending e q in omega (arith, s.nurses_are)
+  pub seeks_nurse : (r : Stored) {b : Best} {y : Exchange} → b ≡ best_over P (view_of P r) P.nurses → b ≡ Some y → y.nurse < nurses w
+  seeks_nurse r {y = y} e q = let l : y.nurse < P.nurses = takes_nurse P r s.ascending e q in omega (arith, s.nurses_are)
 
-  pub seeks_none : (r : Stored) {b : Best} {pen : ℕ} → b ≡ best_over P (view_of P r) P.nurses → b ≡ Nothing → pen ≡ P.cost (view_of P r).slots
-      → record { moved = false; after = r; penalty = pen } ≡ stepped_of P r
-  seeks_none r e q c = takes_none P r s.ascending e q c
+  pub seeks_none : (r : Stored) {b : Best} → b ≡ best_over P (view_of P r) P.nurses → b ≡ None → None ≡ stepped_of P r
+  seeks_none r e q = takes_none P r s.ascending e q
 
   -- the penalty by the columns before an exchange is that of the record after it
-  module _ {night day : List ℕ} {r : Stored} (i p : ℕ) {u : ℕ} (shown : ColumnsOf which w r night day) (l : i < nurses w)
+  module _ {cols : Columns} {r : Stored} (i p : ℕ) {u : ℕ} (shown : ColumnsOf which w r cols) (l : i < nurses w)
       (count : Is u (count_to (nurses w) (λ j. not (get_or r.placed j false))) nurse_places) where
     abbrev slots_now : ℕ → Slot
     slots_now = (view_of P r).slots
@@ -247,35 +196,24 @@ module _ {which : Search} {w : List ℕ} {tried : ℕ → List ℕ} {P : Phase} 
         count.is ∙ unplaced_is w r slots_now refl agrees_now ∙ unplaced_after w slots_now i p l
         ∙ ap (λ (b : Bool). unplaced_in w (exchanged slots_now i p) + one_if b) (ap is_none (agree_at w r slots_now i agrees_now l) ∙ none_flag (get_or r.placed i false) (get_or r.patterns i 0))
 
-    pub exchange_cost : {pen : ℕ} → ((slots : ℕ → Slot) → Shows which w slots (columns_of night day) → u ≡ unplaced_in w (exchanged slots i p) + one_if (not (get_or r.placed i false))
+    pub exchange_cost : {pen : ℕ} → ((slots : ℕ → Slot) → Shows which w slots cols → u ≡ unplaced_in w (exchanged slots i p) + one_if (not (get_or r.placed i false))
         → pen ≡ total (parts_in which w (exchanged slots i p))) → pen ≡ cost_after P (view_of P r) (record { nurse = i; pattern = p })
     exchange_cost g =
         g slots_now (shown.shows slots_now agrees_now) unplaced_now ∙ cost_total which w (exchanged slots_now i p) ∙ sym (s.cost_is (exchanged slots_now i p))
 
-  pub seeks_some : (r : Stored) {b : Best} {i p c : ℕ} {x : Stepped} → b ≡ best_over P (view_of P r) P.nurses → b ≡ Exchange i p c → x.moved ≡ true
-      → x.after ≡ exchanged_in (tabu w) r i p → x.penalty ≡ cost_after P (view_of P r) (record { nurse = i; pattern = p }) → x ≡ stepped_of P r
-  seeks_some r {i = i} {p = p} {x = x} e q m y f =
-      ap (λ (b : Bool). record { moved = b; after = x.after; penalty = x.penalty }) m
-      ∙ takes_some P r s.ascending e q (y ∙ ap (λ (k : ℕ). exchanged_in k r i p) (sym s.tabu_is)) f
+  pub seeks_some : (r : Stored) {b : Best} {y : Exchange} {x : Stepped} → b ≡ best_over P (view_of P r) P.nurses → b ≡ Some y → x.after ≡ exchanged_in (tabu w) r y.nurse y.pattern
+      → x.penalty ≡ cost_after P (view_of P r) (record { nurse = y.nurse; pattern = y.pattern }) → Some x ≡ stepped_of P r
+  seeks_some r {y = y} e q z f = takes_some P r s.ascending e q (z ∙ ap (λ (k : ℕ). exchanged_in k r y.nurse y.pattern) (sym s.tabu_is)) f
 
 -- ---- what a step asks, and its choice
 
-pub step_needs : {which : Search} {w lists own : List ℕ} {plan : Own} {night day : List ℕ} {r : Stored} {P : Phase} → Accepted w → Tries which w lists own plan → ColumnsOf which w r night day
-    → SeeksBy which w (tried_at which w lists own plan) P → r.steps < 1000000 → (length night ≡ 31) × (length day ≡ 31) → StepNeeds which w lists own plan night day r
-step_needs {P = P} a t c s k l = record { ward = a; tries = t; shown = c; phase = P; sought = s; steps_few = k; columns_long = l }
-
-module _ {which : Search} {w lists own : List ℕ} {plan : Own} {night day : List ℕ} {r : Stored} (n : StepNeeds which w lists own plan night day r) where
-  pub count_as : {m u : ℕ} → m ≡ nurses w → Is u (count_to m (λ j. not (get_or r.placed j false))) nurse_places → Is u (count_to (nurses w) (λ j. not (get_or r.placed j false))) nurse_places
+module _ {o : Offers} {cols : Columns} {r : Stored} (n : StepNeeds o cols r) where
+  pub count_as : {m u : ℕ} → m ≡ nurses o.ward.now → Is u (count_to m (λ j. not (get_or r.placed j false))) nurse_places
+      → Is u (count_to (nurses o.ward.now) (λ j. not (get_or r.placed j false))) nurse_places
   count_as {u = u} e q = subst (λ (k : ℕ). Is u (count_to k (λ j. not (get_or r.placed j false))) nurse_places) e q
 
-  pub best_needs : {m u : ℕ} → m ≡ nurses w → Is u (count_to m (λ j. not (get_or r.placed j false))) nurse_places → BestNeeds which w lists own plan night day u r
-  best_needs e q = record { ward = n.ward; tries = n.tries; shown = n.shown; counted = count_as e q }
-
-  pub exchange_needs : {i u b : ℕ} → i < nurses w → Is u b nurse_places → ExchangeNeeds w night day i u r
-  exchange_needs l q = record { ward = n.ward; nurse = l; unplaced_most = q.most; steps_few = n.steps_few; columns_long = n.columns_long }
-
   -- the nurse of the exchange that was chosen
-  pub chosen_nurse : {b : Best} {i p c : ℕ} → ((P : Phase) → SeeksBy which w (tried_at which w lists own plan) P → b ≡ best_over P (view_of P r) P.nurses) → b ≡ Exchange i p c → i < nurses w
+  pub chosen_nurse : {b : Best} {y : Exchange} → ((P : Phase) → SeeksIn o P → b ≡ best_over P (view_of P r) P.nurses) → b ≡ Some y → y.nurse < nurses o.ward.now
   chosen_nurse f q = seeks_nurse n.sought r (f n.phase n.sought) q
 
 -- ---- the columns after a step
@@ -292,19 +230,19 @@ slot_after tl r i p j z l = go (eqb j i) refl
         rw (get_or-set_other r.placed i j true false (eqb-false j i e), get_or-set_other r.patterns i j p 0 (eqb-false j i e)) refl
 
 -- the trial's penalty, by the unplaced besides her
-pub trial_total : (which : Search) (w night day : List ℕ) (i p nights free : ℕ) (placed : Bool) {u o pen : ℕ} {y : Penalty} → ((a : ℕ) → u ≡ a + one_if (not placed) → o ≡ a)
+pub trial_total : (which : Search) (w : List ℕ) (cols : Columns) (i p nights free : ℕ) (placed : Bool) {u o pen : ℕ} {y : Penalty} → ((a : ℕ) → u ≡ a + one_if (not placed) → o ≡ a)
     → CountsIn which w i p nights free
-    → ((slots : ℕ → Slot) (q : ℕ) → Shows which w slots (columns_of night day) → CountsIn which w i q nights free → o ≡ unplaced_in w (exchanged slots i q)
+    → ((slots : ℕ → Slot) (q : ℕ) → Shows which w slots cols → CountsIn which w i q nights free → o ≡ unplaced_in w (exchanged slots i q)
     → parts_of y ≡ parts_in which w (exchanged slots i q)) → pen ≡ total (parts_of y)
-    → (slots : ℕ → Slot) → Shows which w slots (columns_of night day) → u ≡ unplaced_in w (exchanged slots i p) + one_if (not placed) → pen ≡ total (parts_in which w (exchanged slots i p))
-trial_total which w night day i p nights free placed f c g e slots s q = e ∙ ap total (g slots p s c (f _ q))
+    → (slots : ℕ → Slot) → Shows which w slots cols → u ≡ unplaced_in w (exchanged slots i p) + one_if (not placed) → pen ≡ total (parts_in which w (exchanged slots i p))
+trial_total which w cols i p nights free placed f c g e slots s q = e ∙ ap total (g slots p s c (f _ q))
 
 -- nurse i is in the columns as the sets of her new pattern say
-pub columns_after : (which : Search) (w : List ℕ) {night day night' day' : List ℕ} {r r' : Stored} (i p nights free tl : ℕ) {n : ℕ} → r' ≡ exchanged_in tl r i p → Sized r → i < nurses w → nurses w ≤ nurse_places → n ≡ days w
-    → ColumnsOf which w r night day → CountsIn which w i p nights free → ((d : ℕ) → d < n → PutAt night night' i nights d) → ((d : ℕ) → d < n → PutAt day day' i free d)
-    → ColumnsOf which w r' night' day'
+pub columns_after : (which : Search) (w : List ℕ) {cols cols' : Columns} {r r' : Stored} (i p nights free tl : ℕ) {n : ℕ} → r' ≡ exchanged_in tl r i p → Sized r → i < nurses w → nurses w ≤ nurse_places → n ≡ days w
+    → ColumnsOf which w r cols → CountsIn which w i p nights free → ((d : ℕ) → d < n → PutAt cols.night cols'.night i nights d) → ((d : ℕ) → d < n → PutAt cols.day cols'.day i free d)
+    → ColumnsOf which w r' cols'
 unfolding Agree
-columns_after which w {night} {day} {night'} {day'} {r} {r'} i p nights free tl {n} after z l most e shown c a b =
+columns_after which w {cols} {cols'} {r} {r'} i p nights free tl {n} after z l most e shown c a b =
     record { shows = λ slots same. go slots (λ j h. same j h ∙ ap (λ (x : Stored). slot_at x j) after) which shown c }
   where
     was : ℕ → Slot
@@ -313,24 +251,24 @@ columns_after which w {night} {day} {night'} {day'} {r} {r'} i p nights free tl 
     now_is : (slots : ℕ → Slot) → ((j : ℕ) → j < nurses w → slots j ≡ slot_at (exchanged_in tl r i p) j) → (j : ℕ) → j < nurses w → slots j ≡ exchanged was i p j
     now_is slots same j h = same j h ∙ slot_after tl r i p j z (omega arith)
 
-    go : (slots : ℕ → Slot) → ((j : ℕ) → j < nurses w → slots j ≡ slot_at (exchanged_in tl r i p) j) → (d : Search) → ColumnsOf d w r night day → CountsIn d w i p nights free
-        → Shows d w slots (columns_of night' day')
+    go : (slots : ℕ → Slot) → ((j : ℕ) → j < nurses w → slots j ≡ slot_at (exchanged_in tl r i p) j) → (d : Search) → ColumnsOf d w r cols → CountsIn d w i p nights free
+        → Shows d w slots cols'
     go slots same Nights s g = record {
       night_shown = λ d h.
           let y = night_after w was i p l d _ ((s.shows was (λ j k. refl)).night_shown d h) in
-          let put_is = a d (omega arith) ∙ ap (λ (x : ℕ). put (has (get_or night d 0)) i (has x d)) g.starts_are in
+          let put_is = a d (omega arith) ∙ ap (λ (x : ℕ). put (has (get_or cols.night d 0)) i (has x d)) g.starts_are in
           subst (λ (f : ℕ → Bool). Same (nurses w) f (at_night w slots d)) (sym put_is)
           (same_as (nurses w) _ (at_night w (exchanged was i p) d) y (at_night w slots d) (λ j k. ap (λ (t : Slot). has (days_of (starts_in w j t)) d) (sym (now_is slots same j k))));
       available_shown = λ d h.
           let y = available_after w was i p l d _ ((s.shows was (λ j k. refl)).available_shown d h) in
-          let put_is = b d (omega arith) ∙ ap (put (has (get_or day d 0)) i) (g.free_are d h) in
+          let put_is = b d (omega arith) ∙ ap (put (has (get_or cols.day d 0)) i) (g.free_are d h) in
           subst (λ (f : ℕ → Bool). Same (nurses w) f (available_in w slots d)) (sym put_is)
           (same_as (nurses w) _ (available_in w (exchanged was i p) d) y (available_in w slots d) (λ j k. ap (λ (t : Slot). available_in w (λ x. t) d j) (sym (now_is slots same j k))));
     }
     go slots same Days s g = record {
       day_shown = λ d h.
           let y = day_after w was i p l d _ ((s.shows was (λ j k. refl)).day_shown d h) in
-          let put_is = b d (omega arith) ∙ ap (λ (x : ℕ). put (has (get_or day d 0)) i (has x d)) g in
+          let put_is = b d (omega arith) ∙ ap (λ (x : ℕ). put (has (get_or cols.day d 0)) i (has x d)) g in
           subst (λ (f : ℕ → Bool). Same (nurses w) f (at_day w slots d)) (sym put_is)
           (same_as (nurses w) _ (at_day w (exchanged was i p) d) y (at_day w slots d) (λ j k. ap (λ (t : Slot). at_day w (λ x. t) d j) (sym (now_is slots same j k))));
     }

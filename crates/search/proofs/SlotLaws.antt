@@ -1,24 +1,23 @@
 -- Laws of a record's slots: the sets in which nurses count, the columns that they make, and the penalty.
-use Prim.Native.Nat.{ℕ, suc, ◌+◌, ◌-◌, ◌^◌, ◌≤◌, ◌<◌}
+use Prim.Native.Nat.{ℕ, zero, suc, ◌+◌, ◌-◌, ◌^◌, ◌≤◌, ◌<◌}
 use mathlib.Core.Path.{◌≡◌, refl, sym, ap, ap₂, ◌∙◌, subst}
 use mathlib.Core.Bool.{Bool, true, false, not, ◌&&◌}
 use mathlib.Core.List.{List}
+use Rattle.std.specs.List.{sum_by}
+use Rattle.std.proofs.lemmas.List.Sums.{sum_by_more}
+use native.Mathlib.Numerals.{add-one}
 use native.Mathlib.Omega.{arith}
-use native.Mathlib.Nat.{add-zero}
 use lib.Bits.{bit_and}
 use lib.Dec.{eqb}
-use lib.Pow.{pow_mono}
-use lib.ListN.{get_or}
+use lib.ListN.{length, get_or, take}
 use Rattle.fields.specs.Sizes.{nurse_places, day_places}
-use Rattle.numbers.specs.Sum.{count_to, one_if, Is}
+use Rattle.numbers.specs.Sum.{sum_to, count_to, one_if, Is}
 use Rattle.numbers.specs.Digits.{has, number_of}
 use Rattle.numbers.specs.Patterns.{pattern, unpaired, days_of, pair_of}
 use Rattle.numbers.proofs.SumLaws.{sum_ext}
-use Rattle.numbers.proofs.DigitLaws.{number_lt, number_suc}
 use Rattle.numbers.proofs.SetLaws.{has_and, has_not}
-use Rattle.fields.specs.Fields.{Accepted, Block, nurses, days, block, mark_on}
+use Rattle.fields.specs.Fields.{Accepted, nurses, days, block, mark_on}
 use Rattle.fields.specs.Rules.{rules_of}
-use Rattle.fields.proofs.RuleLaws.{block_as}
 use Rattle.rows.specs.Pairs.{in_pair, free_on}
 use Rattle.nursemasks.specs.declared.masks.Masks.{Masks}
 use Rattle.nursemasks.specs.CodeMasks.{masks_of, AvailableDays}
@@ -36,30 +35,19 @@ use Rattle.search.specs.Stored.{slot_at}
 use Rattle.search.specs.CodeSeek.{cost_of, pattern_for, Agree}
 use Rattle.search.specs.declared.Record.{Record as Stored}
 
--- ---- a set of days, one day more
+-- ---- a count over the first places of a list
 
-module _ (t : ℕ → Bool) (d : ℕ) {s : ℕ} (e : s ≡ number_of t d) where
-  pub set_yes : {x : ℕ} → x ≡ 2 ^ d → t d ≡ true → s + x ≡ number_of t (d + 1)
-  set_yes q b = ap₂ (λ (y z : ℕ). y + z) e q ∙ sym (number_suc t d ∙ rw b)
-
-  pub set_no : t d ≡ false → s ≡ number_of t (d + 1)
-  set_no b = e ∙ sym (number_suc t d ∙ rw b (add-zero _))
-
-  pub set_fits : {x : ℕ} → x ≡ 2 ^ d → d < day_places → s + x < 2 ^ 32
-  set_fits {x} q l =
-      let a : number_of t d < 2 ^ d = number_lt t d in
-      let k : d ≤ day_places = omega arith in
-      let b : 2 ^ d ≤ 2 ^ 31 = pow_mono k in
-      omega arith
+pub sum_taken : {X : Type 0} (f : X → ℕ) (xs : List X) (d : X) (n : ℕ) → n ≤ length xs → sum_by f (take n xs) ≡ sum_to n (λ i. f (get_or xs i d))
+unfolding sum_to
+sum_taken f xs d zero l = refl
+sum_taken f xs d (suc n) l =
+    ap (λ (k : ℕ). sum_by f (take k xs)) (sym (add-one n)) ∙ sum_by_more f xs n d l ∙ ap (λ (a : ℕ). a + f (get_or xs n d)) (sum_taken f xs d n (omega arith))
 
 pub agree_at : (w : List ℕ) (r : Stored) (slots : ℕ → Slot) (i : ℕ) → Agree w r slots → i < nurses w → slots i ≡ slot_at r i
 unfolding Agree
 agree_at w r slots i a l = a i l
 
 -- ---- a slot's pattern
-
-pub block_of : (w : List ℕ) (i : ℕ) {b : List ℕ} {n : ℕ} → Accepted w → i < nurses w → b ≡ block w i → (n ≡ days w) × (n ≤ day_places) → Block b n × (n ≤ day_places)
-block_of w i {b} a l e q = (block_as w i a l e q.0, q.1)
 
 module _ (w : List ℕ) (r : Stored) (i : ℕ) where
   pub pattern_placed : (which : Search) → get_or r.placed i false ≡ true → get_or r.patterns i 0 ≡ pattern_for which w i (slot_at r i)
@@ -91,13 +79,6 @@ pub free_under : (w : List ℕ) (i c : ℕ) {m : Masks} {s k free off : ℕ} →
 free_under w i c {free = free} ok em es ek av small each =
     free_of w i c ok.days_most (subst (λ (x : ℕ). AvailableDays (block w i) (days w) x free) es (av (days w) (block w i) ok.days_most em)) small
     (λ d. each d ∙ ap (λ (x : ℕ). in_pair w x (suc d)) ek)
-
-pub sets_night : (w : List ℕ) (i p nights free : ℕ) {which : Search} → which ≡ Nights → nights ≡ days_of p → FreeUnder w i p free → CountsIn which w i p nights free
-sets_night w i p nights free d e f =
-    subst (λ (b : Search). CountsIn b w i p nights free) (sym d) (record { starts_are = e; free_are = f })
-
-pub sets_day : (w : List ℕ) (i p nights worked : ℕ) {which : Search} → which ≡ Days → worked ≡ days_of p → CountsIn which w i p nights worked
-sets_day w i p nights worked d e = subst (λ (b : Search). CountsIn b w i p nights worked) (sym d) e
 
 -- ---- columns
 

@@ -47,14 +47,6 @@ may_by m tl r i p {k} {given} l sized q few g =
     ∙ sym (not_or used given-up)
     ∙ ap (λ (b : Bool). not (used || b)) (sym named)
 
--- ---- what a step takes away
-
-pub removal_placed : (r : Stored) (i : ℕ) → get_or r.placed i false ≡ true → record { nurse = i + 1; has = true; pattern = get_or r.patterns i 0 } ≡ removal_by r i
-removal_placed r i e = rw (e, add-one i)
-
-pub removal_unplaced : (r : Stored) (i : ℕ) → get_or r.placed i false ≡ false → record { nurse = i + 1; has = false; pattern = 0 } ≡ removal_by r i
-removal_unplaced r i e = rw (e, add-one i)
-
 -- ---- a step's change of the record
 
 pub exchanged_is : (tl : ℕ) (r : Stored) (i p : ℕ) {x : StoredRemoval} {ys : List StoredRemoval} → x ≡ removal_by r i → ys ≡ pushed tl r.steps x r.removals

@@ -1,5 +1,5 @@
 -- What the code makes of a stored record in a step. proofs/StoredLaws shows that it is the meaning.
-use Rattle.std.specs.Prelude.{ℕ, suc, ◌+◌, true, false, set}
+use Rattle.std.specs.Prelude.{ℕ, suc, ◌+◌, true, set, Option, Some, None}
 use Rattle.std.proofs.Math.Option.{none, some}
 use Rattle.history.specs.Phase.{Phase}
 use Rattle.history.specs.Record.{best, cost_after}
@@ -27,9 +27,9 @@ exchanged_in tl r i p =
     }
 
 -- a step, if there is an exchange, and the penalty of the record after it
-unfoldable pub stepped_of : Phase → Stored → Stepped
+unfoldable pub stepped_of : Phase → Stored → Option Stepped
 stepped_of P r =
     elim (best P (view_of P r)) [
-      | none ↦ record { moved = false; after = r; penalty = P.cost (view_of P r).slots }
-      | some s ↦ record { moved = true; after = exchanged_in P.tabu r s.nurse s.pattern; penalty = cost_after P (view_of P r) s }
+      | none ↦ None
+      | some s ↦ Some (record { after = exchanged_in P.tabu r s.nurse s.pattern; penalty = cost_after P (view_of P r) s })
     ]

@@ -1,38 +1,56 @@
 // The exchange that a step takes, over everyone's lists.
-ghost use Rattle.std.specs.Prelude.{◌≡◌, Bool, not, ℕ, ◌+◌, ◌*◌, ◌≤◌};
+ghost use Rattle.std.specs.Prelude.{◌≡◌, Bool, false, not, ℕ, ◌+◌, ◌*◌, ◌≤◌, ◌<◌, get_or};
 ghost use Rattle.fields.specs.Sizes.{nurse_places};
 ghost use Rattle.numbers.specs.Sum.{one_if};
 ghost use Rattle.fields.specs.Fields.{days};
 ghost use Rattle.tables.specs.CodeTables.{Blank};
+ghost use Rattle.margins.specs.CodeMargins.{SearchMargins};
 ghost use Rattle.history.specs.Slot.{Slot, exchanged};
 ghost use Rattle.history.specs.Phase.{Phase};
 ghost use Rattle.penalty.specs.Penalty.{rest, parts_in};
 ghost use Rattle.penalty.specs.CodeColumns.{Shows, columns_of};
 ghost use Rattle.best.specs.CodeBest.{over_list, best_over};
 ghost use Rattle.search.specs.Stored.{view_of};
-ghost use Rattle.search.specs.CodeSeek.{tried_at, SeeksBy};
-ghost use Rattle.search.specs.CodeChoice.{MayBy, OneNeeds, BestNeeds, Room, DayPlan, list_of};
+ghost use Rattle.search.specs.CodeSeek.{list_at};
+ghost use Rattle.search.specs.CodeChoice.{MayBy, Stretched, OneNeeds, BestNeeds, tried_in_offers, SeeksIn, Room, DayPlan};
 
 use crate::Record;
-use best::Best;
-use fields::sizes::{DAYS, ENDS, NURSES, REMOVALS};
+use best::Exchange;
+use fields::sizes::{ENDS, NURSES};
 use history::Search;
 use margins::MARGINS;
 use ownlists::Own;
-use removals::BARS;
+use penalty::columns::Columns;
+use removals::{BARS, Given};
 use tables::TABLE;
+use tries::nurse::{Counts, Tried};
+
+// What a search offers: the lists of a ward, and by a plan everyone's own of them.
+#[derive(Clone, Copy)]
+pub(crate) struct Offers<'a> {
+    pub(crate) ward: &'a [u64],
+    pub(crate) search: Search,
+    pub(crate) lists: &'a [u32],
+    pub(crate) own: &'a [u32],
+    pub(crate) plan: &'a Own,
+}
+
+// What a step writes into, lent from step to step: the margins by night and by day, and a nurse's table.
+#[derive(Drop)]
+pub(crate) struct Work {
+    pub(crate) nightly: [u32; MARGINS],
+    pub(crate) daily: [u32; MARGINS],
+    pub(crate) table: [u32; TABLE],
+}
 
 // By day each nurse's stretch, by where the lists end.
-pub(crate) fn day_plan(ends: [usize; ENDS], m: usize) -> Own
-    requires { m ≤ nurse_places }
-    ensures { DayPlan ends m result }
+pub(crate) fn day_plan(ends: [usize; ENDS]) -> Own
+    ensures { DayPlan ends result }
 {
     let mut begins = [0usize; NURSES];
     let mut finishes = [0usize; NURSES];
-    for i in 0..m {
-        begins[i] = ends[i];
-        finishes[i] = ends[i + 1];
-    }
+    begins.copy_from_slice(&ends[..NURSES]);
+    finishes.copy_from_slice(&ends[1..ENDS]);
     Own {
         begins,
         ends: finishes,
@@ -48,155 +66,112 @@ pub(crate) fn others_than(placed: bool, unplaced: u64) -> u64
     ensures is { (a : ℕ) → unplaced ≡ a + one_if (not placed) → result ≡ a }
     ensures most { result ≤ unplaced }
 {
-    if placed {
-        return unplaced;
-    }
-    if 0 < unplaced {
-        return unplaced - 1;
-    }
-    0
+    unplaced.saturating_sub(u64::from(!placed))
 }
 
-// What a step reads of one nurse: her stretch, whether it holds her list, whether all of the common list is hers, the days that she may work where they
-// are open, the starts before the month, whether she is placed, and the pattern in use by her.
-#[derive(Clone, Copy)]
-pub(crate) struct Nurse {
-    begin: usize,
-    end: usize,
-    kept: bool,
-    whole: bool,
-    workable: u32,
-    before: u64,
-    placed: bool,
-    current: u64,
-}
-
-// The best of what is held and of what nurse i tries.
-fn over_one(
-    w: &[u64],
-    lists: &[u32],
-    own: &[u32],
-    x: Nurse,
-    night: &[u64; DAYS],
-    day: &[u64; DAYS],
-    nightly: &[u32; MARGINS],
-    daily: &[u32; MARGINS],
-    t: &mut [u32; TABLE],
-    nurses: &[u32; REMOVALS],
-    patterns: &[u64; REMOVALS],
-    count: usize,
-    unplaced: u64,
-    i: usize,
-    search: Search,
-    held: Best,
-) -> Best
-    requires { OneNeeds search w.now lists.now own.now x night.now day.now nightly.now daily.now count unplaced i × Blank t.old (days w.now) }
-    ensures tried { (slots : ℕ → Slot) (may : ℕ → Bool) (others : ℕ) → Shows search w.now slots (columns_of night.now day.now) →
-        MayBy may nurses.now patterns.now count i x → unplaced ≡ others + one_if (not x.placed) →
-        result ≡ over_list may (λ p. rest (parts_in search w.now (exchanged slots i p)) + 10000000 * others) i held (list_of search w.now lists.now own.now x i) }
-    ensures blank { Blank t.new (days w.now) }
-{
-    let others = others_than(x.placed, unplaced);
-    let mut bars = [0u64; BARS];
-    let number = i as u32 + 1;
-    let barred = removals::bars_of(
-        nurses, patterns, count, number, x.placed, x.current, &mut bars,
-    );
-    let workable = x.workable;
-    let before = x.before;
-    if x.kept {
-        let a = x.begin;
-        let e = x.end;
-        return tries::nurse::over_nurse(
-            w,
-            &own[a..e],
-            true,
-            night,
-            day,
-            nightly,
-            daily,
-            t,
-            workable,
-            before,
-            others,
-            &bars[..barred],
-            i,
-            search,
-            held,
-        );
+impl Offers<'_> {
+    // Nurse i's list: her own stretch where it is kept, else the lists.
+    fn list(&self, i: usize) -> &[u32]
+        requires { Stretched self.now.own.now self.now.plan.now i × (i < nurse_places) }
+        ensures { result.now ≡ list_at self.now.lists.now self.now.own.now self.now.plan.now i }
+    {
+        if self.plan.kept[i] {
+            return &self.own[self.plan.begins[i]..self.plan.ends[i]];
+        }
+        self.lists
     }
-    tries::nurse::over_nurse(
-        w,
-        lists,
-        x.whole,
-        night,
-        day,
-        nightly,
-        daily,
-        t,
-        workable,
-        before,
-        others,
-        &bars[..barred],
-        i,
-        search,
-        held,
-    )
-}
 
-// The exchange that a step takes. The margins are made once from the counts in force; each nurse's table is made from them.
-pub(crate) fn best_of(
-    w: &[u64],
-    lists: &[u32],
-    own: &[u32],
-    plan: Own,
-    night: &[u64; DAYS],
-    day: &[u64; DAYS],
-    nightly: &mut [u32; MARGINS],
-    daily: &mut [u32; MARGINS],
-    t: &mut [u32; TABLE],
-    unplaced: u64,
-    rec: Record,
-    search: Search,
-) -> Best
-    requires needs { BestNeeds search w.now lists.now own.now plan night.now day.now unplaced rec }
-    requires room { Room w.now nightly.old daily.old t.old }
-    ensures best { (P : Phase) → SeeksBy search w.now (tried_at search w.now lists.now own.now plan) P → result ≡ best_over P (view_of P rec) P.nurses }
-    ensures room { Room w.now nightly.new daily.new t.new }
-{
-    let m = fields::nurses(w);
-    let count = removals::lesser(rec.steps as usize, fields::tabu(w));
-    let list = rec.removals;
-    let given = removals::given_of(list, count);
-    let nurses = given.nurses;
-    let patterns = given.patterns;
-    margins::margins(w, night, day, search, nightly, daily);
-    let mut best = Best::Nothing;
-    let mut i: usize = 0;
-    while i < m {
-        let begin = plan.begins[i];
-        let end = plan.ends[i];
-        let kept = plan.kept[i];
-        let whole = plan.whole[i];
-        let workable = plan.workable[i];
-        let before = plan.before[i];
+    // The best of what is held and of what nurse i tries; `count` removals are in use.
+    fn over_one(
+        &self,
+        counts: &Counts,
+        table: &mut [u32; TABLE],
+        rec: &Record,
+        given: &Given,
+        count: usize,
+        unplaced: u64,
+        i: usize,
+        held: Option<Exchange>,
+    ) -> Option<Exchange>
+        requires { OneNeeds self.now counts.now count unplaced i × Blank table.old (days self.now.ward.now) }
+        ensures tried { (slots : ℕ → Slot) (may : ℕ → Bool) (others : ℕ) → Shows self.now.search self.now.ward.now slots (columns_of counts.now.night.now counts.now.day.now) →
+            MayBy may given.now.nurses given.now.patterns count i rec.now → unplaced ≡ others + one_if (not (get_or rec.now.placed i false)) →
+            result ≡ over_list may (λ p. rest (parts_in self.now.search self.now.ward.now (exchanged slots i p)) + 10000000 * others) i held (tried_in_offers self.now i) }
+        ensures blank { Blank table.new (days self.now.ward.now) }
+    {
         let placed = rec.placed[i];
-        let current = rec.patterns[i];
-        let x = Nurse {
-            begin,
-            end,
-            kept,
-            whole,
-            workable,
-            before,
+        let mut bars = [0u64; BARS];
+        let barred = removals::bars_of(
+            &given.nurses,
+            &given.patterns,
+            count,
+            i as u32 + 1,
             placed,
-            current,
-        };
-        best = over_one(
-            w, lists, own, x, night, day, nightly, daily, t, &nurses, &patterns, count, unplaced,
-            i, search, best,
+            rec.patterns[i],
+            &mut bars,
         );
-        i += 1;
+        let tried = Tried {
+            list: self.list(i),
+            whole: self.plan.kept[i] || self.plan.whole[i],
+            workable: self.plan.workable[i],
+            before: self.plan.before[i],
+            barred: &bars[..barred],
+            others: others_than(placed, unplaced),
+            number: i,
+        };
+        tries::nurse::over_nurse(self.ward, self.search, counts, table, &tried, held)
     }
-    best
+
+    // The best of what everyone tries, nurse by nurse.
+    fn over_everyone(
+        &self,
+        counts: &Counts,
+        table: &mut [u32; TABLE],
+        rec: &Record,
+        unplaced: u64,
+    ) -> Option<Exchange>
+        requires needs { BestNeeds self.now (columns_of counts.now.night.now counts.now.day.now) unplaced rec.now }
+        requires margins { SearchMargins self.now.search self.now.ward.now counts.now.night.now counts.now.day.now counts.now.nightly.now counts.now.daily.now }
+        requires blank { Blank table.old (days self.now.ward.now) }
+        ensures best { (P : Phase) → SeeksIn self.now P → result ≡ best_over P (view_of P rec.now) P.nurses }
+        ensures blank { Blank table.new (days self.now.ward.now) }
+    {
+        let count = (rec.steps as usize).min(fields::tabu(self.ward));
+        let given = removals::given_of(rec.removals, count);
+        let mut best = None;
+        for i in 0..fields::nurses(self.ward) {
+            best = self.over_one(counts, table, rec, &given, count, unplaced, i, best);
+        }
+        best
+    }
+
+    // The exchange that a step takes. The margins are made once from the columns in force; each nurse's table is made from them.
+    pub(crate) fn best_of(
+        &self,
+        cols: &Columns,
+        work: &mut Work,
+        rec: &Record,
+        unplaced: u64,
+    ) -> Option<Exchange>
+        requires needs { BestNeeds self.now cols.now unplaced rec.now }
+        requires room { Room self.now.ward.now work.old }
+        ensures best { (P : Phase) → SeeksIn self.now P → result ≡ best_over P (view_of P rec.now) P.nurses }
+        ensures room { Room self.now.ward.now work.new }
+    {
+        margins::margins(
+            self.ward,
+            &cols.night,
+            &cols.day,
+            self.search,
+            &mut work.nightly,
+            &mut work.daily,
+        );
+        let counts = Counts {
+            night: &cols.night,
+            day: &cols.day,
+            nightly: &work.nightly,
+            daily: &work.daily,
+        };
+        self.over_everyone(&counts, &mut work.table, rec, unplaced)
+    }
 }

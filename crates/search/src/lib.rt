@@ -4,7 +4,7 @@
 mod choice;
 pub mod slots;
 
-ghost use Rattle.std.specs.Prelude.{◌≡◌, true, false, not, ◌&&◌, [], ℕ, List, ◌+◌, ◌*◌, ◌<◌, ◌≤◌, leb, length, get_or};
+ghost use Rattle.std.specs.Prelude.{◌≡◌, true, false, not, ◌&&◌, [], ℕ, List, ◌+◌, ◌*◌, ◌<◌, ◌≤◌, leb, get_or, IfSome};
 ghost use Rattle.fields.specs.Sizes.{nurse_places, tabu_most};
 ghost use Rattle.numbers.specs.Sum.{one_if};
 ghost use Rattle.fields.specs.Fields.{Accepted, tabu};
@@ -13,18 +13,18 @@ ghost use Rattle.history.specs.declared.Search.TheVariants.{Nights};
 ghost use Rattle.history.specs.Slot.{Slot, exchanged};
 ghost use Rattle.history.specs.Phase.{Phase, stops};
 ghost use Rattle.penalty.specs.Penalty.{total, unplaced_in, parts_in};
-ghost use Rattle.penalty.specs.CodeColumns.{Shows, columns_of};
-ghost use Rattle.search.specs.CodeSeek.{Lists, Seeks, SeeksBy, tried_by, tried_at, ServedSound, SoughtSound, answer_of};
+ghost use Rattle.penalty.specs.CodeColumns.{Shows};
+ghost use Rattle.search.specs.CodeSeek.{Lists, Seeks, SeeksBy, tried_by, ServedSound, SoughtSound, answer_of};
 ghost use Rattle.search.specs.Stored.{view_of, all_zero, unused_zero, Sized, sound_stored, reply_stored};
 ghost use Rattle.search.specs.CodeSteps.{removal_by, exchanged_in, stepped_of};
-ghost use Rattle.search.specs.CodeChoice.{ColumnsOf, Tries, Room, ExchangeNeeds, StepNeeds};
+ghost use Rattle.search.specs.CodeChoice.{ColumnsOf, Long, Room, TriesIn, SeeksIn, SoundIn, ExchangeNeeds, StepNeeds};
 
-use best::Best;
-use fields::sizes::{DAYS, ENDS, NURSES, REMOVALS};
+use choice::{Offers, Work};
+use fields::sizes::{ENDS, NURSES, REMOVALS};
 use history::Search;
 use margins::MARGINS;
-use ownlists::Own;
 use penalty::columns;
+use penalty::columns::Columns;
 use removals::Removal;
 use tables::TABLE;
 
@@ -45,10 +45,9 @@ pub struct Stretches {
     pub ends: [usize; ENDS],
 }
 
-// Whether there was an exchange to make, the record after it, and its penalty.
+// The record after an exchange, and its penalty.
 #[derive(Clone, Copy)]
 pub struct Stepped {
-    pub moved: bool,
     pub after: Record,
     pub penalty: u64,
 }
@@ -91,19 +90,11 @@ impl Record {
         requires { nurse < nurse_places }
         ensures { result ≡ removal_by self nurse }
     {
-        let number = nurse as u32 + 1;
-        if self.placed[nurse] {
-            let pattern = self.patterns[nurse];
-            return Removal {
-                nurse: number,
-                has: true,
-                pattern,
-            };
-        }
+        let placed = self.placed[nurse];
         Removal {
-            nurse: number,
-            has: false,
-            pattern: 0,
+            nurse: nurse as u32 + 1,
+            has: placed,
+            pattern: if placed { self.patterns[nurse] } else { 0 },
         }
     }
 
@@ -113,13 +104,12 @@ impl Record {
         ensures { result ≡ exchanged_in tl self nurse pattern }
     {
         let removal = self.removal_by(nurse);
-        let old = self.removals;
-        let pushed = removals::push(old, tl, self.steps as usize, removal);
+        let pushed = removals::push(self.removals, tl, self.steps as usize, removal);
         let mut after = self;
         after.patterns[nurse] = pattern;
         after.placed[nurse] = true;
         after.removals = pushed;
-        after.steps = after.steps + 1;
+        after.steps += 1;
         after
     }
 
@@ -128,12 +118,9 @@ impl Record {
         ensures zero { result ≡ unused_zero m tl self }
         ensures sized { Sized self }
     {
-        let held = removals::lesser(self.steps as usize, tl);
-        let placed = self.placed;
-        let patterns = self.patterns;
-        let list = self.removals;
-        removals::unused::slots_zero(placed, patterns, m)
-            && removals::unused::removals_zero(list, held)
+        let held = (self.steps as usize).min(tl);
+        removals::unused::slots_zero(self.placed, self.patterns, m)
+            && removals::unused::removals_zero(self.removals, held)
     }
 }
 
@@ -142,20 +129,14 @@ fn fits_small(m: usize, n: usize) -> bool
     requires { m ≤ nurse_places }
     ensures { result ≡ (leb n 1024 && leb (m * n) 2048) }
 {
-    if 1024 < n {
-        return false;
-    }
-    m * n <= 2048
+    n <= 1024 && m * n <= 2048
 }
 
-// Penalty 0 ends an advance, unless it is to go on past zero.
+// Whether penalty 0 ends an advance here, unless it is to go on past zero.
 fn stops(past: bool, penalty: u64) -> bool
     ensures { result ≡ stops past penalty }
 {
-    if past {
-        return false;
-    }
-    penalty == 0
+    !past && penalty == 0
 }
 
 impl Record {
@@ -163,145 +144,90 @@ impl Record {
     // nurses are unplaced before it.
     fn exchange(
         self,
-        w: &[u64],
-        night: &mut [u64; DAYS],
-        day: &mut [u64; DAYS],
+        offers: &Offers,
+        cols: &mut Columns,
         nurse: usize,
         pattern: u64,
         unplaced: u64,
-        search: Search,
     ) -> Stepped
-        requires { ExchangeNeeds w.now night.old day.old nurse unplaced self }
-        ensures made { (result.moved ≡ true) × (result.after ≡ exchanged_in (tabu w.now) self nurse pattern) }
-        ensures costs { (slots : ℕ → Slot) → Shows search w.now slots (columns_of night.old day.old) →
-            unplaced ≡ unplaced_in w.now (exchanged slots nurse pattern) + one_if (not (get_or self.placed nurse false)) →
-            result.penalty ≡ total (parts_in search w.now (exchanged slots nurse pattern)) }
-        ensures shows { ColumnsOf search w.now self night.old day.old → ColumnsOf search w.now result.after night.new day.new }
-        ensures long { (length night.new ≡ 31) × (length day.new ≡ 31) }
+        requires { ExchangeNeeds offers.now.ward.now cols.old nurse unplaced self }
+        ensures made { result.after ≡ exchanged_in (tabu offers.now.ward.now) self nurse pattern }
+        ensures costs { (slots : ℕ → Slot) → Shows offers.now.search offers.now.ward.now slots cols.old →
+            unplaced ≡ unplaced_in offers.now.ward.now (exchanged slots nurse pattern) + one_if (not (get_or self.placed nurse false)) →
+            result.penalty ≡ total (parts_in offers.now.search offers.now.ward.now (exchanged slots nurse pattern)) }
+        ensures shows { ColumnsOf offers.now.search offers.now.ward.now self cols.old → ColumnsOf offers.now.search offers.now.ward.now result.after cols.new }
+        ensures long { Long cols.new }
     {
+        let w = offers.ward;
+        let search = offers.search;
         let sets = slots::sets_of(w, nurse, pattern, search);
-        let nights = sets.nights;
-        let available = sets.available;
         let others = choice::others_than(self.placed[nurse], unplaced);
-        let parts = trials::trial(w, night, day, nurse, nights, available, others, search);
+        let parts = trials::trial(
+            w,
+            &cols.night,
+            &cols.day,
+            nurse,
+            sets.nights,
+            sets.available,
+            others,
+            search,
+        );
         let penalty = parts.total();
         let n = fields::days(w);
-        columns::put(night, n, nurse, nights);
-        columns::put(day, n, nurse, available);
+        columns::put(&mut cols.night, n, nurse, sets.nights);
+        columns::put(&mut cols.day, n, nurse, sets.available);
         let after = self.exchanged(fields::tabu(w), nurse, pattern);
-        Stepped {
-            moved: true,
-            after,
-            penalty,
-        }
+        Stepped { after, penalty }
     }
 
-    // One step, if there is an exchange to make: columns and penalty are those of the record, and then those of the record after it.
-    fn step(
-        self,
-        w: &[u64],
-        lists: &[u32],
-        own: &[u32],
-        plan: Own,
-        night: &mut [u64; DAYS],
-        day: &mut [u64; DAYS],
-        nightly: &mut [u32; MARGINS],
-        daily: &mut [u32; MARGINS],
-        t: &mut [u32; TABLE],
-        penalty: u64,
-        search: Search,
-    ) -> Stepped
-        requires needs { StepNeeds search w.now lists.now own.now plan night.old day.old self }
-        requires room { Room w.now nightly.old daily.old t.old }
-        ensures takes { (P : Phase) → SeeksBy search w.now (tried_at search w.now lists.now own.now plan) P → penalty ≡ P.cost (view_of P self).slots → result ≡ stepped_of P self }
-        ensures shows { ColumnsOf search w.now result.after night.new day.new }
-        ensures long { (length night.new ≡ 31) × (length day.new ≡ 31) }
-        ensures room { Room w.now nightly.new daily.new t.new }
+    // One step, if there is an exchange to make: the columns are those of the record, and then those of the record after it.
+    fn step(self, offers: &Offers, cols: &mut Columns, work: &mut Work) -> Option<Stepped>
+        requires needs { StepNeeds offers.now cols.old self }
+        requires room { Room offers.now.ward.now work.old }
+        ensures takes { (P : Phase) → SeeksIn offers.now P → result ≡ stepped_of P self }
+        ensures shows { IfSome result (λ x. ColumnsOf offers.now.search offers.now.ward.now x.after cols.new) }
+        ensures long { Long cols.new }
+        ensures room { Room offers.now.ward.now work.new }
     {
-        let unplaced = slots::unplaced(self, fields::nurses(w));
-        let best = choice::best_of(
-            w, lists, own, plan, night, day, nightly, daily, t, unplaced, self, search,
-        );
-        match best {
-            Best::Nothing => Stepped {
-                moved: false,
-                after: self,
-                penalty,
-            },
-            Best::Exchange {
-                nurse,
-                pattern,
-                cost: _,
-            } => self.exchange(w, night, day, nurse, pattern, unplaced, search),
-        }
+        let unplaced = slots::unplaced(self, fields::nurses(offers.ward));
+        let best = offers.best_of(cols, work, &self, unplaced)?;
+        Some(self.exchange(offers, cols, best.nurse, best.pattern, unplaced))
     }
 
     // Up to k steps, past zero or not; columns and penalty are carried through them.
-    fn advance_over(
-        self,
-        w: &[u64],
-        lists: &[u32],
-        own: &[u32],
-        plan: Own,
-        search: Search,
-        k: u32,
-        past: bool,
-    ) -> Advanced
-        requires accepted { Accepted w.now × Tries search w.now lists.now own.now plan × (self.steps + k ≤ 1000000) }
-        requires sought_sound { SoughtSound search w.now (tried_at search w.now lists.now own.now plan) self }
-        ensures { (P : Phase) → SeeksBy search w.now (tried_at search w.now lists.now own.now plan) P → sound_stored P self ≡ true →
-            reply_stored P past k self ≡ (answer_of P result, result.after) }
+    fn advance_over(self, offers: &Offers, k: u32, past: bool) -> Advanced
+        requires accepted { Accepted offers.now.ward.now × TriesIn offers.now × (self.steps + k ≤ 1000000) }
+        requires sought_sound { SoundIn offers.now self }
+        ensures { (P : Phase) → SeeksIn offers.now P → sound_stored P self ≡ true → reply_stored P past k self ≡ (answer_of P result, result.after) }
     {
-        let cols = slots::columns(w, self, search);
-        let mut night = cols.night;
-        let mut day = cols.day;
-        let mut penalty = slots::penalty_by(w, self, cols, search);
-        let mut nightly = [0u32; MARGINS];
-        let mut daily = [0u32; MARGINS];
-        let mut t = [0u32; TABLE];
+        let mut cols = slots::columns(offers.ward, self, offers.search);
+        let mut penalty = slots::penalty_by(offers.ward, self, cols, offers.search);
+        let mut work = Work {
+            nightly: [0; MARGINS],
+            daily: [0; MARGINS],
+            table: [0; TABLE],
+        };
         let mut after = self;
         let mut made: u32 = 0;
-        loop {
+        let ending = 'steps: loop {
             if stops(past, penalty) {
-                return Advanced {
-                    after,
-                    penalty,
-                    steps: made,
-                    ending: Ending::Zero,
-                };
+                break Ending::Zero;
             }
             if made == k {
-                return Advanced {
-                    after,
-                    penalty,
-                    steps: made,
-                    ending: Ending::Asked,
-                };
+                break Ending::Asked;
             }
-            let next = after.step(
-                w,
-                lists,
-                own,
-                plan,
-                &mut night,
-                &mut day,
-                &mut nightly,
-                &mut daily,
-                &mut t,
-                penalty,
-                search,
-            );
-            if !next.moved {
-                return Advanced {
-                    after,
-                    penalty,
-                    steps: made,
-                    ending: Ending::None,
-                };
-            }
+            let Some(next) = after.step(offers, &mut cols, &mut work) else {
+                break Ending::None;
+            };
             after = next.after;
             penalty = next.penalty;
             made += 1;
+        };
+        Advanced {
+            after,
+            penalty,
+            steps: made,
+            ending,
         }
     }
 
@@ -311,45 +237,43 @@ impl Record {
         ensures { (P : Phase) (tried : ℕ → List ℕ) → SeeksBy search w.now tried P → sound_stored P self ≡ true → reply_stored P past 0 self ≡ (answer_of P result, result.after) }
     {
         let penalty = slots::penalty_of(w, self, search);
-        let made: u32 = 0;
-        if stops(past, penalty) {
-            return Advanced {
-                after: self,
-                penalty,
-                steps: made,
-                ending: Ending::Zero,
-            };
-        }
+        let steps = 0;
         Advanced {
             after: self,
             penalty,
-            steps: made,
-            ending: Ending::Asked,
+            steps,
+            ending: if stops(past, penalty) {
+                Ending::Zero
+            } else {
+                Ending::Asked
+            },
         }
     }
 
-    // By night, everyone's own list in so many places as small wards want. Not inlined, so that the array takes no stack by day.
+    // By night, with everyone's own list in so many places. Not inlined, so that the array takes no stack by day.
     #[inline(never)]
-    fn advance_small(self, w: &[u64], lists: &[u32], k: u32, past: bool) -> Advanced
+    fn advance_kept<const PLACES: usize>(
+        self,
+        w: &[u64],
+        lists: &[u32],
+        k: u32,
+        past: bool,
+    ) -> Advanced
+        requires few { PLACES ≤ 20480 }
         requires accepted { Accepted w.now × (lists.now ≡ common_of w.now) × (self.steps + k ≤ 1000000) }
         requires sought_sound { SoughtSound Nights w.now (tried_by Nights w.now lists.now []) self }
         ensures { (P : Phase) → SeeksBy Nights w.now (tried_by Nights w.now lists.now []) P → sound_stored P self ≡ true → reply_stored P past k self ≡ (answer_of P result, result.after) }
     {
-        let mut own = [0u32; 2048];
+        let mut own = [0u32; PLACES];
         let plan = ownlists::own_lists(w, lists, &mut own);
-        self.advance_over(w, lists, &own, plan, Search::Nights, k, past)
-    }
-
-    // And in more.
-    #[inline(never)]
-    fn advance_large(self, w: &[u64], lists: &[u32], k: u32, past: bool) -> Advanced
-        requires accepted { Accepted w.now × (lists.now ≡ common_of w.now) × (self.steps + k ≤ 1000000) }
-        requires sought_sound { SoughtSound Nights w.now (tried_by Nights w.now lists.now []) self }
-        ensures { (P : Phase) → SeeksBy Nights w.now (tried_by Nights w.now lists.now []) P → sound_stored P self ≡ true → reply_stored P past k self ≡ (answer_of P result, result.after) }
-    {
-        let mut own = [0u32; 20480];
-        let plan = ownlists::own_lists(w, lists, &mut own);
-        self.advance_over(w, lists, &own, plan, Search::Nights, k, past)
+        let offers = Offers {
+            ward: w,
+            search: Search::Nights,
+            lists,
+            own: &own,
+            plan: &plan,
+        };
+        self.advance_over(&offers, k, past)
     }
 
     // Up to k steps, past zero or not.
@@ -369,19 +293,23 @@ impl Record {
         if k == 0 {
             return self.advance_none(w, search, past);
         }
-        let ends = stretches.ends;
-        let m = fields::nurses(w);
         match search {
             Search::Nights => {
-                if fits_small(m, lists.len()) {
-                    self.advance_small(w, lists, k, past)
+                if fits_small(fields::nurses(w), lists.len()) {
+                    self.advance_kept::<2048>(w, lists, k, past)
                 } else {
-                    self.advance_large(w, lists, k, past)
+                    self.advance_kept::<20480>(w, lists, k, past)
                 }
             }
             Search::Days => {
-                let plan = choice::day_plan(ends, m);
-                self.advance_over(w, lists, lists, plan, Search::Days, k, past)
+                let offers = Offers {
+                    ward: w,
+                    search,
+                    lists,
+                    own: lists,
+                    plan: &choice::day_plan(stretches.ends),
+                };
+                self.advance_over(&offers, k, past)
             }
         }
     }

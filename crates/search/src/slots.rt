@@ -1,5 +1,5 @@
 // What a record's slots count on: everyone's columns and the penalty.
-ghost use Rattle.std.specs.Prelude.{◌≡◌, false, not, ℕ, suc, ◌+◌, ◌≤◌, ◌<◌, eqb, length, get_or};
+ghost use Rattle.std.specs.Prelude.{◌≡◌, false, not, ℕ, suc, ◌+◌, ◌≤◌, ◌<◌, eqb, get_or};
 ghost use Rattle.fields.specs.Sizes.{nurse_places, day_places};
 ghost use Rattle.numbers.specs.Sum.{count_to, Is};
 ghost use Rattle.numbers.specs.Digits.{number_of};
@@ -9,6 +9,7 @@ ghost use Rattle.search.specs.Stored.{slot_at};
 ghost use Rattle.penalty.specs.CodeColumns.{Shown, FreeUnder};
 ghost use Rattle.trials.specs.Trials.{CountsIn};
 ghost use Rattle.search.specs.CodeSeek.{cost_of, pattern_for, Agree};
+ghost use Rattle.search.specs.CodeChoice.{Long};
 
 use crate::Record;
 use fields::nurse;
@@ -21,15 +22,7 @@ fn marked_days(b: &[u64], n: usize, mark: u64) -> u32
     requires { Block b.now n × (n ≤ day_places) }
     ensures { result ≡ number_of (λ d. eqb (mark_on b.now (suc d)) mark) n }
 {
-    let mut set: u32 = 0;
-    let mut d: usize = 0;
-    while d < n {
-        if nurse::mark(b, d) == mark {
-            set = set + numbers::bit(d as u64);
-        }
-        d += 1;
-    }
-    set
+    numbers::set_of(n, |d| nurse::mark(b, d) == mark) as u32
 }
 
 // The pattern that nurse i counts with: hers, or while she is unplaced her marks 3 by night and her marks 2 by day, with no pair.
@@ -102,12 +95,9 @@ pub(crate) fn columns(w: &[u64], rec: Record, search: Search) -> Columns
     requires { Accepted w.now }
     ensures { (slots : ℕ → Slot) → Agree w.now rec slots → Shown search w.now slots (nurses w.now) result }
 {
-    let m = fields::nurses(w);
     let mut cols = Columns::empty();
-    let mut i: usize = 0;
-    while i < m {
+    for i in 0..fields::nurses(w) {
         cols = with_row(cols, w, rec, i, search);
-        i += 1;
     }
     cols
 }
@@ -117,18 +107,14 @@ pub(crate) fn unplaced(rec: Record, m: usize) -> u64
     requires { m ≤ nurse_places }
     ensures { Is result (count_to m (λ i. not (get_or rec.placed i false))) nurse_places }
 {
-    let mut count: u64 = 0;
-    for i in 0..m {
-        count = count + numbers::one_if(!rec.placed[i]);
-    }
-    count
+    rec.placed[..m].iter().filter(|placed| !**placed).count() as u64
 }
 
 // The penalty of a record, by its columns. That they have their lengths is told with it.
 pub(crate) fn penalty_by(w: &[u64], rec: Record, cols: Columns, search: Search) -> u64
     requires { Accepted w.now }
     ensures costs { (slots : ℕ → Slot) → Agree w.now rec slots → Shown search w.now slots (nurses w.now) cols → result ≡ cost_of search w.now slots }
-    ensures long { (length cols.night ≡ day_places) × (length cols.day ≡ day_places) }
+    ensures long { Long cols }
 {
     let m = fields::nurses(w);
     let unplaced = unplaced(rec, m);

@@ -3,7 +3,6 @@ use mathlib.Core.Path.{◌≡◌, refl, subst}
 use mathlib.Core.Bool.{Bool, true, false, cond, ◌||◌}
 use mathlib.Core.List.{List}
 use Prim.Native.Nat.{ℕ, ◌+◌, ◌*◌, ◌/◌, ◌%◌, ◌^◌, ◌≤◌, ◌<◌}
-use native.Mathlib.Nat.{le_trans}
 use native.Mathlib.Omega.{arith}
 use lib.ListN.{get_or}
 use Rattle.numbers.specs.Sum.{sum_to, Is}
@@ -11,29 +10,6 @@ use Rattle.numbers.specs.Digits.{has}
 use Rattle.numbers.proofs.SumLaws.{sum_suc, loop_start, loop_end0}
 use Rattle.tables.proofs.TrialLaws.{without_none}
 use Rattle.tables.specs.CodeTables.{Low, Small, night_on, open_on, none_on, day_without, trial_of, trial_without, read_at, table_trial}
-
--- ---- a day with days off, by the first test that holds
-
-module _ (c : List ℕ) (x off d : ℕ) (low : Low c 371200) where
-  pub night_day : has x (d + 2) ≡ true → Is (night_on c d) (day_without c x off d) 371200
-  unfolding day_without
-  night_day e = record { is = rw e; most = low.low d }
-
-  pub off_day : has x (d + 2) ≡ false → has off d ≡ true → Is (none_on c d) (day_without c x off d) 371200
-  unfolding day_without
-  off_day e f = record { is = rw (e, f); most = low.low (72 + d) }
-
-  pub first_day : has x (d + 2) ≡ false → has off d ≡ false → has x (d + 1) ≡ true → Is (none_on c d) (day_without c x off d) 371200
-  unfolding day_without
-  first_day e f g = record { is = rw (e, f, g); most = low.low (72 + d) }
-
-  pub second_day : has x (d + 2) ≡ false → has off d ≡ false → has x (d + 1) ≡ false → has x d ≡ true → Is (none_on c d) (day_without c x off d) 371200
-  unfolding day_without
-  second_day e f g h = record { is = rw (e, f, g, h); most = low.low (72 + d) }
-
-  pub open_day : has x (d + 2) ≡ false → has off d ≡ false → has x (d + 1) ≡ false → has x d ≡ false → Is (open_on c d) (day_without c x off d) 371200
-  unfolding day_without
-  open_day e f g h = record { is = rw (e, f, g, h); most = low.low (36 + d) }
 
 -- ---- sums of a loop
 
@@ -68,22 +44,13 @@ pub record Least (c : List ℕ) (n d total : ℕ) : Type 0 where
   pub low : (x off : ℕ) → total ≤ sum_to d (day_without c x off)
 
 module _ (c : List ℕ) (n : ℕ) where
-  pub least_start : Least c n 0 0
-  least_start = record { inside = omega arith; most = omega arith; low = λ x off. omega arith }
-
-  pub least_turn : (d : ℕ) {total day inner : ℕ} → Low c 371200 → Least c n d total → d < n
-      → (day ≤ night_on c d) × (day ≤ inner) → (inner ≤ open_on c d) × (inner ≤ none_on c d) → Least c n (d + 1) (total + day)
+  pub least_turn : (d : ℕ) {total day : ℕ} → Low c 371200 → Least c n d total → d < n
+      → day ≤ night_on c d → day ≤ open_on c d → day ≤ none_on c d → Least c n (d + 1) (total + day)
   unfolding day_without
-  least_turn d s p l h k = record {
+  least_turn d s p l h k m = record {
     inside = omega arith;
     most = omega (arith, s.low d);
-    low = λ x off.
-        omega (
-          arith,
-          p.low x off,
-          sum_suc d (day_without c x off),
-          cond_low (has x (d + 2)) (has x (d + 1) || has x d) (has off d) h.0 (le_trans h.1 k.0) (le_trans h.1 k.1),
-        );
+    low = λ x off. omega (arith, p.low x off, sum_suc d (day_without c x off), cond_low (has x (d + 2)) (has x (d + 1) || has x d) (has off d) h k m);
   }
 
   pub least_without : {d total : ℕ} → Least c n d total → n ≤ d → (x off : ℕ) → total ≤ trial_without c n x off

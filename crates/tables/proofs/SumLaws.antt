@@ -4,7 +4,7 @@ use mathlib.Core.Bool.{Bool, true, false, cond, ◌||◌}
 use mathlib.Core.List.{List}
 use mathlib.Core.Logic.{⊎_elim}
 use Prim.Native.Nat.{ℕ, zero, suc, ◌+◌, ◌-◌, ◌*◌, ◌/◌, ◌%◌, ◌^◌, ◌≤◌, ◌<◌}
-use native.Mathlib.Nat.{not-suc-le-zero, eq-or-lt_of_le, le_of_suc-le-suc, le_trans, le-div_iff_mul-le, div-lt_iff_lt-mul}
+use native.Mathlib.Nat.{not-suc-le-zero, eq-or-lt_of_le, le_of_suc-le-suc, le-div_iff_mul-le, div-lt_iff_lt-mul, one-mul, mod-eq_of_lt}
 use native.Mathlib.Numerals.{add-one}
 use native.Mathlib.Omega.{arith}
 use native.Mathlib.Decide.{dec_lt}
@@ -16,7 +16,7 @@ use Rattle.numbers.specs.Sum.{sum_to}
 use Rattle.numbers.specs.Digits.{has}
 use Rattle.numbers.proofs.SumLaws.{sum_zero, sum_suc, sum_ext, sum_le, sum_none}
 use Rattle.numbers.proofs.DigitLaws.{bit_above, low_digit}
-use Rattle.tables.specs.CodeTables.{night_on, open_on, none_on, Low, Small, key_at, six_at, Sums, Blank, Table, Added, Doubled, Extended, Cleared, SixSummed}
+use Rattle.tables.specs.CodeTables.{night_on, open_on, none_on, Low, Small, key_at, six_at, Sums, Blank, Table, Raised, Extended, Cleared, SixSummed}
 use Rattle.tables.proofs.TrialLaws.{table_trial_lem}
 
 -- ---- a loop that writes f 0, f 1, .. from a place on
@@ -58,68 +58,28 @@ low_parts l at count m f g h = record { low = λ e. go e (dec_lt e at) (dec_lt e
         subst (λ (k : ℕ). get_or l k 0 ≤ m) s (g (e - at) (omega arith))
     go e (no p) (no q) = h e (omega arith)
 
-pub low_more : (l : List ℕ) (m k : ℕ) → m ≤ k → Low l m → Low l k
-low_more l m k h s = record { low = λ e. le_trans (s.low e) h }
-
-added_low : (l r : List ℕ) (at count x m k : ℕ) → Low l m → m + x ≤ k → Added l r at count x → Low r k
-added_low l r at count x m k s h a =
-    low_parts r at count k
+raised_low : (l r : List ℕ) (from to count x m k : ℕ) → Low l m → m + x ≤ k → Raised l r from to count x → Low r k
+raised_low l r from to count x m k s h a =
+    low_parts r to count k
     (λ e q. omega (arith, s.low e, a.before e q))
-    (λ y q. omega (arith, s.low (at + y), a.within y q))
+    (λ y q. omega (arith, s.low (from + y), a.within y q))
     (λ e q. omega (arith, s.low e, a.after e q))
-
-doubled_low : (l r : List ℕ) (at count x m k : ℕ) → Low l m → m + x ≤ k → Doubled l r at count x → Low r k
-doubled_low l r at count x m k s h a =
-    low_parts r (at + count) count k
-    (λ e q. omega (arith, s.low e, a.before e q))
-    (λ y q. omega (arith, s.low (at + y), a.within y q))
-    (λ e q. omega (arith, s.low e, a.after e (omega arith)))
 
 -- ---- x more
 
-pub add_turn : (l r : List ℕ) (at x y : ℕ) → Written l r at (λ k. get_or l (at + k) 0 + x) y → at + y < length l
-    → Written l (set r (at + y) (get_or r (at + y) 0 + x)) at (λ k. get_or l (at + k) 0 + x) (y + 1)
-add_turn l r at x y p h = written_turn l r at (λ k. get_or l (at + k) 0 + x) y p h (ap (λ (v : ℕ). v + x) (p.after (at + y) (omega arith)))
-
-pub add_end : (l r : List ℕ) (at count x : ℕ) {y : ℕ} → Written l r at (λ k. get_or l (at + k) 0 + x) y → y ≡ count → Added l r at count x
-add_end l r at count x p e = record {
-  long = p.long;
-  within = λ k q. p.within k (omega arith);
-  before = p.before;
-  after = λ d q. p.after d (omega arith);
-}
-
-pub double_turn : (l r : List ℕ) (at count x y : ℕ) → Written l r (at + count) (λ k. get_or l (at + k) 0 + x) y → y < count → at + count + y < length l
-    → Written l (set r (at + count + y) (get_or r (at + y) 0 + x)) (at + count) (λ k. get_or l (at + k) 0 + x) (y + 1)
-double_turn l r at count x y p q h = written_turn l r (at + count) (λ k. get_or l (at + k) 0 + x) y p h (ap (λ (v : ℕ). v + x) (p.before (at + y) (omega arith)))
-
-pub double_end : (l r : List ℕ) (at count x : ℕ) {y : ℕ} → Written l r (at + count) (λ k. get_or l (at + k) 0 + x) y → y ≡ count → Doubled l r at count x
-double_end l r at count x p e = record {
-  long = p.long;
-  within = λ k q. p.within k (omega arith);
-  before = p.before;
-  after = λ d q. p.after d (omega arith);
-}
-
-pub clear_end : (l r : List ℕ) (at : ℕ) {y : ℕ} → Written l r at (λ k. 0) y → y ≡ 4 → Cleared l r at
-clear_end l r at p e = record {
-  long = p.long;
-  within = λ k q. p.within k (omega arith);
-  before = p.before;
-  after = λ d q. p.after d (omega arith);
-}
-
 -- ---- one day more
 
-pub once_low : (l a : List ℕ) (base one night : ℕ) → Low l 2227200 → night ≤ 371200 → Doubled l a base (4 * one) night → Low a 3000000
-once_low l a base one night s h p = doubled_low l a base (4 * one) night 2227200 3000000 s (omega arith) p
+-- its places are small enough for the next to be raised
+pub once_low : (l a : List ℕ) (base one night : ℕ) → Low l 2227200 → night ≤ 371200 → Raised l a base (base + 4 * one) (4 * one) night → Low a 3000000
+once_low l a base one night s h p = raised_low l a base (base + 4 * one) (4 * one) night 2227200 3000000 s (omega arith) p
 
-pub twice_low : (l a m : List ℕ) (base one night opened : ℕ) → Low l 2227200 → night ≤ 371200 → opened ≤ 371200 → Doubled l a base (4 * one) night → Added a m base one opened → Low m 3000000
+pub twice_low : (l a m : List ℕ) (base one night opened : ℕ) → Low l 2227200 → night ≤ 371200 → opened ≤ 371200 → Raised l a base (base + 4 * one) (4 * one) night
+    → Raised a m base base one opened → Low m 3000000
 twice_low l a m base one night opened s h k p q =
-    added_low a m base one opened 2598400 3000000 (doubled_low l a base (4 * one) night 2227200 2598400 s (omega arith) p) (omega arith) q
+    raised_low a m base base one opened 2598400 3000000 (raised_low l a base (base + 4 * one) (4 * one) night 2227200 2598400 s (omega arith) p) (omega arith) q
 
-pub extended : (l a m r : List ℕ) (base one night opened none : ℕ) → Doubled l a base (4 * one) night → Added a m base one opened → Added m r (base + one) (3 * one) none
-    → Extended l r base one night opened none
+pub extended : (l a m r : List ℕ) (base one night opened none : ℕ) → Raised l a base (base + 4 * one) (4 * one) night → Raised a m base base one opened
+    → Raised m r (base + one) (base + one) (3 * one) none → Extended l r base one night opened none
 extended l a m r base one night opened none p q s = record {
   long = s.long ∙ q.long ∙ p.long;
   open_places = λ k h. s.before (base + k) (omega arith) ∙ q.within k h ∙ ap (λ (v : ℕ). v + opened) (p.before (base + k) (omega arith));
@@ -235,20 +195,16 @@ sums_more c r s b j p x key h = go (dec_lt key (2 ^ j)) (dec_lt key (4 * 2 ^ j))
         (subst (λ (y : ℕ). get_or s (256 * b + 4 * 2 ^ j + k) 0 ≡ sum_to (j + 1) (key_at c b y)) e
         (one_day (4 * 2 ^ j + k) (x.night_places k low) (p k low ∙ sum_ext j (key_at c b k) (key_at c b (4 * 2 ^ j + k)) (λ i q. sym (day_before c b k j i low q))) (day_night c b k j low)))
 
--- before day j: `one` is the bit of the start two days before it
-pub record SixTo (c : List ℕ) (b : ℕ) (l r : List ℕ) (one j : ℕ) : Type 0 where
-  pub turns : j ≤ 6
-  pub power : one ≡ 2 ^ j
+-- before day j
+pub record SixTo (c : List ℕ) (b : ℕ) (l r : List ℕ) (j : ℕ) : Type 0 where
   pub long : length r ≡ 1536
   pub sums : SumsTo c b r j
   pub small : Low r 2227200
   pub before : (e : ℕ) → e < 256 * b → get_or r e 0 ≡ get_or l e 0
   pub after : (e : ℕ) → 256 * b + 256 ≤ e → get_or r e 0 ≡ get_or l e 0
 
-pub six_start : (c l r : List ℕ) (b : ℕ) → length l ≡ 1536 → Low l 2227200 → Cleared l r (256 * b) → SixTo c b r r 1 0
+pub six_start : (c l r : List ℕ) (b : ℕ) → length l ≡ 1536 → Low l 2227200 → Cleared l r (256 * b) → SixTo c b r r 0
 six_start c l r b h s p = record {
-  turns = omega arith;
-  power = refl;
   long = p.long ∙ h;
   sums = λ key q. p.within key q ∙ sym (sum_zero (key_at c b key));
   small = low_parts r (256 * b) 4 2227200
@@ -260,32 +216,36 @@ six_start c l r b h s p = record {
 }
 
 -- so that the places of one day more are there
-pub one_most : (c l r : List ℕ) (b : ℕ) {one j : ℕ} → SixTo c b l r one j → j < 6 → one ≤ 32
-one_most c l r b {one} {j} p h =
+pub one_most : (j : ℕ) → j < 6 → 2 ^ j ≤ 32
+one_most j h =
     let q : j ≤ 5 = omega arith in
-    omega (arith, p.power, pow_mono q)
+    pow_mono q
 
-pub six_turn : (c l r s : List ℕ) (b one j : ℕ) → Low c 371200 → SixTo c b l r one j → j < 6 → OneMore c b r s one j → SixTo c b l s (2 * one) (j + 1)
-six_turn c l r s b one j low p h x = record {
-  turns = omega arith;
-  power = omega (arith, p.power, pow_one j);
+-- the bit of the start two days before day j
+pub one_is : (j : ℕ) → j < 6 → 1 * 2 ^ j % 18446744073709551616 ≡ 2 ^ j
+one_is j h = ap (λ (x : ℕ). x % 18446744073709551616) (one-mul (2 ^ j)) ∙ mod-eq_of_lt (omega (arith, one_most j h))
+
+pub six_turn : (c l r s : List ℕ) (b j : ℕ) → Low c 371200 → SixTo c b l r j → j < 6 → OneMore c b r s (1 * 2 ^ j % 18446744073709551616) j → SixTo c b l s (j + 1)
+six_turn c l r s b j low p h y = record {
   long = x.long ∙ p.long;
   sums = more;
-  small = low_parts s (256 * b) (8 * one) 2227200
+  small = low_parts s (256 * b) (8 * 2 ^ j) 2227200
       (λ e q. omega (arith, p.small.low e, x.before e q))
-      (λ y q. omega (arith, more y (omega (arith, p.power, pow_one j)), sum_le (j + 1) 371200 (key_at c b y) (λ i k. key_most c b y i low)))
+      (λ y q. omega (arith, more y (omega (arith, pow_one j)), sum_le (j + 1) 371200 (key_at c b y) (λ i k. key_most c b y i low)))
       (λ e q. omega (arith, p.small.low e, x.after e q));
   before = λ e q. x.before e q ∙ p.before e q;
-  after = λ e q. x.after e (omega (arith, one_most c l r b p h)) ∙ p.after e q;
+  after = λ e q. x.after e (omega (arith, one_most j h)) ∙ p.after e q;
 }
   where
-    more : SumsTo c b s (j + 1)
-    more = sums_more c r s b j p.sums (subst (λ (o : ℕ). OneMore c b r s o j) p.power x)
+    x : OneMore c b r s (2 ^ j) j
+    x = subst (λ (o : ℕ). OneMore c b r s o j) (one_is j h) y
 
-pub six_end : (c l m r : List ℕ) (b : ℕ) {one j : ℕ} → length l ≡ 1536 → Cleared l m (256 * b) → SixTo c b m r one j → 6 ≤ j → SixSummed c b l r
+    more : SumsTo c b s (j + 1)
+    more = sums_more c r s b j p.sums x
+
+pub six_end : (c l m r : List ℕ) (b : ℕ) {j : ℕ} → length l ≡ 1536 → Cleared l m (256 * b) → SixTo c b m r j → j ≡ 6 → SixSummed c b l r
 unfolding six_at
-six_end c l m r b {one} {j} h p q k =
-    let e : j ≡ 6 = omega (arith, q.turns) in
+six_end c l m r b {j} h p q e =
     let sums : SumsTo c b r 6 = subst (λ (i : ℕ). SumsTo c b r i) e q.sums in
     record {
       long = q.long ∙ sym h;

@@ -79,19 +79,12 @@ pub record Table (c : List ℕ) (n : ℕ) (t : List ℕ) : Type 0 where
 
 -- ---- how the sums are made, from l to r
 
--- x more in so many places from `at` on
-pub record Added (l r : List ℕ) (at count x : ℕ) : Type 0 where
+-- in so many places from `to` on: those from `from` on with x more
+pub record Raised (l r : List ℕ) (from to count x : ℕ) : Type 0 where
   pub long : length r ≡ length l
-  pub within : (y : ℕ) → y < count → get_or r (at + y) 0 ≡ get_or l (at + y) 0 + x
-  pub before : (e : ℕ) → e < at → get_or r e 0 ≡ get_or l e 0
-  pub after : (e : ℕ) → at + count ≤ e → get_or r e 0 ≡ get_or l e 0
-
--- so many places after as many from `at` on: the same with x more
-pub record Doubled (l r : List ℕ) (at count x : ℕ) : Type 0 where
-  pub long : length r ≡ length l
-  pub within : (y : ℕ) → y < count → get_or r (at + count + y) 0 ≡ get_or l (at + y) 0 + x
-  pub before : (e : ℕ) → e < at + count → get_or r e 0 ≡ get_or l e 0
-  pub after : (e : ℕ) → at + 2 * count ≤ e → get_or r e 0 ≡ get_or l e 0
+  pub within : (y : ℕ) → y < count → get_or r (to + y) 0 ≡ get_or l (from + y) 0 + x
+  pub before : (e : ℕ) → e < to → get_or r e 0 ≡ get_or l e 0
+  pub after : (e : ℕ) → to + count ≤ e → get_or r e 0 ≡ get_or l e 0
 
 -- one day more: the first 4 * one places hold the days before it; `one` is the bit of the start two days before it
 pub record Extended (l r : List ℕ) (base one night opened none : ℕ) : Type 0 where

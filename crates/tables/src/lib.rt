@@ -22,8 +22,7 @@ pub fn fill(n: usize, c: &[u32; COSTS], t: &mut [u32; TABLE])
     requires { Small c.now n × Blank t.old n }
     ensures { Table c.now n t.new }
 {
-    let sixes = (n + 5) / 6;
-    for b in 0..sixes {
+    for b in 0..n.div_ceil(6) {
         sums::six(t, c, b);
     }
 }
@@ -37,7 +36,7 @@ pub fn trial(t: &[u32; TABLE], x: u64) -> u32
     let mut total: u32 = 0;
     for b in 0..6 {
         let key = ((x >> (6 * b)) % 256) as usize;
-        total = total + t[256 * b + key];
+        total += t[256 * b + key];
     }
     total
 }

@@ -4,25 +4,21 @@ ghost use Rattle.numbers.specs.Sum.{Is};
 ghost use Rattle.tables.specs.CodeTables.{Low, Small, trial_of, trial_without, day_without};
 
 use crate::{COSTS, NONE, OPEN};
+use numbers::Set;
 
 // A day where she is not available on the days of `off`.
+#[tactic(auto, unfolding(crate::specs::CodeTables::day_without))]
 fn day_without(c: &[u32; COSTS], x: u64, off: u32, d: usize) -> u32
     requires { (d < 31) × Low c.now 371200 }
     ensures { Is result (day_without c.now x off d) 371200 }
 {
-    if numbers::is_in(x, d + 2) {
-        return c[d];
+    if x.has(d + 2) {
+        c[d]
+    } else if off.has(d) || x.has(d + 1) || x.has(d) {
+        c[NONE + d]
+    } else {
+        c[OPEN + d]
     }
-    if numbers::has_bit(off, d as u64) {
-        return c[NONE + d];
-    }
-    if numbers::is_in(x, d + 1) {
-        return c[NONE + d];
-    }
-    if numbers::is_in(x, d) {
-        return c[NONE + d];
-    }
-    c[OPEN + d]
 }
 
 // What the ward's days cost after the exchange, where she is not available on the days of `off`.
@@ -32,15 +28,9 @@ pub fn without(n: usize, c: &[u32; COSTS], x: u64, off: u32) -> u32
 {
     let mut total: u32 = 0;
     for d in 0..n {
-        total = total + day_without(c, x, off, d);
+        total += day_without(c, x, off, d);
     }
     total
-}
-
-fn lesser(a: u32, b: u32) -> u32
-    ensures { (result ≤ a) × (result ≤ b) }
-{
-    if a < b { a } else { b }
 }
 
 // The least of each day: no trial costs less.
@@ -51,8 +41,7 @@ pub fn least(n: usize, c: &[u32; COSTS]) -> u32
 {
     let mut total: u32 = 0;
     for d in 0..n {
-        let day = lesser(c[d], lesser(c[OPEN + d], c[NONE + d]));
-        total = total + day;
+        total += c[d].min(c[OPEN + d]).min(c[NONE + d]);
     }
     total
 }

@@ -12,6 +12,7 @@ ghost use Rattle.trials.specs.Trials.{CountsIn};
 
 use fields::sizes::DAYS;
 use history::Search;
+use numbers::Set;
 use penalty::Penalty;
 
 // The penalty after nurse i takes the pattern with which she counts in these two sets, so many nurses being unplaced then. The columns of all others
@@ -31,15 +32,10 @@ pub fn trial(
     ensures afresh { (slots : ℕ → Slot) (p : ℕ) → Shows search w.now slots (columns_of night.now day.now) → CountsIn search w.now i p nights available →
         unplaced ≡ unplaced_in w.now (exchanged slots i p) → parts_of result ≡ parts_in search w.now (exchanged slots i p) }
 {
-    let mut sum = Penalty::fresh();
-    sum.unplaced = unplaced;
-    let n = fields::days(w);
-    for d in 0..n {
-        let a = numbers::put_bit(night[d], i, numbers::has_bit(nights, d as u64));
-        let b = numbers::put_bit(day[d], i, numbers::has_bit(available, d as u64));
-        let t = penalty::on_day(w, d, a, b, search);
-        sum.short = sum.short + t.short;
-        sum.over = sum.over + t.over;
-    }
-    sum
+    let columns = |d: usize| {
+        let at_night = numbers::put_bit(night[d], i, nights.has(d));
+        let by_day = numbers::put_bit(day[d], i, available.has(d));
+        (at_night, by_day)
+    };
+    penalty::over_days(w, columns, unplaced, search)
 }

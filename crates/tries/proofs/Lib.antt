@@ -1,3 +1,2 @@
-pub mod BarLaws
 pub mod TryLaws
 pub mod NurseLaws

@@ -9,37 +9,19 @@ use Rattle.numbers.specs.Digits.{number_of}
 use Rattle.numbers.specs.Patterns.{pattern, unpaired}
 use Rattle.numbers.proofs.DigitLaws.{number_has}
 use Rattle.numbers.proofs.MemberLaws.{each_map}
-use Rattle.fields.specs.Fields.{days, block, pair_count}
-use Rattle.fields.specs.Rules.{rules_of}
+use Rattle.fields.specs.Fields.{days, pair_count}
 use Rattle.rows.specs.Pairs.{pair_numbers, in_pair}
 use Rattle.nights.specs.Own.{own_pattern, with_pairs}
 use Rattle.nights.proofs.OwnLaws.{pair_number_lt, with_pairs_each}
-use Rattle.nursemasks.specs.declared.masks.Masks.{Masks}
-use Rattle.nursemasks.specs.CodeMasks.{masks_of, Masked}
 use Rattle.history.specs.declared.Search.{Search}
 use Rattle.history.specs.declared.Search.TheVariants.{Nights, Days}
-use Rattle.tables.specs.CodeTables.{Small, Blank, Table, trial_of, trial_without}
+use Rattle.tables.specs.CodeTables.{trial_of, trial_without}
 use Rattle.trials.specs.CodeTrials.{start_set, NightTrials, DayTrials, CostTrials}
-use Rattle.best.specs.CodeBest.{over_list, improves}
-use Rattle.best.specs.declared.Best.{Best}
+use Rattle.best.specs.CodeBest.{Best, over_list, improves}
 use Rattle.best.proofs.BestLaws.{improves_less, over_none, over_filter}
-use Rattle.tries.specs.CodeTries.{CommonMasks, NightNeeds, NightTable, DayTable, tried_in, ListNeeds, NurseNeeds}
+use Rattle.tries.specs.CodeTries.{NightTable, DayTable, tried_in, ListNeeds}
 
 module _ {which : Search} {w list : List ℕ} {whole : Bool} {c t : List ℕ} {before others i : ℕ} (n : ListNeeds which w list whole c t before others i) where
-  -- what the loops by night ask
-  pub night_needs : which ≡ Nights → NightNeeds w c t before others i
-  night_needs e = record {
-    ward = n.ward;
-    nurse = n.nurse;
-    small = n.small;
-    low = n.table.blank.small;
-    others_most = n.others_most;
-    before_is = n.before_is e;
-  }
-
-  pub common_masks : {masks : Masks} → which ≡ Nights → whole ≡ false → Masked masks → masks ≡ masks_of (rules_of w) (days w) (block w i) → CommonMasks w list i masks
-  common_masks e f m q = record { common = (n.listed e).when_common f; masked = m; masks_are = q }
-
   module _ (cost : ℕ → ℕ) (y : CostTrials which w before c cost) where
     -- her trials by the table
     pub night_table : which ≡ Nights → NightTable w before c t cost
@@ -87,19 +69,3 @@ module _ (w c : List ℕ) (may : ℕ → Bool) (cost : ℕ → ℕ) (others i : 
       → ((x off : ℕ) → least ≤ trial_without c n x off) → held ≡ over_list may (λ x. cost x + 10000000 * others) i held (tried_in which w i list)
   floor_found Nights before e few y h k = floor_night before few y (subst (λ (m : ℕ). (x off : ℕ) → least ≤ trial_without c m x off) e k)
   floor_found Days before e few y h k = floor_day y (subst (λ (m : ℕ). (x : ℕ) → least ≤ trial_of c m x) e h)
-
--- the month's days by another name
-pub small_as : {c : List ℕ} {n m : ℕ} → n ≡ m → Small c m → Small c n
-small_as {c} e s = subst (Small c) (sym e) s
-
-pub blank_as : {t : List ℕ} {n m : ℕ} → n ≡ m → Blank t m → Blank t n
-blank_as {t} e s = subst (Blank t) (sym e) s
-
-pub table_as : {c t : List ℕ} {n m : ℕ} → n ≡ m → Table c n t → Table c m t
-table_as {c} {t} e s = subst (λ (k : ℕ). Table c k t) e s
-
--- what the loops over her list ask, once her table is made
-pub list_needs : {which : Search} {w list : List ℕ} {whole : Bool} {night day nightly daily : List ℕ} {workable before others i : ℕ} {c t : List ℕ}
-    → NurseNeeds which w list whole night day nightly daily workable before others i → Small c (days w) → Table c (days w) t
-    → ListNeeds which w list whole c t before others i
-list_needs n s t = record { ward = n.ward; nurse = n.nurse; listed = n.listed; before_is = n.before_is; others_most = n.others_most; small = s; table = t }

@@ -28,16 +28,12 @@ use Rattle.nursemasks.proofs.PairMaskLaws.{fitting_days}
 use Rattle.tables.specs.CodeTables.{table_trial, trial_without}
 use Rattle.tables.proofs.TrialLaws.{without_more}
 use Rattle.trials.specs.CodeTrials.{before_of, start_set, NightTrials}
-use Rattle.trials.proofs.WindowLaws.{before_small, busy_window}
-use Rattle.best.specs.CodeBest.{over_list, considered, improves}
-use Rattle.best.specs.declared.Best.{Best}
+use Rattle.trials.proofs.WindowLaws.{busy_window}
+use Rattle.best.specs.CodeBest.{Best, over_list, considered, improves}
 use Rattle.best.proofs.BestLaws.{improves_less, over_nil, over_one, over_append, over_none, over_done, turn_barred, turn_worse, turn_considered}
 use Rattle.tries.specs.CodeTries.{Bars, NightNeeds, NightTable, DayTable, PatternNeeds}
 
 -- ---- the set of starts
-
-pub set_lt : (b : List ℕ) (before p : ℕ) → before ≡ before_of b → p < 2 ^ 32 → start_set before p < 2 ^ 34
-set_lt b before p e h = omega (arith, before_small b)
 
 -- the N and n days of its row
 pub busy_set : (b : List ℕ) (p x : ℕ) → x ≡ start_set (before_of b) p → BusyDays b p (bit_or (x / 4) (x / 2) % 2 ^ 32)
@@ -53,17 +49,17 @@ busy_set b p x e d l =
 -- ---- what a trial costs
 
 -- by day
-pub day_costs : {w c t : List ℕ} {cost : ℕ → ℕ} (y : DayTable w c t cost) (q : ℕ) {r : ℕ} (others : ℕ) → r ≡ table_trial t (q * 4) → r + 10000000 * others ≡ cost (unpaired q) + 10000000 * others
-day_costs {t = t} y q others e = ap (λ (x : ℕ). x + 10000000 * others) (e ∙ ap (table_trial t) (sym (add-zero (q * 4))) ∙ y.table.trials (start_set 0 q) ∙ y.trials.worked q)
+pub day_costs : {w c t : List ℕ} {cost : ℕ → ℕ} (y : DayTable w c t cost) (q : ℕ) {r : ℕ} (others : ℕ) → r ≡ table_trial t (q * 4) + 10000000 * others → r ≡ cost (unpaired q) + 10000000 * others
+day_costs {t = t} y q others e = e ∙ ap (λ (x : ℕ). x + 10000000 * others) (ap (table_trial t) (sym (add-zero (q * 4))) ∙ y.table.trials (start_set 0 q) ∙ y.trials.worked q)
 
 -- by night
-module _ {w : List ℕ} {before : ℕ} {c t : List ℕ} {cost : ℕ → ℕ} (y : NightTable w before c t cost) (p : ℕ) {r : ℕ} (others : ℕ) (e : r ≡ table_trial t (start_set before p)) where
+module _ {w : List ℕ} {before : ℕ} {c t : List ℕ} {cost : ℕ → ℕ} (y : NightTable w before c t cost) (p : ℕ) {r : ℕ} (others : ℕ) (e : r ≡ table_trial t (start_set before p) + 10000000 * others) where
   -- it is what p costs where there are no pairs
-  pub alone_costs : r + 10000000 * others ≡ cost (unpaired p) + 10000000 * others
-  alone_costs = ap (λ (x : ℕ). x + 10000000 * others) (e ∙ y.table.trials (start_set before p) ∙ y.trials.alone p)
+  pub alone_costs : r ≡ cost (unpaired p) + 10000000 * others
+  alone_costs = e ∙ ap (λ (x : ℕ). x + 10000000 * others) (y.table.trials (start_set before p) ∙ y.trials.alone p)
 
   -- with any pair it costs no less
-  pub pair_costs_more : (k : ℕ) → k < 2 ^ 32 → r + 10000000 * others ≤ cost (pattern p k) + 10000000 * others
+  pub pair_costs_more : (k : ℕ) → k < 2 ^ 32 → r ≤ cost (pattern p k) + 10000000 * others
   pair_costs_more k h =
       let off = number_of (λ d. in_pair w k (suc d)) (days w) in
       omega (
@@ -228,34 +224,34 @@ module _ {G : Type 0} {w c t : List ℕ} {before others i : ℕ} {bars : List �
 
     -- none of them improves
     stays : {b'' : Best} → b'' ≡ b
-        → ((may : ℕ → Bool) (cost : ℕ → ℕ) → NightTable w before c t cost → Each (λ m. (own_pattern w i (pattern here m) && may (pattern here m)) ≡ true → improves b (cost (pattern here m) + 10000000 * others) ≡ false) (pair_numbers w))
+        → ((may : ℕ → Bool) (cost : ℕ → ℕ) → NightTable w before c t cost → G → Each (λ m. (own_pattern w i (pattern here m) && may (pattern here m)) ≡ true → improves b (cost (pattern here m) + 10000000 * others) ≡ false) (pair_numbers w))
         → NightsTo G w c t before others i bars held list (k + 1) b''
     stays j f =
         turn j (λ may cost h y g.
         sym (over_none (λ x. own_pattern w i x && may x) (λ x. cost x + 10000000 * others) i b (paired w here)
-        (each_map (λ x. (own_pattern w i x && may x) ≡ true → improves b (cost x + 10000000 * others) ≡ false) (pattern here) (pair_numbers w) (f may cost y))))
+        (each_map (λ x. (own_pattern w i x && may x) ≡ true → improves b (cost x + 10000000 * others) ≡ false) (pattern here) (pair_numbers w) (f may cost y g))))
 
     -- it is not hers
-    pub night_not_hers : {h : Bool} {b'' : Best} → b'' ≡ b → h ≡ hers_of w i (get_or list k 0) → h ≡ false → NightsTo G w c t before others i bars held list (k + 1) b''
-    night_not_hers j q f = stays j (λ may cost y m h t. absurd (false≢true (sym (never may m h) ∙ t)))
+    pub night_not_hers : {h : Bool} {b'' : Best} → b'' ≡ b → (G → h ≡ hers_of w i (get_or list k 0)) → h ≡ false → NightsTo G w c t before others i bars held list (k + 1) b''
+    night_not_hers j q f = stays j (λ may cost y g m h t. absurd (false≢true (sym (never g may m h) ∙ t)))
       where
-        never : (may : ℕ → Bool) (m : ℕ) → m < length (pair_numbers w) → (own_pattern w i (pattern here (get_or (pair_numbers w) m 0)) && may (pattern here (get_or (pair_numbers w) m 0))) ≡ false
-        never may m h =
+        never : G → (may : ℕ → Bool) (m : ℕ) → m < length (pair_numbers w) → (own_pattern w i (pattern here (get_or (pair_numbers w) m 0)) && may (pattern here (get_or (pair_numbers w) m 0))) ≡ false
+        never g may m h =
             ap (λ (x : Bool). x && may (pattern here (get_or (pair_numbers w) m 0)))
-            (own_at w i here (get_or (pair_numbers w) m 0) (pair_number_lt w few m h) ∙ ap (λ (x : Bool). x && pair_fits w i here (get_or (pair_numbers w) m 0)) (sym q ∙ f))
+            (own_at w i here (get_or (pair_numbers w) m 0) (pair_number_lt w few m h) ∙ ap (λ (x : Bool). x && pair_fits w i here (get_or (pair_numbers w) m 0)) (sym (q g) ∙ f))
 
-    module _ {r : ℕ} (e : r ≡ table_trial t (start_set before (get_or list k 0))) where
+    module _ {r : ℕ} (e : r ≡ table_trial t (start_set before (get_or list k 0)) + 10000000 * others) where
       -- with no pair it does not improve: with a pair she is available on fewer days, which costs no less
-      pub night_worse : {s : Bool} {b'' : Best} → b'' ≡ b → s ≡ improves b (r + 10000000 * others) → s ≡ false → NightsTo G w c t before others i bars held list (k + 1) b''
+      pub night_worse : {s : Bool} {b'' : Best} → b'' ≡ b → s ≡ improves b r → s ≡ false → NightsTo G w c t before others i bars held list (k + 1) b''
       night_worse j q f =
-          stays j (λ may cost y m h t. improves_less b (pair_costs_more y here others e (get_or (pair_numbers w) m 0) (pair_number_lt w few m h)) (sym q ∙ f))
+          stays j (λ may cost y g m h t. improves_less b (pair_costs_more y here others e (get_or (pair_numbers w) m 0) (pair_number_lt w few m h)) (sym q ∙ f))
 
       -- it does, and is hers
-      pub night_better : {b' b'' : Best} → b'' ≡ b' → (G → hers_of w i (get_or list k 0) ≡ true)
-          → PatternBest w c bars (start_set before (get_or list k 0)) others i (get_or list k 0) (r + 10000000 * others) b b' → NightsTo G w c t before others i bars held list (k + 1) b''
-      night_better j hers f =
-          turn j (λ may cost h y g.
-          f may cost h (ap (λ (v : ℕ). start_set v here) n.before_is) (hers g) (subst (λ (v : ℕ). NightTrials w v c cost) n.before_is y.trials) (alone_costs y here others e))
+      pub night_better : {h : Bool} {b' b'' : Best} → b'' ≡ b' → (G → h ≡ hers_of w i (get_or list k 0)) → h ≡ true
+          → PatternBest w c bars (start_set before (get_or list k 0)) others i (get_or list k 0) r b b' → NightsTo G w c t before others i bars held list (k + 1) b''
+      night_better j q h f =
+          turn j (λ may cost m y g.
+          f may cost m (ap (λ (v : ℕ). start_set v here) n.before_is) (sym (q g) ∙ h) (subst (λ (v : ℕ). NightTrials w v c cost) n.before_is y.trials) (alone_costs y here others e))
 
 -- ---- a night pattern of hers
 

@@ -4,31 +4,28 @@ use Rattle.fields.specs.Sizes.{nurse_places}
 use Rattle.numbers.specs.Range.{filter, any_of}
 use Rattle.numbers.specs.Patterns.{unpaired}
 use Rattle.fields.specs.Fields.{Accepted, nurses, days, block}
-use Rattle.fields.specs.Rules.{rules_of}
 use Rattle.nights.specs.Nights.{common_of}
 use Rattle.nights.specs.Hers.{hers_of}
 use Rattle.nights.specs.Own.{own_pattern, with_pairs}
-use Rattle.nursemasks.specs.CodeMasks.{masks_of, Masked}
-use Rattle.nursemasks.specs.declared.masks.Masks.{Masks}
 use Rattle.history.specs.declared.Search.{Search}
 use Rattle.history.specs.declared.Search.TheVariants.{Nights, Days}
 use Rattle.tables.specs.CodeTables.{Low, Small, Table}
 use Rattle.trials.specs.CodeTrials.{before_of, start_set, WorkableDays, NightTrials, DayTrials}
+use Rattle.tries.specs.declared.nurse.Counts.{Counts}
+use Rattle.tries.specs.declared.nurse.Tried.{Tried}
 use Rattle.margins.specs.CodeMargins.{SearchMargins}
 
 -- she may take what is not barred
 abbrev pub Bars : (ℕ → Bool) → List ℕ → Type 0
 Bars may bars = (p : ℕ) → may p ≡ not (any_of (λ x. eqb x p) bars)
 
+-- t tells of each of the list whether its nights are nurse i's
+abbrev pub Tells : (ℕ → Bool → Type 0) → List ℕ → ℕ → List ℕ → Type 0
+Tells t w i list = (k : ℕ) (b : Bool) → k < length list → t (get_or list k 0) b → b ≡ hers_of w i (get_or list k 0)
+
 -- all night patterns of the list are nurse i's
 abbrev pub AllHers : List ℕ → ℕ → List ℕ → Type 0
 AllHers w i list = (k : ℕ) → k < length list → hers_of w i (get_or list k 0) ≡ true
-
--- the list is the common one, and the masks are hers
-pub record CommonMasks (w list : List ℕ) (i : ℕ) (masks : Masks) : Type 0 where
-  pub common : list ≡ common_of w
-  pub masked : Masked masks
-  pub masks_are : masks ≡ masks_of (rules_of w) (days w) (block w i)
 
 -- what the loops by night ask: nurse i's costs and table, and what stands before the month
 pub record NightNeeds (w c t : List ℕ) (before others i : ℕ) : Type 0 where
@@ -74,11 +71,11 @@ pub record ListNeeds (which : Search) (w list : List ℕ) (whole : Bool) (c t : 
   pub small : Small c (days w)
   pub table : Table c (days w) t
 
-pub record NurseNeeds (which : Search) (w list : List ℕ) (whole : Bool) (night day nightly daily : List ℕ) (workable before others i : ℕ) : Type 0 where
+pub record NurseNeeds (which : Search) (w : List ℕ) (counts : Counts) (x : Tried) : Type 0 where
   pub ward : Accepted w
-  pub nurse : i < nurses w
-  pub listed : which ≡ Nights → NightList w list i whole
-  pub before_is : which ≡ Nights → before ≡ before_of (block w i)
-  pub workable_are : which ≡ Nights → WorkableDays w i workable
-  pub others_most : others ≤ nurse_places
-  pub margins : SearchMargins which w night day nightly daily
+  pub nurse : x.number < nurses w
+  pub listed : which ≡ Nights → NightList w x.list.now x.number x.whole
+  pub before_is : which ≡ Nights → x.before ≡ before_of (block w x.number)
+  pub workable_are : which ≡ Nights → WorkableDays w x.number x.workable
+  pub others_most : x.others ≤ nurse_places
+  pub margins : SearchMargins which w counts.night.now counts.day.now counts.nightly.now counts.daily.now

@@ -4,132 +4,104 @@
 pub mod nurse;
 mod pairs;
 
-ghost use Rattle.std.specs.Prelude.{◌≡◌, Bool, ◌&&◌, List, map, ℕ, ◌+◌, ◌*◌, ◌≤◌, eqb};
+ghost use Rattle.std.specs.Prelude.{◌≡◌, Bool, ◌&&◌, List, map, ℕ, ◌+◌, ◌*◌, ◌≤◌};
 ghost use Rattle.fields.specs.Sizes.{nurse_places};
-ghost use Rattle.numbers.specs.Range.{any_of};
 ghost use Rattle.numbers.specs.Patterns.{unpaired};
 ghost use Rattle.nights.specs.Own.{own_pattern, with_pairs};
-ghost use Rattle.tables.specs.CodeTables.{Low};
+ghost use Rattle.tables.specs.CodeTables.{Low, table_trial};
 ghost use Rattle.best.specs.CodeBest.{considered, over_list};
-ghost use Rattle.tries.specs.CodeTries.{Bars, AllHers, CommonMasks, NightNeeds, NightTable, DayTable};
+ghost use Rattle.tries.specs.CodeTries.{Bars, Tells, NightNeeds, NightTable, DayTable};
 
-use best::Best;
+use best::Exchange;
 use numbers::pattern;
-use nursemasks::masks::Masks;
 use penalty::Penalty;
 use tables::{COSTS, TABLE};
 
-// Whether the pattern is among those barred.
-fn is_barred(bars: &[u64], p: u64) -> bool
-    ensures { result ≡ any_of (λ x. eqb x p) bars.now }
-{
-    for k in 0..bars.len() {
-        if bars[k] == p {
-            return true;
-        }
-    }
-    false
-}
-
-// The best with one exchange more, which counts if the pattern is not barred.
-// A loop asks `improves` first: few exchanges pass that, and only for those the barred patterns are looked through.
-pub(crate) fn consider(best: Best, bars: &[u64], nurse: usize, pattern: u64, cost: u64) -> Best
-    ensures { (may : ℕ → Bool) → Bars may bars.now → result ≡ considered may (λ q. cost) nurse best pattern }
-{
-    if is_barred(bars, pattern) {
-        return best;
-    }
-    if !best::improves(best, cost) {
-        return best;
-    }
-    Best::Exchange {
-        nurse,
-        pattern,
-        cost,
-    }
-}
-
-// The best of what is held and of nurse i's day list; others are unplaced besides her.
-fn over_days(
-    list: &[u32],
-    t: &[u32; TABLE],
-    others: u64,
-    bars: &[u64],
-    i: usize,
-    held: Best,
-) -> Best
-    requires { Low t.now 2227200 × (others ≤ nurse_places) }
-    ensures { (w c : List ℕ) (may : ℕ → Bool) (cost : ℕ → ℕ) → Bars may bars.now → DayTable w c t.now cost →
-        result ≡ over_list may (λ q. cost q + 10000000 * others) i held (map unpaired list.now) }
-{
-    let mut best = held;
-    for k in 0..list.len() {
-        let q = list[k];
-        let x = (q as u64) * 4;
-        let c = tables::trial(t, x) as u64 + Penalty::UNPLACED * others;
-        if best::improves(best, c) {
-            best = consider(best, bars, i, pattern::of(q, 0), c);
-        }
-    }
-    best
-}
-
-// The same by night, over a list of hers, with her pairs.
-fn over_own(
-    w: &[u64],
-    list: &[u32],
-    c: &[u32; COSTS],
-    t: &[u32; TABLE],
+// What one nurse's trials go by: her costs and their table, the starts before her month, and how many others are unplaced.
+#[derive(Clone, Copy)]
+pub(crate) struct Trials<'a> {
+    ward: &'a [u64],
+    costs: &'a [u32; COSTS],
+    table: &'a [u32; TABLE],
+    barred: &'a [u64],
     before: u64,
     others: u64,
-    bars: &[u64],
-    i: usize,
-    held: Best,
-) -> Best
-    requires { NightNeeds w.now c.now t.now before others i }
-    ensures { (may : ℕ → Bool) (cost : ℕ → ℕ) → Bars may bars.now → NightTable w.now before c.now t.now cost → AllHers w.now i list.now →
-        result ≡ over_list (λ x. own_pattern w.now i x && may x) (λ x. cost x + 10000000 * others) i held (with_pairs w.now list.now) }
-{
-    let mut best = held;
-    for k in 0..list.len() {
-        let p = list[k];
-        let x = (p as u64) * 4 + before;
-        let cost = tables::trial(t, x) as u64 + Penalty::UNPLACED * others;
-        // With a pair she is available on fewer days, and by night that never costs less.
-        if best::improves(best, cost) {
-            best = pairs::over_pattern(w, c, x, others, bars, i, p, cost, best);
-        }
-    }
-    best
+    nurse: usize,
 }
 
-// The same over the common list, of which her masks tell what is hers.
-fn over_common(
-    w: &[u64],
-    list: &[u32],
-    masks: Masks,
-    c: &[u32; COSTS],
-    t: &[u32; TABLE],
-    before: u64,
-    others: u64,
-    bars: &[u64],
-    i: usize,
-    held: Best,
-) -> Best
-    requires { NightNeeds w.now c.now t.now before others i × CommonMasks w.now list.now i masks }
-    ensures { (may : ℕ → Bool) (cost : ℕ → ℕ) → Bars may bars.now → NightTable w.now before c.now t.now cost →
-        result ≡ over_list (λ x. own_pattern w.now i x && may x) (λ x. cost x + 10000000 * others) i held (with_pairs w.now list.now) }
-{
-    let mut best = held;
-    for k in 0..list.len() {
-        let p = list[k];
-        if nursemasks::masks::passes(w, masks, p) {
-            let x = (p as u64) * 4 + before;
-            let cost = tables::trial(t, x) as u64 + Penalty::UNPLACED * others;
+impl Trials<'_> {
+    // What the trial by a set of starts costs.
+    fn cost(&self, starts: u64) -> u64
+        requires { Low self.now.table.now 2227200 × (self.now.others ≤ nurse_places) }
+        ensures { result ≡ table_trial self.now.table.now starts + 10000000 * self.now.others }
+    {
+        tables::trial(self.table, starts) as u64 + Penalty::UNPLACED * self.others
+    }
+
+    // The best with one exchange more, which counts if the pattern is not barred.
+    // A loop asks `improves` first: few exchanges pass that, and only for those the barred patterns are looked through.
+    #[tactic(auto, using(numbers::proofs::IterLaws::any_is))]
+    pub(crate) fn consider(
+        &self,
+        best: Option<Exchange>,
+        pattern: u64,
+        cost: u64,
+    ) -> Option<Exchange>
+        ensures { (may : ℕ → Bool) → Bars may self.now.barred.now → result ≡ considered may (λ q. cost) self.now.nurse best pattern }
+    {
+        if self.barred.contains(&pattern) {
+            return best;
+        }
+        if !best::improves(best, cost) {
+            return best;
+        }
+        Some(Exchange {
+            nurse: self.nurse,
+            pattern,
+            cost,
+        })
+    }
+
+    // The best of what is held and of her day list.
+    fn over_days(&self, list: &[u32], held: Option<Exchange>) -> Option<Exchange>
+        requires { Low self.now.table.now 2227200 × (self.now.others ≤ nurse_places) }
+        ensures { (w c : List ℕ) (may : ℕ → Bool) (cost : ℕ → ℕ) → Bars may self.now.barred.now → DayTable w c self.now.table.now cost →
+            result ≡ over_list may (λ q. cost q + 10000000 * self.now.others) self.now.nurse held (map unpaired list.now) }
+    {
+        let mut best = held;
+        for &days in list {
+            let cost = self.cost((days as u64) * 4);
             if best::improves(best, cost) {
-                best = pairs::over_pattern(w, c, x, others, bars, i, p, cost, best);
+                best = self.consider(best, pattern::of(days, 0), cost);
             }
         }
+        best
     }
-    best
+
+    // The same by night, with her pairs, over what `hers` tells to be hers of a list.
+    fn over_nights<F: Fn(u32) -> bool>(
+        &self,
+        list: &[u32],
+        hers: F,
+        held: Option<Exchange>,
+    ) -> Option<Exchange>
+        requires needs { NightNeeds self.now.ward.now self.now.costs.now self.now.table.now self.now.before self.now.others self.now.nurse }
+        requires callable { F.IsAlwaysCallable hers }
+        ensures { (may : ℕ → Bool) (cost : ℕ → ℕ) → Bars may self.now.barred.now → NightTable self.now.ward.now self.now.before self.now.costs.now self.now.table.now cost →
+            Tells (F.post hers) self.now.ward.now self.now.nurse list.now →
+            result ≡ over_list (λ x. own_pattern self.now.ward.now self.now.nurse x && may x) (λ x. cost x + 10000000 * self.now.others) self.now.nurse held (with_pairs self.now.ward.now list.now) }
+    {
+        let mut best = held;
+        for &nights in list {
+            if hers(nights) {
+                let starts = (nights as u64) * 4 + self.before;
+                let cost = self.cost(starts);
+                // With a pair she is available on fewer days, and by night that never costs less.
+                if best::improves(best, cost) {
+                    best = self.over_pattern(starts, nights, cost, best);
+                }
+            }
+        }
+        best
+    }
 }

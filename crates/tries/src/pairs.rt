@@ -12,12 +12,12 @@ ghost use Rattle.trials.specs.CodeTrials.{before_of, start_set, NightTrials};
 ghost use Rattle.best.specs.CodeBest.{over_list};
 ghost use Rattle.tries.specs.CodeTries.{Bars, PatternNeeds};
 
-use best::Best;
+use crate::Trials;
+use best::Exchange;
 use numbers::pattern;
 use nursemasks::pairs;
 use nursemasks::pairs::Pairs;
 use penalty::Penalty;
-use tables::COSTS;
 
 // The N and n days of the row that the set of starts makes.
 fn busy_days(x: u64) -> u32
@@ -27,60 +27,57 @@ fn busy_days(x: u64) -> u32
     ((x / 4 | x / 2) % 4294967296) as u32
 }
 
-// The best of what is held and of the night pattern p with each of the pairs.
-fn over_pairs(
-    n: usize,
-    pairs: Pairs,
-    c: &[u32; COSTS],
-    x: u64,
-    others: u64,
-    bars: &[u64],
-    i: usize,
-    p: u32,
-    held: Best,
-) -> Best
-    requires { Small c.now n × (pairs.count ≤ pair_most) × (others ≤ nurse_places) × (x < 2 ^ 34) }
-    ensures { (w : List ℕ) (may : ℕ → Bool) (cost : ℕ → ℕ) → Bars may bars.now → PatternNeeds w n i x p → PairsOf w i pairs → 1 ≤ pair_count w →
-        NightTrials w (before_of (block w i)) c.now cost →
-        result ≡ over_list (λ y. own_pattern w i y && may y) (λ y. cost y + 10000000 * others) i held (map (pattern p) (pair_numbers w)) }
-{
-    let busy = busy_days(x);
-    let mut best = held;
-    for k in 0..pairs.count {
-        let number = k + 1;
-        let off = pairs.days[number];
-        if pairs::fits(off, busy) {
-            let cost = tables::plain::without(n, c, x, off) as u64 + Penalty::UNPLACED * others;
-            if best::improves(best, cost) {
-                best = crate::consider(best, bars, i, pattern::of(p, number as u32), cost);
+impl Trials<'_> {
+    // The best of what is held and of the night pattern p with each of the pairs.
+    fn over_pairs(
+        &self,
+        n: usize,
+        pairs: &Pairs,
+        x: u64,
+        p: u32,
+        held: Option<Exchange>,
+    ) -> Option<Exchange>
+        requires { Small self.now.costs.now n × (pairs.now.count ≤ pair_most) × (self.now.others ≤ nurse_places) × (x < 2 ^ 34) }
+        ensures { (w : List ℕ) (may : ℕ → Bool) (cost : ℕ → ℕ) → Bars may self.now.barred.now → PatternNeeds w n self.now.nurse x p → PairsOf w self.now.nurse pairs.now → 1 ≤ pair_count w →
+            NightTrials w (before_of (block w self.now.nurse)) self.now.costs.now cost →
+            result ≡ over_list (λ y. own_pattern w self.now.nurse y && may y) (λ y. cost y + 10000000 * self.now.others) self.now.nurse held (map (pattern p) (pair_numbers w)) }
+    {
+        let busy = busy_days(x);
+        let mut best = held;
+        // By the index: each pair's number is its own place, from 1, and a pattern has it too. Over the days with their numbers it would be no plainer.
+        for k in 0..pairs.count {
+            let number = k + 1;
+            let off = pairs.days[number];
+            if pairs::fits(off, busy) {
+                let cost = tables::plain::without(n, self.costs, x, off) as u64
+                    + Penalty::UNPLACED * self.others;
+                if best::improves(best, cost) {
+                    best = self.consider(best, pattern::of(p, number as u32), cost);
+                }
             }
         }
+        best
     }
-    best
-}
 
-// The same in every ward: with no pair where there are none. `cost` is what p costs with no pair.
-// A function of its own, so that the loops over lists, which seldom come here, stay small.
-pub(crate) fn over_pattern(
-    w: &[u64],
-    c: &[u32; COSTS],
-    x: u64,
-    others: u64,
-    bars: &[u64],
-    i: usize,
-    p: u32,
-    cost: u64,
-    held: Best,
-) -> Best
-    requires { Accepted w.now × (i < nurses w.now) × Small c.now (days w.now) × (others ≤ nurse_places) × (x < 2 ^ 34) }
-    ensures { (may : ℕ → Bool) (price : ℕ → ℕ) → Bars may bars.now → x ≡ start_set (before_of (block w.now i)) p → hers_of w.now i p ≡ true →
-        NightTrials w.now (before_of (block w.now i)) c.now price → cost ≡ price (unpaired p) + 10000000 * others →
-        result ≡ over_list (λ y. own_pattern w.now i y && may y) (λ y. price y + 10000000 * others) i held (map (pattern p) (pair_numbers w.now)) }
-{
-    if fields::pair_count(w) == 0 {
-        return crate::consider(held, bars, i, pattern::of(p, 0), cost);
+    // The same in every ward: with no pair where there are none. `cost` is what p costs with no pair.
+    // A function of its own, so that the loops over lists, which seldom come here, stay small.
+    pub(crate) fn over_pattern(
+        &self,
+        x: u64,
+        p: u32,
+        cost: u64,
+        held: Option<Exchange>,
+    ) -> Option<Exchange>
+        requires { Accepted self.now.ward.now × (self.now.nurse < nurses self.now.ward.now) × Small self.now.costs.now (days self.now.ward.now) × (self.now.others ≤ nurse_places) × (x < 2 ^ 34) }
+        ensures { (may : ℕ → Bool) (price : ℕ → ℕ) → Bars may self.now.barred.now → x ≡ start_set (before_of (block self.now.ward.now self.now.nurse)) p → hers_of self.now.ward.now self.now.nurse p ≡ true →
+            NightTrials self.now.ward.now (before_of (block self.now.ward.now self.now.nurse)) self.now.costs.now price → cost ≡ price (unpaired p) + 10000000 * self.now.others →
+            result ≡ over_list (λ y. own_pattern self.now.ward.now self.now.nurse y && may y) (λ y. price y + 10000000 * self.now.others) self.now.nurse held (map (pattern p) (pair_numbers self.now.ward.now)) }
+    {
+        if fields::pair_count(self.ward) == 0 {
+            return self.consider(held, pattern::of(p, 0), cost);
+        }
+        let n = fields::days(self.ward);
+        let pairs = pairs::pairs_of(self.ward, self.nurse);
+        self.over_pairs(n, &pairs, x, p, held)
     }
-    let n = fields::days(w);
-    let pairs = pairs::pairs_of(w, i);
-    over_pairs(n, pairs, c, x, others, bars, i, p, held)
 }

@@ -1,6 +1,6 @@
 -- What the reader's loop keeps, and what each way out of it comes to.
-use Prim.Native.Nat.{ℕ, suc, ◌+◌, ◌-◌, ◌≤◌, ◌<◌}
-use mathlib.Core.Path.{◌≡◌, sym, ap, ◌∙◌, subst}
+use Prim.Native.Nat.{ℕ, zero, suc, ◌+◌, ◌-◌, ◌≤◌, ◌<◌}
+use mathlib.Core.Path.{◌≡◌, refl, sym, ap, ◌∙◌, subst}
 use mathlib.Core.List.{List, [], ◌∷◌, ◌++◌, append-nil}
 use native.Mathlib.Numerals.{add-one}
 use native.Mathlib.Omega.{arith}
@@ -10,17 +10,21 @@ use Rattle.fields.specs.Sizes.{number_places}
 use Rattle.refusals.specs.Refusals.{numbered}
 use Rattle.refusals.specs.Questions as question
 use Rattle.layout.specs.declared.Field.{Field}
-use Rattle.refusals.specs.declared.Answer.TheVariants.{Yes, No}
+use Rattle.std.specs.declared.result.Result.{Result}
+use Rattle.std.specs.declared.result.Result.TheVariants.{Ok, Err}
+use Rattle.std.specs.declared.option.Option.TheVariants.{None, Some}
+use Rattle.std.specs.Result.{IfOk}
 use Rattle.refusals.specs.declared.Refusal.{Refusal}
-use Rattle.codec.specs.declared.Number.TheVariants.{Value, Ended, Long}
-use Rattle.layout.specs.declared.Want.TheVariants.{Next, Nothing}
-use Rattle.ward.specs.declared.Reading.{Reading}
-use Rattle.ward.specs.declared.Numbered.{Numbered}
-use Rattle.codec.specs.Groups.{decode}
+use Rattle.codec.specs.declared.Number.{Number}
+use Rattle.codec.specs.declared.Fault.{Fault}
+use Rattle.codec.specs.declared.Fault.TheVariants.{Ended, Long}
+use Rattle.codec.specs.Groups.{value, decode}
+use Rattle.ward.specs.declared.Ward.{Ward}
+use Rattle.ward.specs.CodeChecked.{said, with_number, number_of}
 use Rattle.layout.specs.Grammar.{Grammar, Read, failed_by, good, bad, prepend, read}
 use Rattle.layout.specs.CodeWant.{wanted, after, Within}
 use Rattle.layout.specs.Layout.{ward}
-use Rattle.ward.specs.Answers.{read_ward, reading_of, refused_of, numbered_of}
+use Rattle.ward.specs.Answers.{read_ward, reading_of, count_of}
 use Rattle.layout.proofs.GrammarLaws.{within_step, prepend_nil, prepend_more, read_good, read_ended, read_long, read_failed, read_over, read_extra, inside}
 use Rattle.ward.proofs.FitsLaws.{ward_fits}
 
@@ -49,22 +53,25 @@ replicate_drop n h =
     let e : n ≡ suc (n - 1) = omega arith in
     ap (λ (i : ℕ). drop {A = ℕ} 1 (replicate i 0)) e
 
--- a yes with these numbers
-abbrev pub yes_with : ℕ → List ℕ → Reading
-yes_with count numbers = record { answer = Yes; ward = record { numbers = numbers; count = count } }
+-- a number that was asked at its place
+pub number_good : (f : Field) (at : ℕ) {n : Number} (d : Result Number Fault) → Ok n ≡ number_of f at d → (d ≡ Ok n) × (failed_by f n.value ≡ 0)
+number_good f at {n} (Ok m) e = go (failed_by f m.value) refl e
+  where
+    go : (q : ℕ) → failed_by f m.value ≡ q → Ok n ≡ with_number m (said q at) → (◌≡◌ {A = Result Number Fault} (Ok m) (Ok n)) × (failed_by f n.value ≡ 0)
+    go zero z x =
+        let s : m ≡ n = cc in
+        (ap Ok s, subst (λ (i : Number). failed_by f i.value ≡ 0) s z)
+    go (suc q) z x = let y : ◌≡◌ {A = ℕ} 0 1 = cc in absurd (omega arith)
+number_good f at (Err fault) e = let z : ◌≡◌ {A = ℕ} 0 1 = cc in absurd (omega arith)
 
 module _ (file numbers : List ℕ) (count at : ℕ) (g : Grammar) (so : So file numbers count at g) where
-  module _ (f : Field) (e : wanted g ≡ Next f) where
-    module _ (v used : ℕ) (d : decode (drop at file) ≡ Value v used) where
+  module _ (f : Field) (e : wanted g ≡ Some f) where
+    module _ (v used : ℕ) (d : decode (drop at file) ≡ value v used) where
       pub past_end : at + used ≤ length file
       past_end = let i = inside (drop at file) v used d in omega (arith, length-drop at file, so.in_file)
 
       pub moves : 0 < used
       moves = (inside (drop at file) v used d).0
-
-      pub failed : (failed_by f v ≡ 0 → ⊥) → refused_of (numbered (failed_by f v) at) ≡ reading_of (read_ward file)
-      unfolding reading_of
-      failed n = sym (ap reading_of (so.same ∙ ap (prepend (take count numbers)) (read_failed g f at (drop at file) e v used d n)))
 
       module _ (a : failed_by f v ≡ 0) where
         pub space : count < number_places
@@ -97,24 +104,31 @@ module _ (file numbers : List ℕ) (count at : ℕ) (g : Grammar) (so : So file 
             onward =
                 rw (add-one count, take-suc-set numbers count v (subst (λ (n : ℕ). count < n) (sym so.long) space), drop-drop used at file)
 
-    pub ended : decode (drop at file) ≡ Ended → refused_of (numbered question.whole at) ≡ reading_of (read_ward file)
-    unfolding reading_of
-    ended d = sym (ap reading_of (so.same ∙ ap (prepend (take count numbers)) (read_ended g f at (drop at file) e d)))
+    refused : {n : Refusal} (d : Result Number Fault) → decode (drop at file) ≡ d → Err n ≡ number_of f at d → read g at (drop at file) ≡ bad n
+    refused {n} (Ok m) q x = go (failed_by f m.value) refl x
+      where
+        go : (p : ℕ) → failed_by f m.value ≡ p → Err n ≡ with_number m (said p at) → read g at (drop at file) ≡ bad n
+        go zero z y = let c : ◌≡◌ {A = ℕ} 0 1 = cc in absurd (omega arith)
+        go (suc p) z y =
+            let s : numbered (suc p) at ≡ n = cc in
+            read_failed g f at (drop at file) e m.value m.used q (λ w. absurd (omega (arith, z, w)))
+            ∙ ap (λ (i : ℕ). bad (numbered i at)) z
+            ∙ ap bad s
+    refused {n} (Err Ended) q x = let s : numbered question.whole at ≡ n = cc in read_ended g f at (drop at file) e q ∙ ap bad s
+    refused {n} (Err Long) q x = let s : numbered question.shortest at ≡ n = cc in read_long g f at (drop at file) e q ∙ ap bad s
 
-    pub long_form : decode (drop at file) ≡ Long → refused_of (numbered question.shortest at) ≡ reading_of (read_ward file)
-    unfolding reading_of
-    long_form d = sym (ap reading_of (so.same ∙ ap (prepend (take count numbers)) (read_long g f at (drop at file) e d)))
+    pub failed : {n : Refusal} → Err n ≡ number_of f at (decode (drop at file)) → read_ward file ≡ bad n
+    failed x = so.same ∙ ap (prepend (take count numbers)) (refused (decode (drop at file)) refl x)
 
-  module _ (e : wanted g ≡ Nothing) where
-    pub extra : at < length file → refused_of (numbered question.end at) ≡ reading_of (read_ward file)
-    unfolding reading_of
-    extra h = sym (ap reading_of (so.same ∙ ap (prepend (take count numbers)) (read_extra g at (drop at file) e (omega (arith, length-drop at file)))))
+  module _ (e : wanted g ≡ None) where
+    pub extra : at < length file → read_ward file ≡ bad (numbered question.end at)
+    extra h = so.same ∙ ap (prepend (take count numbers)) (read_extra g at (drop at file) e (omega (arith, length-drop at file)))
 
-    pub whole :
-        length file ≤ at →
-        yes_with count numbers ≡ reading_of (read_ward file)
+    pub whole : length file ≤ at → Ok (record { numbers = numbers; count = count }) ≡ reading_of (read_ward file)
     unfolding reading_of
-    whole h = sym (ap reading_of (so.same ∙ ap (prepend (take count numbers)) over ∙ ap good (append-nil (take count numbers))) ∙ (λ i. record { answer = Yes; ward = record { numbers = filled i; count = sized i } }))
+    whole h =
+        sym (ap reading_of (so.same ∙ ap (prepend (take count numbers)) over ∙ ap good (append-nil (take count numbers)))
+        ∙ (λ i. Ok (record { numbers = filled i; count = sized i })))
       where
         over : read g at (drop at file) ≡ good []
         over = read_over g at (drop at file) e (omega (arith, length-drop at file))
@@ -127,38 +141,32 @@ module _ (file numbers : List ℕ) (count at : ℕ) (g : Grammar) (so : So file 
 
 -- ---- the answer beside the lent array, and the reading
 
--- only a refused reading says no
-pub no_bad : (x : Read) (n : Refusal) → (reading_of x).answer ≡ No n → x ≡ bad n
-unfolding reading_of refused_of
-no_bad (good ws) n e = let z : ◌≡◌ {A = ℕ} 0 1 = cc in absurd (omega arith)
-no_bad (bad m) n e = ap bad (let q : m ≡ n = cc in q)
-
 module _ (file numbers : List ℕ) where
-  abbrev Lent : Numbered → Type 0
-  Lent r = (r ≡ numbered_of (reading_of (read_ward file))) × ((reading_of (read_ward file)).answer ≡ Yes → numbers ≡ (reading_of (read_ward file)).ward.numbers)
+  abbrev pub Lent : Result ℕ Refusal → Type 0
+  Lent r = (r ≡ count_of (reading_of (read_ward file))) × IfOk (reading_of (read_ward file)) (λ (w : Ward). numbers ≡ w.numbers)
 
-  pub said_no : (n : Refusal) {r : Numbered} → r ≡ numbered_of (refused_of n) → refused_of n ≡ reading_of (read_ward file) → Lent r
-  unfolding refused_of
-  said_no n e q = (
-    e ∙ ap numbered_of q,
-    λ told.
-        let both : No n ≡ Yes = ap (λ (y : Reading). y.answer) q ∙ told in
-        let z : ◌≡◌ {A = ℕ} 0 1 = cc in
-        absurd (omega arith),
+  pub said_no : {n : Refusal} → read_ward file ≡ bad n → Lent (Err n)
+  unfolding reading_of
+  said_no q = (
+    sym (ap (λ (x : Read). count_of (reading_of x)) q),
+    subst (λ (x : Read). IfOk (reading_of x) (λ (w : Ward). numbers ≡ w.numbers)) (sym q) tt,
   )
 
-  pub said_yes : (count : ℕ) → yes_with count numbers ≡ reading_of (read_ward file) → Lent (record { answer = Yes; count = count })
-  said_yes count q = (ap numbered_of q, λ told. ap (λ (y : Reading). y.ward.numbers) q)
+  pub said_yes : {count : ℕ} → Ok (record { numbers = numbers; count = count }) ≡ reading_of (read_ward file) → Lent (Ok count)
+  said_yes q = (ap count_of q, subst (λ (x : Result Ward Refusal). IfOk x (λ (w : Ward). numbers ≡ w.numbers)) q refl)
 
   -- and back
-  pub lent_reading : (r : Numbered) → Lent r → r.answer ≡ Yes → yes_with r.count numbers ≡ reading_of (read_ward file)
-  lent_reading r (e, leaves) told =
-      let said : (reading_of (read_ward file)).answer ≡ Yes = sym (ap (λ (y : Numbered). y.answer) e) ∙ told in
-      λ i. record { answer = sym said i; ward = record { numbers = leaves said i; count = (e i).count } }
+  pub lent_reading : {count : ℕ} → Lent (Ok count) → Ok (record { numbers = numbers; count = count }) ≡ reading_of (read_ward file)
+  lent_reading {count} (e, leaves) = go (reading_of (read_ward file)) e leaves
+    where
+      go : (x : Result Ward Refusal) → Ok count ≡ count_of x → IfOk x (λ (w : Ward). numbers ≡ w.numbers) → Ok (record { numbers = numbers; count = count }) ≡ x
+      go (Ok w) q h = let s : count ≡ w.count = cc in λ i. Ok (record { numbers = h i; count = s i })
+      go (Err n) q h = let z : ◌≡◌ {A = ℕ} 0 1 = cc in absurd (omega arith)
 
-  pub lent_bad : (n : Refusal) (r : Numbered) → Lent r → r.answer ≡ No n → read_ward file ≡ bad n
-  lent_bad n r (e, leaves) told = no_bad (read_ward file) n (sym (ap (λ (y : Numbered). y.answer) e) ∙ told)
-
-  pub lent_refused : (n : Refusal) (r : Numbered) → Lent r → r.answer ≡ No n → refused_of n ≡ reading_of (read_ward file)
-  unfolding reading_of
-  lent_refused n r l told = sym (ap reading_of (lent_bad n r l told))
+pub lent_bad : (file : List ℕ) {n : Refusal} → Err n ≡ count_of (reading_of (read_ward file)) → read_ward file ≡ bad n
+unfolding reading_of
+lent_bad file {n} e = go (read_ward file) e
+  where
+    go : (x : Read) → Err n ≡ count_of (reading_of x) → x ≡ bad n
+    go (good ws) q = let z : ◌≡◌ {A = ℕ} 0 1 = cc in absurd (omega arith)
+    go (bad m) q = let s : m ≡ n = cc in ap bad s

@@ -1,14 +1,15 @@
 -- The body of the numbers that the reader gives with a yes is an accepted ward.
-use Prim.Native.Nat.{ℕ, ◌≤◌, ◌<◌}
+use Prim.Native.Nat.{ℕ, ◌-◌, ◌≤◌, ◌<◌}
 use mathlib.Core.Path.{◌≡◌, refl, sym, ap, ◌∙◌, subst}
-use mathlib.Core.List.{List}
+use mathlib.Core.List.{List, ◌++◌}
 use native.Mathlib.Omega.{arith}
-use lib.ListN.{length, get_or, take, length-append}
+use lib.ListN.{length, get_or, take, replicate, length-append}
 use lib.Seq.{take_at}
-use Rattle.refusals.specs.declared.Answer.TheVariants.{Yes, No}
-use Rattle.ward.specs.declared.Reading.{Reading}
+use Rattle.std.specs.declared.result.Result.TheVariants.{Ok}
+use Rattle.ward.specs.declared.Ward.{Ward}
 use Rattle.layout.specs.Grammar.{Read, good, bad}
-use Rattle.ward.specs.Answers.{refused_of, reading_of, read_ward, check_ward}
+use Rattle.ward.specs.Answers.{reading_of, read_ward, check_ward}
+use Rattle.fields.specs.Sizes.{number_places}
 use Rattle.fields.specs.Fields.{body_of, Accepted}
 use Rattle.codec.proofs.NumberLaws.{all_bytes}
 use Rattle.layout.specs.Layout.{ward}
@@ -25,37 +26,35 @@ pub read_accepted : (file ws : List ℕ) → ((i : ℕ) → get_or file i 0 < 25
 read_accepted file ws bytes e = accepted_ward ws ws (ward_back file ws (all_bytes file bytes) e).1
 
 -- what holds of the numbers of every yes holds of those that the reading counts
-of_reading : (P : List ℕ → Type 0) (file : List ℕ) (r : Reading) → ((ws : List ℕ) → read_ward file ≡ good ws → P ws)
-    → r ≡ reading_of (read_ward file) → r.answer ≡ Yes → P (take r.ward.count r.ward.numbers)
-unfolding reading_of refused_of
-of_reading P file r holds e told = go (read_ward file) refl
+of_reading : (P : List ℕ → Type 0) (file : List ℕ) (w : Ward) → ((ws : List ℕ) → read_ward file ≡ good ws → P ws)
+    → Ok w ≡ reading_of (read_ward file) → P (take w.count w.numbers)
+unfolding reading_of
+of_reading P file w holds e = go (read_ward file) refl e
   where
-    go : (x : Read) → read_ward file ≡ x → P (take r.ward.count r.ward.numbers)
-    go (good ws) q =
-        let same : r ≡ reading_of (good ws) = e ∙ ap reading_of q in
-        let is : take r.ward.count r.ward.numbers ≡ ws = ap (λ (y : Reading). take y.ward.count y.ward.numbers) same ∙ take_at ws _ (length ws) refl in
+    go : (x : Read) → read_ward file ≡ x → Ok w ≡ reading_of x → P (take w.count w.numbers)
+    go (good ws) q same =
+        let r : w ≡ record { numbers = ws ++ replicate (number_places - length ws) 0; count = length ws } = cc in
+        let is : take w.count w.numbers ≡ ws = ap (λ (y : Ward). take y.count y.numbers) r ∙ take_at ws _ (length ws) refl in
         subst P (sym is) (holds ws q)
-    go (bad n) q =
-        let same : r ≡ reading_of (bad n) = e ∙ ap reading_of q in
-        let refused : r.answer ≡ No n = ap (λ (y : Reading). y.answer) same in
-        let z : ◌≡◌ {A = ℕ} 0 1 = cc in
-        absurd (omega arith)
+    go (bad n) q same = let z : ◌≡◌ {A = ℕ} 0 1 = cc in absurd (omega arith)
 
-pub reading_accepted : (file : List ℕ) (r : Reading) → ((i : ℕ) → get_or file i 0 < 256) → r ≡ reading_of (read_ward file) → r.answer ≡ Yes
-    → Accepted (body_of (take r.ward.count r.ward.numbers))
-reading_accepted file r bytes e told = of_reading (λ ws. Accepted (body_of ws)) file r (λ ws q. read_accepted file ws bytes q) e told
+pub reading_accepted : (file : List ℕ) (w : Ward) → ((i : ℕ) → get_or file i 0 < 256) → Ok w ≡ reading_of (read_ward file)
+    → Accepted (body_of (take w.count w.numbers))
+reading_accepted file w bytes e = of_reading (λ ws. Accepted (body_of ws)) file w (λ ws q. read_accepted file ws bytes q) e
 
 -- they are enough to have a body
-pub reading_long : (file : List ℕ) (r : Reading) → ((i : ℕ) → get_or file i 0 < 256) → r ≡ reading_of (read_ward file) → r.answer ≡ Yes
-    → 2 ≤ length (take r.ward.count r.ward.numbers)
-reading_long file r bytes e told =
-    of_reading (λ ws. 2 ≤ length ws) file r (λ ws q. long_ward ws ws (ward_back file ws (all_bytes file bytes) q).1) e told
+pub reading_long : (file : List ℕ) (w : Ward) → ((i : ℕ) → get_or file i 0 < 256) → Ok w ≡ reading_of (read_ward file)
+    → 2 ≤ length (take w.count w.numbers)
+reading_long file w bytes e =
+    of_reading (λ ws. 2 ≤ length ws) file w (λ ws q. long_ward ws ws (ward_back file ws (all_bytes file bytes) q).1) e
 
 -- and the count is one of the array's
-pub reading_fits : (file : List ℕ) (r : Reading) → r ≡ reading_of (read_ward file) → r.ward.count ≤ length r.ward.numbers
-unfolding reading_of refused_of
-reading_fits file r e = subst (λ (y : Reading). y.ward.count ≤ length y.ward.numbers) (sym e) (go (read_ward file))
+pub reading_fits : (file : List ℕ) (w : Ward) → Ok w ≡ reading_of (read_ward file) → w.count ≤ length w.numbers
+unfolding reading_of
+reading_fits file w e = go (read_ward file) e
   where
-    go : (x : Read) → (reading_of x).ward.count ≤ length (reading_of x).ward.numbers
-    go (good ws) = simp length-append (omega arith)
-    go (bad n) = omega arith
+    go : (x : Read) → Ok w ≡ reading_of x → w.count ≤ length w.numbers
+    go (good ws) same =
+        let r : w ≡ record { numbers = ws ++ replicate (number_places - length ws) 0; count = length ws } = cc in
+        subst (λ (y : Ward). y.count ≤ length y.numbers) (sym r) (simp length-append (omega arith))
+    go (bad n) same = let z : ◌≡◌ {A = ℕ} 0 1 = cc in absurd (omega arith)

@@ -1,26 +1,25 @@
 -- What the loop of `questions` keeps, and what each way out of it comes to.
-use Prim.Native.Nat.{ℕ, ◌+◌, ◌-◌, ◌*◌, ◌^◌, ◌≤◌, ◌<◌}
+use Prim.Native.Nat.{ℕ, zero, suc, ◌+◌, ◌-◌, ◌*◌, ◌^◌, ◌≤◌, ◌<◌}
 use mathlib.Core.Path.{◌≡◌, refl, sym, ap, ◌∙◌, subst}
 use mathlib.Core.List.{List, [], ◌∷◌, ◌++◌, append_assoc, append-nil}
 use native.Mathlib.Numerals.{add-one}
 use native.Mathlib.Omega.{arith}
 use lib.ListN.{length, take, drop, get_or, length-append, length-take, length-replicate, drop_of_length-le, get_or-append}
-use lib.Seq.{drop-cons, take-suc, get_or-take, take_all}
+use lib.Seq.{drop-cons, take-suc, get_or-take}
 use Rattle.fields.specs.Sizes.{number_places}
 use Rattle.refusals.specs.declared.Refusal.{Refusal}
 use Rattle.refusals.specs.Refusals.{numbered}
 use Rattle.refusals.specs.Questions as question
 use Rattle.layout.specs.declared.Field.{Field}
 use Rattle.ward.specs.declared.Ward.{Ward}
-use Rattle.ward.specs.declared.Writing.{Writing}
-use Rattle.refusals.specs.declared.Answer.TheVariants.{Yes}
-use Rattle.layout.specs.declared.Want.TheVariants.{Next, Nothing}
+use Rattle.std.specs.declared.result.Result.TheVariants.{Ok, Err}
+use Rattle.std.specs.declared.option.Option.TheVariants.{None, Some}
 use Rattle.codec.specs.Groups.{encode}
 use Rattle.layout.specs.Grammar.{Grammar, failed_by, good, bad, prepend, check, bytes_of}
 use Rattle.layout.specs.CodeWant.{wanted, after, Within, SmallField}
 use Rattle.layout.specs.Layout.{ward}
-use Rattle.ward.specs.Answers.{counted, check_ward, unwritten}
-use Rattle.ward.specs.CodeChecked.{checked_of}
+use Rattle.ward.specs.Answers.{counted, check_ward}
+use Rattle.ward.specs.CodeChecked.{said, checked_of}
 use Rattle.layout.proofs.GrammarLaws.{in_range, small, within_some, within_step, prepend_nil, prepend_more, check_good, check_failed, check_missing, check_ended, check_extra}
 use Rattle.ward.proofs.FitsLaws.{ward_fits}
 use Rattle.codec.proofs.EncodeLaws.{encode_most}
@@ -50,9 +49,6 @@ module _ (w : Ward) (long : length w.numbers ≡ number_places) where
   pub counted_none : (i : ℕ) → w.count ≤ i → drop i (counted w) ≡ []
   counted_none i h = drop_of_length-le (counted w) (subst (λ (n : ℕ). n ≤ i) (sym counted_length) h)
 
-  pub counted_all : (i : ℕ) → w.count ≤ i → take i (counted w) ≡ counted w
-  counted_all i h = take_all i (counted w) (subst (λ (n : ℕ). n ≤ i) (sym counted_length) h)
-
 -- ---- the bytes of numbers
 
 pub bytes_append : (xs ys : List ℕ) → bytes_of (xs ++ ys) ≡ bytes_of xs ++ bytes_of ys
@@ -65,6 +61,11 @@ unfolding bytes_of
 bytes_one x = append-nil (encode x)
 
 -- ---- the loop
+
+-- an answer that is a yes is that of no question
+pub none_said : (q place : ℕ) → Ok tt ≡ said q place → q ≡ 0
+none_said zero place e = refl
+none_said (suc q) place e = let z : ◌≡◌ {A = ℕ} 0 1 = cc in absurd (omega arith)
 
 pub record Walked (w : Ward) (i bytes : ℕ) (g : Grammar) : Type 0 where
   pub long : length w.numbers ≡ number_places
@@ -88,22 +89,30 @@ begin w l = record {
 }
 
 module _ (w : Ward) (i bytes : ℕ) (g : Grammar) (so : Walked w i bytes g) where
-  ended_with : (n : Refusal) → check g i (drop i (counted w)) ≡ bad n → unwritten n ≡ checked_of (check_ward (counted w))
+  ended_with : (n : Refusal) → check g i (drop i (counted w)) ≡ bad n → Err n ≡ checked_of (check_ward (counted w))
   unfolding checked_of
   ended_with n e = sym (ap checked_of (so.same ∙ ap (prepend (take i (counted w))) e))
 
-  module _ (f : Field) (e : wanted g ≡ Next f) where
-    pub missing : w.count ≤ i → unwritten (numbered question.whole i) ≡ checked_of (check_ward (counted w))
+  module _ (f : Field) (e : wanted g ≡ Some f) where
+    pub missing : w.count ≤ i → Err (numbered question.whole i) ≡ checked_of (check_ward (counted w))
     missing h = ended_with (numbered question.whole i) (ap (check g i) (counted_none w so.long i h) ∙ check_missing g f i e)
 
     pub room_here : i < number_places
     room_here = let s = within_some (number_places - i) g so.room e in omega arith
 
     module _ (h : i < w.count) where
-      pub failed :
-          (failed_by f (get_or w.numbers i 0) ≡ 0 → ⊥) →
-          unwritten (numbered (failed_by f (get_or w.numbers i 0)) i) ≡ checked_of (check_ward (counted w))
-      failed n = ended_with (numbered (failed_by f (get_or w.numbers i 0)) i) (ap (check g i) (counted_next w so.long i h room_here) ∙ check_failed g f i e _ _ n)
+      pub failed : {n : Refusal} → Err n ≡ said (failed_by f (get_or w.numbers i 0)) i → Err n ≡ checked_of (check_ward (counted w))
+      failed {n} x = go (failed_by f (get_or w.numbers i 0)) refl x
+        where
+          go : (q : ℕ) → failed_by f (get_or w.numbers i 0) ≡ q → Err n ≡ said q i → Err n ≡ checked_of (check_ward (counted w))
+          go zero z y = let c : ◌≡◌ {A = ℕ} 0 1 = cc in absurd (omega arith)
+          go (suc q) z y =
+              let s : numbered (suc q) i ≡ n = cc in
+              ended_with n
+              (ap (check g i) (counted_next w so.long i h room_here)
+              ∙ check_failed g f i e _ _ (λ p. absurd (omega (arith, z, p)))
+              ∙ ap (λ (k : ℕ). bad (numbered k i)) z
+              ∙ ap bad s)
 
       module _ (a : failed_by f (get_or w.numbers i 0) ≡ 0) where
         pub below : get_or w.numbers i 0 < 2 ^ 49
@@ -139,12 +148,12 @@ module _ (w : Ward) (i bytes : ℕ) (g : Grammar) (so : Walked w i bytes g) wher
                 ≡ prepend (take (i + 1) (counted w)) (check (after g (get_or w.numbers i 0)) (i + 1) (drop (i + 1) (counted w)))
             onward = prepend_more (take i (counted w)) (get_or w.numbers i 0 ∷ []) (check (after g (get_or w.numbers i 0)) (i + 1) (drop (i + 1) (counted w))) ∙ rw (← front)
 
-  module _ (e : wanted g ≡ Nothing) where
-    pub extra : i < w.count → unwritten (numbered question.end i) ≡ checked_of (check_ward (counted w))
+  module _ (e : wanted g ≡ None) where
+    pub extra : i < w.count → Err (numbered question.end i) ≡ checked_of (check_ward (counted w))
     extra h = ended_with (numbered question.end i) (ap (check g i) (drop-cons (counted w) i 0 (subst (λ (n : ℕ). i < n) (sym (counted_length w so.long)) h)) ∙ check_extra g i _ _ e)
 
-    pub whole : w.count ≤ i → ◌≡◌ {A = Writing} (record { answer = Yes; bytes = bytes }) (checked_of (check_ward (counted w)))
+    pub whole : w.count ≤ i → Ok bytes ≡ checked_of (check_ward (counted w))
     unfolding checked_of
     whole h =
         sym (ap checked_of (so.same ∙ ap (prepend (take i (counted w))) (ap (check g i) (counted_none w so.long i h) ∙ check_ended g i e) ∙ ap good (append-nil (take i (counted w))))
-        ∙ (λ j. record { answer = Yes; bytes = sym so.sum j }))
+        ∙ ap Ok (sym so.sum))

@@ -1,30 +1,24 @@
 -- What the calls answer.
 use Rattle.std.specs.Prelude.{ℕ, ◌-◌, cond, List, ◌++◌, length, take, drop, replicate, ltb}
+use Rattle.std.specs.declared.result.Result.{Result}
+use Rattle.std.specs.declared.result.Result.TheVariants.{Ok, Err}
 use Rattle.fields.specs.Sizes.{number_places}
 use Rattle.refusals.specs.declared.Refusal.{Refusal}
-use Rattle.refusals.specs.declared.Answer.TheVariants.{Yes, No}
 use Rattle.refusals.specs.Refusals.{numbered}
 use Rattle.refusals.specs.Questions as question
-use Rattle.ward.specs.declared.Reading.{Reading}
-use Rattle.ward.specs.declared.Numbered.{Numbered}
 use Rattle.ward.specs.declared.Ward.{Ward}
-use Rattle.ward.specs.declared.Writing.{Writing}
 use Rattle.layout.specs.Grammar.{Read, good, bad, read, check, bytes_of}
 use Rattle.layout.specs.Layout.{ward}
 
-unfoldable pub refused_of : Refusal → Reading
-refused_of n = record { answer = No n; ward = record { numbers = replicate number_places 0; count = 0 } }
-
 -- the numbers in file order, 0 in the places after them
-unfoldable pub reading_of : Read → Reading
-unfolding refused_of
-reading_of (good ws) =
-    record { answer = Yes; ward = record { numbers = ws ++ replicate (number_places - length ws) 0; count = length ws } }
-reading_of (bad n) = refused_of n
+unfoldable pub reading_of : Read → Result Ward Refusal
+reading_of (good ws) = Ok (record { numbers = ws ++ replicate (number_places - length ws) 0; count = length ws })
+reading_of (bad n) = Err n
 
 -- a reading without its array
-abbrev pub numbered_of : Reading → Numbered
-numbered_of r = record { answer = r.answer; count = r.ward.count }
+abbrev pub count_of : Result Ward Refusal → Result ℕ Refusal
+count_of (Ok w) = Ok w.count
+count_of (Err n) = Err n
 
 unfoldable pub read_ward : List ℕ → Read
 unfolding read ward
@@ -40,15 +34,11 @@ unfoldable pub check_ward : List ℕ → Read
 unfolding check ward
 check_ward ws = check ward 0 ws
 
-abbrev pub unwritten : Refusal → Writing
-unwritten n = record { answer = No n; bytes = 0 }
-
 -- what the writer answers where the buffer has this many places, and what it leaves there
-unfoldable pub writing_of : ℕ → Read → Writing
+unfoldable pub writing_of : ℕ → Read → Result ℕ Refusal
 unfolding bytes_of
-writing_of room (good ws) =
-    cond (ltb room (length (bytes_of ws))) (unwritten (numbered question.bytes 0)) (record { answer = Yes; bytes = length (bytes_of ws) })
-writing_of room (bad n) = unwritten n
+writing_of room (good ws) = cond (ltb room (length (bytes_of ws))) (Err (numbered question.bytes 0)) (Ok (length (bytes_of ws)))
+writing_of room (bad n) = Err n
 
 unfoldable pub left_of : List ℕ → Read → List ℕ
 unfolding bytes_of

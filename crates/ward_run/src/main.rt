@@ -1,148 +1,121 @@
 // Reads a ward file from standard input, and damaged copies of it, and prints what the reader and the writer say.
 #![tactic(auto)]
 
-use refusals::Answer;
-use std::io;
+use refusals::Refusal;
 use std::io::{Read, Write};
+use std::{fmt, io};
+use ward::Ward;
 
 // A longer file is read up to here.
 const INPUT_MOST: u64 = 4096;
 
 // How often each question refused, yes as 0, and the sum of the places.
-#[derive(Clone, Copy)]
+#[derive(Clone, Copy, Default)]
 pub struct Tally {
     pub counts: [u64; 8],
     pub places: u64,
 }
 
-fn more(t: Tally, question: u32, place: u64) -> Tally {
-    let q = (question % 8) as usize;
-    let mut next = t;
-    next.counts[q] = t.counts[q].wrapping_add(1);
-    next.places = t.places.wrapping_add(place);
-    next
-}
+impl Tally {
+    // Counts an answer: what refused, or none.
+    fn add(&mut self, refused: Option<Refusal>) {
+        let (question, place) = match refused {
+            Some(refusal) => (refusal.question(), refusal.place()),
+            None => (0, 0),
+        };
+        let q = (question % 8) as usize;
+        self.counts[q] = self.counts[q].wrapping_add(1);
+        self.places = self.places.wrapping_add(place as u64);
+    }
 
-fn wide(x: usize) -> u64 {
-    x as u64
-}
-
-fn told(t: Tally, answer: Answer) -> Tally {
-    match answer {
-        Answer::Yes => more(t, 0, 0),
-        Answer::No(n) => more(t, n.question, wide(n.place)),
+    fn read(&mut self, file: &[u8]) {
+        self.add(ward::read(file).err());
     }
 }
 
-fn read_once(t: Tally, file: &[u8]) -> Tally {
-    let r = ward::read(file);
-    let answer = r.answer;
-    told(t, answer)
+impl fmt::Display for Tally {
+    fn fmt<W: fmt::Write>(&self, f: &mut fmt::Formatter<W>) -> fmt::Result {
+        for count in &self.counts {
+            write!(f, " {count}")?;
+        }
+        write!(f, " places {}", self.places)
+    }
 }
 
-fn empty() -> Tally {
-    Tally {
-        counts: [0; 8],
-        places: 0,
-    }
+// The file as it is.
+fn whole(file: &[u8]) -> Tally {
+    let mut tally = Tally::default();
+    tally.read(file);
+    tally
 }
 
 // The file cut after each of its bytes.
 fn cuts(file: &[u8]) -> Tally {
-    let mut t = empty();
-    for i in 0..file.len() {
-        t = read_once(t, &file[..i]);
+    let mut tally = Tally::default();
+    for end in 0..file.len() {
+        tally.read(&file[..end]);
     }
-    t
+    tally
 }
 
-// Each byte of the file replaced by the given one.
+// Each byte of the file replaced by the given one. The whole file is read with each, so no iterator holds the byte.
 fn replaced(file: &mut [u8], byte: u8) -> Tally {
-    let mut t = empty();
+    let mut tally = Tally::default();
     for i in 0..file.len() {
         let old = file[i];
         file[i] = byte;
-        t = read_once(t, file);
+        tally.read(file);
         file[i] = old;
     }
-    t
+    tally
 }
 
-// How many of the bytes are the given one.
-fn count_of(bytes: &[u8], byte: u8) -> u64 {
-    let mut n: u64 = 0;
-    for i in 0..bytes.len() {
-        if bytes[i] == byte {
-            n = n.wrapping_add(1);
-        }
-    }
-    n
+// The ward of a file, or one of no numbers where it is refused.
+fn ward_of(file: &[u8]) -> Ward {
+    ward::read(file).unwrap_or_default()
 }
 
-// The ward written into the first k places of the buffer.
-fn write_part(file: &[u8], buf: &mut [u8], k: usize) -> Answer {
-    let r = ward::read(file);
-    let w = r.ward;
+// What refuses the ward in the first k places of the buffer.
+fn write_part(file: &[u8], buf: &mut [u8], k: usize) -> Option<Refusal> {
     if k > buf.len() {
-        return Answer::Yes;
+        return None;
     }
-    let said = ward::write(w, &mut buf[..k]);
-    said.answer
+    ward::write(ward_of(file), &mut buf[..k]).err()
 }
 
 // The same with marked bytes in the buffer: the answer, and how many are still marked.
 fn written(file: &[u8], k: usize) -> Tally {
     let mut buf = [170u8; 4200];
-    let answer = write_part(file, &mut buf, k);
-    let mut t = told(empty(), answer);
-    t.places = count_of(&buf, 170);
-    t
+    let mut tally = Tally::default();
+    tally.add(write_part(file, &mut buf, k));
+    tally.places = buf.iter().filter(|byte| **byte == 170).count() as u64;
+    tally
 }
 
 // How many bytes of the ward, written out, equal the file's.
-fn same(file: &[u8]) -> u64 {
+fn same(ward: Ward, file: &[u8]) -> usize {
     let mut buf = [0u8; 4200];
-    let r = ward::read(file);
-    let w = r.ward;
-    ward::write(w, &mut buf);
-    let mut n: u64 = 0;
-    for i in 0..file.len() {
-        if i < 4200 {
-            if buf[i] == file[i] {
-                n = n.wrapping_add(1);
-            }
-        }
-    }
-    n
-}
-
-fn show<W: Write>(out: &mut W, name: &str, t: Tally) -> io::Result<()> {
-    write!(out, "{name}")?;
-    for q in 0..8 {
-        let count = t.counts[q];
-        write!(out, " {count}")?;
-    }
-    let places = t.places;
-    writeln!(out, " places {places}")
+    // A refusal leaves the buffer as it is, and its zeros are compared.
+    let _ = ward::write(ward, &mut buf);
+    buf.iter().zip(file.iter()).filter(|(a, b)| a == b).count()
 }
 
 fn show_count<W: Write>(out: &mut W, file: &[u8]) -> io::Result<()> {
-    let r = ward::read(file);
-    let w = r.ward;
-    let count = w.count;
-    let n = same(file);
-    writeln!(out, "numbers {count} same bytes {n}")
+    let ward = ward_of(file);
+    writeln!(
+        out,
+        "numbers {} same bytes {}",
+        ward.count,
+        same(ward, file)
+    )
 }
 
 const DAMAGE: [u8; 5] = [0, 3, 127, 128, 255];
 
 // Each byte of the file replaced by each of a few.
 fn show_damaged<W: Write>(out: &mut W, file: &mut [u8]) -> io::Result<()> {
-    for k in 0..5 {
-        let byte = DAMAGE[k];
-        write!(out, "{byte}")?;
-        let t = replaced(file, byte);
-        show(out, " for each byte", t)?;
+    for byte in &DAMAGE {
+        writeln!(out, "{byte} for each byte{}", replaced(file, *byte))?;
     }
     Ok(())
 }
@@ -150,26 +123,22 @@ fn show_damaged<W: Write>(out: &mut W, file: &mut [u8]) -> io::Result<()> {
 // The file whole, cut, and written out again.
 fn show_whole<W: Write>(out: &mut W, file: &[u8]) -> io::Result<()> {
     show_count(out, file)?;
-    show(out, "whole", read_once(empty(), file))?;
-    show(out, "cut", cuts(file))?;
+    writeln!(out, "whole{}", whole(file))?;
+    writeln!(out, "cut{}", cuts(file))?;
     let n = file.len();
-    show(out, "room", written(file, n))?;
+    writeln!(out, "room{}", written(file, n))?;
     if n > 0 {
-        show(out, "no room", written(file, n - 1))?;
+        writeln!(out, "no room{}", written(file, n - 1))?;
     }
     Ok(())
 }
 
-// The file with a byte after its last number.
-fn show_extended<W: Write>(out: &mut W, file: &[u8]) -> io::Result<()> {
-    show(out, "one more byte", read_once(empty(), file))
-}
-
 fn show_all<W: Write>(out: &mut W, input: &mut Vec<u8>) -> io::Result<()> {
     let n = input.len();
-    if wide(n) < INPUT_MOST {
+    if (n as u64) < INPUT_MOST {
+        // A byte after the last number.
         input.push(0)?;
-        show_extended(out, input)?;
+        writeln!(out, "one more byte{}", whole(input))?;
         input.truncate(n);
     }
     show_whole(out, input)?;

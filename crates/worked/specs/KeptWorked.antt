@@ -1,12 +1,12 @@
 -- What the definitions come to where advances go on past zero and records are kept and brought back (document 02, job 3), computed by the prover.
-use Rattle.std.specs.Prelude.{ℕ, ◌≡◌, refl, true, false, List, [], ◌∷◌, map, replicate}
+use Rattle.std.specs.Prelude.{ℕ, ◌≡◌, refl, true, List, [], ◌∷◌, map, replicate}
 use Rattle.std.proofs.Math.Option.{none}
 use Rattle.numbers.specs.Range.{up_from, filter, all, any_of}
 use Rattle.numbers.specs.Sum.{sum_to}
 use Rattle.numbers.specs.Digits.{number_of}
 use Rattle.numbers.specs.Patterns.{pattern, unpaired, days_of, pair_of}
 use Rattle.codec.specs.Groups.{encode, decode}
-use Rattle.layout.specs.Grammar.{good, read, check, failed_by, bytes_of}
+use Rattle.layout.specs.Grammar.{read, check, failed_by, bytes_of}
 use Rattle.ward.specs.Answers.{read_ward}
 use Rattle.fields.specs.Fields.{block_at, block, groups_at, member_sets, needs_at, needs, tail_at, body_of}
 use Rattle.fields.specs.Worked.{worked_ward}

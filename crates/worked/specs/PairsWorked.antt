@@ -26,7 +26,8 @@ use Rattle.history.specs.Phase.{Step, ended, end_zero, end_asked, end_none, run,
 use Rattle.history.specs.History.{penalty, allowed, next, extend, reply, advance}
 use Rattle.history.specs.Session.{advanced, act, answers, session}
 use Rattle.phases.specs.Phases.{night_phase, day_phase, night_of, nights_open, common_fits, lists_fit}
-use Rattle.outcomes.specs.declared.Checked.TheVariants.{Passed, Broken}
+use Rattle.std.specs.declared.result.Result.TheVariants.{Ok}
+use Rattle.outcomes.specs.declared.Verdict.TheVariants.{Passed, Broken}
 use Rattle.planner.specs.Answers.{check_letters, check_over, check_says}
 use Rattle.worked.specs.Worked.{call, answers_to, history_of, ones, after, refuses}
 
@@ -82,9 +83,9 @@ pub record PairsWorked : Type 0 where
   pub unpaired_penalty : night_penalty pairs_ward (λ i. some (night_of (map unpaired (1 ∷ 0 ∷ [])) i)) ≡ 0
   pub not_hers : answers_to (day_phase pairs_ward (night_of (map unpaired (1 ∷ 0 ∷ [])))) (call 1 5 ∷ []) ≡ map advanced (refuses 8 0 ∷ [])
   -- the check: the roster; Nn/- and --//, where nurse 1 has no pair at rest, which is fine in the same ward without pairs
-  pub roster_checked : check_says pairs_file roster ≡ Passed
-  pub no_pair_at_rest : check_says pairs_file (78 ∷ 110 ∷ 47 ∷ 45 ∷ 45 ∷ 45 ∷ 47 ∷ 47 ∷ []) ≡ Broken
-  pub fine_without : check_says (body_of to_pairs) (78 ∷ 110 ∷ 47 ∷ 45 ∷ 45 ∷ 45 ∷ 47 ∷ 47 ∷ []) ≡ Passed
+  pub roster_checked : check_says pairs_file roster ≡ Ok Passed
+  pub no_pair_at_rest : check_says pairs_file (78 ∷ 110 ∷ 47 ∷ 45 ∷ 45 ∷ 45 ∷ 47 ∷ 47 ∷ []) ≡ Ok Broken
+  pub fine_without : check_says (body_of to_pairs) (78 ∷ 110 ∷ 47 ∷ 45 ∷ 45 ∷ 45 ∷ 47 ∷ 47 ∷ []) ≡ Ok Passed
   -- night pattern and pair together are in use, given up and least: the same nights with another pair are another pattern
   pub together : history_of (night_phase one_nurse) (call 5 5 ∷ []) ≡ did 0 0 2 ∷ did 0 0 1 ∷ did 0 8 1 ∷ did 0 0 2 ∷ did 0 0 1 ∷ []
   pub together_answers : answers_to (night_phase one_nurse) (ones 5 5) ≡ map advanced (after 2 ∷ after 2 ∷ after 3 ∷ after 2 ∷ after 2 ∷ [])

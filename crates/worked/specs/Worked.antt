@@ -30,8 +30,11 @@ use Rattle.removals.specs.Removals.{no_removal}
 use Rattle.search.specs.Stored.{view, store, all_zero, unused_zero, sound_stored, refusal_stored, reply_stored, advance_stored}
 use Rattle.phases.specs.Phases.{night_phase, day_phase, night_of, nights_open, common_fits, lists_fit}
 use Rattle.planner.specs.Advances.{advance_over, advance_nights, advance_days}
-use Rattle.outcomes.specs.declared.Checked.{Checked}
-use Rattle.outcomes.specs.declared.Checked.TheVariants.{Refused, Passed, Broken}
+use Rattle.std.specs.declared.result.Result.{Result}
+use Rattle.std.specs.declared.result.Result.TheVariants.{Ok, Err}
+use Rattle.refusals.specs.declared.Refusal.{Refusal}
+use Rattle.outcomes.specs.declared.Verdict.{Verdict}
+use Rattle.outcomes.specs.declared.Verdict.TheVariants.{Passed, Broken}
 use Rattle.planner.specs.Answers.{check_letters, check_over, check_says}
 
 -- an advance of up to k steps with n places
@@ -60,8 +63,8 @@ after penalty = ended end_asked 1 penalty []
 abbrev pub refuses : ℕ → ℕ → Answer
 refuses q p = refused (numbered q p)
 
-abbrev check_refuses : ℕ → ℕ → Checked
-check_refuses q p = Refused (numbered q p)
+abbrev check_refuses : ℕ → ℕ → Result Verdict Refusal
+check_refuses q p = Err (numbered q p)
 
 -- ---- the ward worked through in document 01
 
@@ -100,12 +103,12 @@ pub record WorkedThrough : Type 0 where
       ≡ map advanced (ended end_asked 0 20000002 [] ∷ ended end_asked 1 10000000 [] ∷ refuses 9 2 ∷ ended end_zero 1 0 roster ∷ [])
   pub day_steps : history_of (day_phase worked_ward (night_of nights)) (call 9 5 ∷ []) ≡ did 0 0 ∷ did 1 3 ∷ []
   -- the check of the roster; with a letter of none of the five after the six; with a letter too few
-  pub roster_checked : check_says worked_ward roster ≡ Passed
+  pub roster_checked : check_says worked_ward roster ≡ Ok Passed
   pub extra_letter : check_says worked_ward (78 ∷ 110 ∷ 47 ∷ 45 ∷ 45 ∷ 47 ∷ 47 ∷ 48 ∷ []) ≡ check_refuses 12 7
   pub letter_missing : check_says worked_ward (78 ∷ 110 ∷ 47 ∷ 45 ∷ 45 ∷ []) ≡ check_refuses 12 5
   -- day 2 of nurse 2 a rest: the day need of day 2 is not met; day 3 of nurse 1 other duty: her row follows from no patterns
-  pub need_unmet : check_says worked_ward (78 ∷ 110 ∷ 47 ∷ 45 ∷ 47 ∷ 47 ∷ []) ≡ Broken
-  pub row_unfollowed : check_says worked_ward (78 ∷ 110 ∷ 43 ∷ 45 ∷ 45 ∷ 47 ∷ []) ≡ Broken
+  pub need_unmet : check_says worked_ward (78 ∷ 110 ∷ 47 ∷ 45 ∷ 47 ∷ 47 ∷ []) ≡ Ok Broken
+  pub row_unfollowed : check_says worked_ward (78 ∷ 110 ∷ 43 ∷ 45 ∷ 45 ∷ 47 ∷ []) ≡ Ok Broken
 
 pub worked_through : WorkedThrough
 unfolding worked_ward encode decode read check failed_by bytes_of read_ward check_ward night_phase day_phase nights_open common_fits lists_fit first_over up_to act answers session advance reply extend run refusal given next penalty allowed advance_over advance_stored refusal_stored reply_stored sound_stored unused_zero view store record_of proceed reply_of best total may_take stepped sound common night_list hers in_common starts follow shifted through last_run marks_allow sum_to number_of filter all up_from block_at block groups_at member_sets needs_at needs tail_at body_of pattern days_of pair_of pair_numbers in_pair at_rest_on pair_fits free_on own_pattern with_pairs pattern_list row_state available_on duty_on on_duty members short_on over_on unplaced_in night_parts night_penalty day_parts day_penalty day_list day_rule choice row_duty same any_of free_of windows_hold rests letters row_letters_of letter is_letter first_bad misplaced check_letters check_over holds rows_hold row_holds letters_in same_row days_hold day_holds duty_holds group_holds lettered
@@ -206,19 +209,19 @@ pub record SecondWorked : Type 0 where
   pub redated_steps : history_of (day_phase redated_ward (night_of second_nights)) (call 100 11 ∷ []) ≡ did 2 2 ∷ did 0 24 ∷ did 1 4 ∷ did 0 8 ∷ did 2 18 ∷ []
   pub redated_stored : (in_turn (advance_days redated_ward second_nights) (call 100 11 ∷ []) all_zero).0 ≡ ended end_zero 5 0 second_roster ∷ []
   -- the check of the roster
-  pub roster_checked : check_says redated_ward second_roster ≡ Passed
+  pub roster_checked : check_says redated_ward second_roster ≡ Ok Passed
   -- One rule is broken in each. Nurse 1: three days running; a start under her mark 5.
-  pub days_running : check_says redated_ward (set second_roster 5 45) ≡ Broken
-  pub against_mark_5 : check_says redated_ward (set second_roster 5 78) ≡ Broken
+  pub days_running : check_says redated_ward (set second_roster 5 45) ≡ Ok Broken
+  pub against_mark_5 : check_says redated_ward (set second_roster 5 78) ≡ Ok Broken
   -- nurse 3: two days and other duty running, which D 3 would allow; a rest too many where she may have 2
-  pub other_running : check_says redated_ward (set second_roster 14 45) ≡ Broken
-  pub other_allowed : check_says (set redated_ward 9 3) (set second_roster 14 45) ≡ Passed
-  pub rest_too_many : check_says second_ward second_roster ≡ Broken
+  pub other_running : check_says redated_ward (set second_roster 14 45) ≡ Ok Broken
+  pub other_allowed : check_says (set redated_ward 9 3) (set second_roster 14 45) ≡ Ok Passed
+  pub rest_too_many : check_says second_ward second_roster ≡ Ok Broken
   -- nurse 2: a rest under her mark 2, where D 3 lets nurse 3 meet the day's need
-  pub against_mark_2 : check_says (set redated_ward 9 3) (set (set second_roster 14 45) 8 47) ≡ Broken
+  pub against_mark_2 : check_says (set redated_ward 9 3) (set (set second_roster 14 45) 8 47) ≡ Ok Broken
   -- day 5: the day need, and the group's high by day
-  pub need_unmet : check_says redated_ward (set second_roster 4 47) ≡ Broken
-  pub above_high : check_says redated_ward (set second_roster 16 45) ≡ Broken
+  pub need_unmet : check_says redated_ward (set second_roster 4 47) ≡ Ok Broken
+  pub above_high : check_says redated_ward (set second_roster 16 45) ≡ Ok Broken
 
 pub second_worked : SecondWorked
 unfolding second_ward encode decode read check failed_by bytes_of read_ward check_ward night_phase day_phase nights_open common_fits lists_fit first_over up_to act answers session advance reply extend run refusal given next penalty allowed advance_over advance_stored refusal_stored reply_stored sound_stored unused_zero view store record_of proceed reply_of best total may_take stepped sound common night_list hers in_common starts follow shifted through last_run marks_allow sum_to number_of filter all up_from block_at block groups_at member_sets needs_at needs tail_at body_of pattern days_of pair_of pair_numbers in_pair at_rest_on pair_fits free_on own_pattern with_pairs pattern_list row_state available_on duty_on on_duty members short_on over_on unplaced_in night_parts night_penalty day_parts day_penalty day_list day_rule choice row_duty same any_of free_of windows_hold rests letters row_letters_of letter is_letter first_bad misplaced check_letters check_over holds rows_hold row_holds letters_in same_row days_hold day_holds duty_holds group_holds lettered

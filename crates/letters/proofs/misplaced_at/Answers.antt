@@ -1,11 +1,13 @@
-use Rattle.letters.proofs.LetterLaws.{place_bad, place_none, place_count}
+use Rattle.std.proofs.Common.{◌≡◌, ap, sym, ◌∙◌}
+use Rattle.std.proofs.Math.Option.{none}
+use borrow.Author.Tests.{ne_eqb}
+use Rattle.letters.specs.Letters.{first_bad, misplaced}
+use Rattle.letters.specs.CodeLetters.{found_of}
+use Rattle.letters.proofs.LetterLaws.{found_at}
 use Rattle.letters.proofs.misplaced_at.Goals as goal
 
-pub returns-then-bad-roster : goal.returns-then-bad-roster
-returns-then-bad-roster c = place_bad c.args.size c.args.roster.now c.first_bad-bad.ensures c.if-bad-roster.true
-
-pub returns-then-bad-size : goal.returns-then-bad-size
-returns-then-bad-size c = place_none c.args.size c.args.roster.now c.first_bad-bad.ensures c.if-bad-roster.false c.if-bad-size.true
-
-pub returns : goal.returns
-returns c = place_count c.args.size c.args.roster.now c.first_bad-bad.ensures c.if-bad-roster.false c.if-bad-size.false
+pub returns-in-None : goal.returns-in-None
+unfolding misplaced
+returns-in-None c =
+    let e : first_bad 0 c.args.roster.now ≡ none = sym (found_at c.args.roster.now) ∙ ap found_of (sym c.first_bad.ensures ∙ c.in-None.is) in
+    rw (e, ne_eqb _ _ c.if-roster-size.true)

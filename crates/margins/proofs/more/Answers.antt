@@ -1,9 +1,18 @@
-use Rattle.std.proofs.Common.{arith}
-use Rattle.margins.proofs.MarginLaws.{step}
+use Rattle.std.proofs.Common.{arith, inl, inr, ◌+◌}
+use Rattle.margins.proofs.MarginLaws.{IfLess, step}
+use Rattle.margins.proofs.more.Goals.{then-bounds-count, else-bounds-count, then-count-bounds, else-count-bounds}
 use Rattle.margins.proofs.more.Goals as goal
 
 pub returns : goal.returns
 returns c =
     let a = c.args in
-    let stepped = step a.wt a.low a.high a.count c.requires.0 c.if_less-short.ensures c.if_less-over.ensures in
+    let short : IfLess a.count a.bounds.low a.wt.u c.if-count-bounds.short = elim c.if-count-bounds.branch [
+      | then-count-bounds w ↦ inl (w.if-count-bounds.true, w.short-is)
+      | else-count-bounds w ↦ inr (w.if-count-bounds.false, w.short-is)
+    ] in
+    let over : IfLess a.bounds.high (a.count + 1) a.wt.v c.if-bounds-count.over = elim c.if-bounds-count.branch [
+      | then-bounds-count w ↦ inl (w.if-bounds-count.true, w.over-is)
+      | else-bounds-count w ↦ inr (w.if-bounds-count.false, w.over-is)
+    ] in
+    let stepped = step a.wt a.bounds.low a.bounds.high a.count c.requires.0 short over in
     (omega (arith, stepped), omega (arith, stepped))

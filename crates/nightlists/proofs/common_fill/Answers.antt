@@ -1,20 +1,22 @@
-use Rattle.std.proofs.Common.{◌≡◌, refl}
+use Rattle.std.proofs.Common.{◌≡◌, ◌++◌, refl, arith, rules, length, drop}
 use Rattle.nights.specs.Nights.{common}
 use Rattle.nightlists.specs.CodeWalk.{listed}
 use Rattle.nightlists.proofs.CommonLaws.{walk_from}
+use Rattle.nightlists.proofs.ListingLaws.{all_written}
 use Rattle.nightlists.proofs.common_fill.Goals as goal
 
-pub fill-requires-clause-s_in_bounds : goal.fill-requires-clause-s_in_bounds
-fill-requires-clause-s_in_bounds c =
-    let is : listed c.walk_by-k.result.rules c.args.n 0 c.fresh.result ≡ common c.args.r c.args.n = walk_from c.args.r c.args.n c.requires.small_rules.longest c.walk_by-k.ensures.rules refl c.fresh.ensures in
-    rw is c.requires.n_in_bounds
+pub walk-requires-clause-room : goal.walk-requires-clause-room
+walk-requires-clause-room c =
+    let is : listed c.walk_by-k.result.rules c.args.n 0 c.default.result ≡ common c.args.r c.args.n = walk_from c.args.r c.args.n c.requires.small_rules.longest c.default.result c.walk_by-k.ensures.rules refl c.default.ensures in
+    rw is (omega (arith, c.requires.n_in_bounds))
 
 pub returns-clause-value : goal.returns-clause-value
 returns-clause-value c =
-    let is : listed c.walk_by-k.result.rules c.args.n 0 c.fresh.result ≡ common c.args.r c.args.n = walk_from c.args.r c.args.n c.requires.small_rules.longest c.walk_by-k.ensures.rules refl c.fresh.ensures in
-    rw (← is) c.fill.ensures.value
+    let is : listed c.walk_by-k.result.rules c.args.n 0 c.default.result ≡ common c.args.r c.args.n = walk_from c.args.r c.args.n c.requires.small_rules.longest c.default.result c.walk_by-k.ensures.rules refl c.default.ensures in
+    rw (← is) (omega (arith, c.walk.ensures.there.count))
 
 pub returns-clause-buf_after : goal.returns-clause-buf_after
 returns-clause-buf_after c =
-    let is : listed c.walk_by-k.result.rules c.args.n 0 c.fresh.result ≡ common c.args.r c.args.n = walk_from c.args.r c.args.n c.requires.small_rules.longest c.walk_by-k.ensures.rules refl c.fresh.ensures in
-    rw (← is) c.fill.ensures.buf_after
+    let is : listed c.walk_by-k.result.rules c.args.n 0 c.default.result ≡ common c.args.r c.args.n = walk_from c.args.r c.args.n c.requires.small_rules.longest c.default.result c.walk_by-k.ensures.rules refl c.default.ensures in
+    let e : c.walk.new.list.buf.now ≡ common c.args.r c.args.n ++ drop (length (common c.args.r c.args.n)) c.args.buf.now = rw (← is) (all_written _ c.walk.ensures.there) in
+    rw (← e) (search rules)

@@ -3,44 +3,40 @@ use Rattle.nights.specs.Nights.{follow}
 use Rattle.nights.specs.Hers.{shifted}
 use Rattle.nights.proofs.HersLaws.{left_all, follow_yes, follow_no, follow_done}
 use Rattle.nights.proofs.keeps.Goals as goal
-use Rattle.nights.proofs.keeps.Goals.{then-has_bit+then-is_allowed, else-has_bit}
+use Rattle.nights.proofs.keeps.Goals.{then-has+else-not-allows, else-has}
 
 pub loop-day-init : goal.loop-day-init
 loop-day-init c =
     let s = c.args in
-    (omega arith, omega arith, omega arith, ap (λ (l : List ℕ). follow s.r s.from.prev s.from.run (shifted s.off l)) (sym (left_all s.p s.n)))
+    (omega arith, omega arith, ap (λ (l : List ℕ). follow s.r s.from.prev s.from.run (shifted s.off l)) (sym (left_all s.p s.n)))
 
-pub returns-else-is_allowed : goal.returns-else-is_allowed
-returns-else-is_allowed c =
+pub returns-then-not-allows : goal.returns-then-not-allows
+returns-then-not-allows c =
     let s = c.args in
     let l = c.loop-day in
-    sym (l.invariant.3
-    ∙ follow_yes s.r l.prev l.run s.off s.p s.n l.day c.loop-day-test.true (sym c.has_bit.ensures ∙ c.if-has_bit.true)
-    ∙ rw (sym c.is_allowed.ensures ∙ c.if-is_allowed.false))
+    sym (l.invariant.2
+    ∙ follow_yes s.r l.last.prev l.last.run s.off s.p s.n l.day c.loop-day-test.true (sym c.has.ensures ∙ c.if-has.true)
+    ∙ rw (sym c.allows.ensures ∙ c.if-not-allows.true))
 
 pub loop-day-preserved : goal.loop-day-preserved
 loop-day-preserved c =
     let s = c.args in
     let l = c.loop-day in
-    elim c.if-has_bit.branch [
-      | then-has_bit+then-is_allowed w ↦ (
-        omega arith,
-        omega (arith, w.prev-is),
-        omega (arith, w.run-is, w.run_with-run.ensures.upper_bound),
-        rw (w.prev-is, w.run-is, w.run_with-run.ensures.value) (l.invariant.3
-            ∙ follow_yes s.r l.prev l.run s.off s.p s.n l.day c.loop-day-test.true (sym c.has_bit.ensures ∙ w.if-has_bit.true)
-            ∙ rw (sym w.is_allowed.ensures ∙ w.if-is_allowed.true)),
-      )
-      | else-has_bit w ↦ (
-        omega arith,
-        omega (arith, w.prev-is),
-        omega (arith, w.run-is),
-        rw (w.prev-is, w.run-is) (l.invariant.3 ∙ follow_no s.r l.prev l.run s.off s.p s.n l.day c.loop-day-test.true (sym c.has_bit.ensures ∙ w.if-has_bit.false)),
-      )
+    elim c.if-has.branch [
+      | then-has+else-not-allows w ↦
+          rw (w.last-is, w.with-last.ensures.value.0, w.with-last.ensures.value.1) (
+            omega arith,
+            omega (arith, w.with-last.ensures.value.1, w.with-last.ensures.upper_bound),
+            l.invariant.2
+                ∙ follow_yes s.r l.last.prev l.last.run s.off s.p s.n l.day c.loop-day-test.true (sym c.has.ensures ∙ w.if-has.true)
+                ∙ rw (sym w.allows.ensures ∙ w.if-not-allows.false),
+          )
+      | else-has w ↦
+          rw w.last-is (omega arith, omega arith, l.invariant.2 ∙ follow_no s.r l.last.prev l.last.run s.off s.p s.n l.day c.loop-day-test.true (sym c.has.ensures ∙ w.if-has.false))
     ]
 
 pub returns : goal.returns
 returns c =
     let s = c.args in
     let l = c.loop-day in
-    sym (l.invariant.3 ∙ follow_done s.r l.prev l.run s.off s.p s.n l.day c.loop-day-test.false)
+    sym (l.invariant.2 ∙ follow_done s.r l.last.prev l.last.run s.off s.p s.n l.day c.loop-day-test.false)

@@ -2,4 +2,4 @@ use Rattle.outcomes.proofs.OutcomeLaws.{finished_as}
 use Rattle.outcomes.proofs.finished.Goals as goal
 
 pub returns : goal.returns
-returns c = λ P given. finished_as P c.args.x c.outcome_by.ensures given
+returns c = λ P given. finished_as P c.args.x given

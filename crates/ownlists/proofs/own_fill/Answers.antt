@@ -9,24 +9,24 @@ use Rattle.ownlists.proofs.OwnListLaws.{own_start, own_stored, own_full, own_pas
 use Rattle.ownlists.proofs.own_fill.Goals.{then-passes, then-at-own, else-at-own, else-passes}
 use Rattle.ownlists.proofs.own_fill.Goals as goal
 
-pub loop-k-init : goal.loop-k-init
-loop-k-init c = own_start _ _ _ _
+pub loop-p-init : goal.loop-p-init
+loop-p-init c = own_start _ _ _ _
 
-pub loop-k-preserved : goal.loop-k-preserved
-loop-k-preserved c =
-    let is : (i : ℕ) → c.args.masks ≡ masks_of (rules_of c.args.w.now) (days c.args.w.now) (block c.args.w.now i) → c.passes.result ≡ hers_of c.args.w.now i (get_or c.args.list.now c.loop-k.k 0) = λ i m.
-    let there = common_at c.args.w.now c.args.list.now c.loop-k.k c.requires.2 c.loop-k-test.true in
+pub loop-p-preserved : goal.loop-p-preserved
+loop-p-preserved c =
+    let is : (i : ℕ) → c.args.masks ≡ masks_of (rules_of c.args.w.now) (days c.args.w.now) (block c.args.w.now i) → c.passes.result ≡ hers_of c.args.w.now i (get_or c.args.list.now c.loop-p.p-index 0) = λ i m.
+    let there = common_at c.args.w.now c.args.list.now c.loop-p.p-index c.requires.2 c.loop-p-test.true in
     c.passes.ensures i m there.0 there.1 in
     elim c.if-passes.branch [
       | then-passes x ↦ elim x.if-at-own.branch [
-        | then-at-own y ↦ own_stored c.loop-k.invariant c.loop-k-test.true is x.if-passes.true y.if-at-own.true (x.own-is ∙ y.own-is) x.at-is
-        | else-at-own y ↦ own_full c.loop-k.invariant c.loop-k-test.true is x.if-passes.true y.if-at-own.false (x.own-is ∙ y.own-is) x.at-is
+        | then-at-own y ↦ own_stored c.loop-p.invariant c.loop-p-test.true is x.if-passes.true y.if-at-own.true (x.own-is ∙ y.own-is) x.at-is
+        | else-at-own y ↦ own_full c.loop-p.invariant c.loop-p-test.true is x.if-passes.true y.if-at-own.false (x.own-is ∙ y.own-is) x.at-is
       ]
-      | else-passes x ↦ own_passed c.loop-k.invariant c.loop-k-test.true is x.if-passes.false x.own-is x.at-is
+      | else-passes x ↦ own_passed c.loop-p.invariant c.loop-p-test.true is x.if-passes.false x.own-is x.at-is
     ]
 
 pub returns-clause-counted : goal.returns-clause-counted
-returns-clause-counted c = own_counted c.loop-k.invariant c.loop-k-test.false
+returns-clause-counted c = own_counted c.loop-p.invariant c.loop-p-test.false
 
 pub returns-clause-written : goal.returns-clause-written
-returns-clause-written c = λ i m. own_written c.loop-k.invariant c.loop-k-test.false i m
+returns-clause-written c = λ i m. own_written c.loop-p.invariant c.loop-p-test.false i m

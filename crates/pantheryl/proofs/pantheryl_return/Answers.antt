@@ -1,8 +1,9 @@
-use Rattle.pantheryl.proofs.AnswerLaws.{return_refused, return_done}
+use Rattle.std.proofs.Common.{◌∙◌}
+use Rattle.pantheryl.proofs.AnswerLaws.{returned_yes, returned_no}
 use Rattle.pantheryl.proofs.pantheryl_return.Goals as goal
 
-pub returns-in-No-clause-keeps : goal.returns-in-No-clause-keeps
-returns-in-No-clause-keeps c = (return_refused _ _ _ _ c.bring_back-done.ensures c.count_words-said.ensures c.in-No.is).1
+pub returns-in-Ok-clause-keeps : goal.returns-in-Ok-clause-keeps
+returns-in-Ok-clause-keeps c = c.words_of.ensures ∙ returned_yes c.args.storage.now c.args.number c.args.words.now c.bring_back.ensures c.in-Ok.is
 
-pub returns-in-Yes-clause-keeps : goal.returns-in-Yes-clause-keeps
-returns-in-Yes-clause-keeps c = (return_done _ _ c.args.words.now _ c.bring_back-done.ensures c.count_words-said.ensures c.in-Yes.is c.words_of-after.ensures).1
+pub returns-in-Err-clause-keeps : goal.returns-in-Err-clause-keeps
+returns-in-Err-clause-keeps c = (returned_no c.args.storage.now c.args.number c.args.words.now c.bring_back.ensures c.in-Err.is).1

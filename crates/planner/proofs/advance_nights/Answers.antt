@@ -1,38 +1,55 @@
-use Rattle.fields.specs.Fields.{Accepted}
-use Rattle.planner.specs.Left.{night_left}
-use Rattle.std.proofs.Common.{refl, sym, subst}
+use Rattle.std.proofs.Common.{refl, sym, subst, ◌∙◌}
 use lib.Seq.{length-take-le}
+use Rattle.fields.specs.Fields.{Accepted}
 use Rattle.ward.proofs.ReadLaws.{lent_reading, lent_bad}
 use Rattle.ward.proofs.ReadingLaws.{reading_accepted, reading_long, reading_fits}
+use Rattle.phases.proofs.ExitLaws.{exit_err}
 use Rattle.planner.proofs.AnswerLaws.{reading_good}
 use Rattle.planner.proofs.FileLaws.{file_refused, file_advanced}
 use Rattle.nights.specs.Nights.{common_of}
 use Rattle.phases.specs.Phases.{night_phase}
-use Rattle.planner.specs.Left.{list_of}
+use Rattle.planner.specs.Left.{list_of, night_left}
 use Rattle.planner.proofs.advance_nights.Goals as goal
 
 pub slice_bounds-numbers-end : goal.slice_bounds-numbers-end
-slice_bounds-numbers-end c = reading_fits _ _ (lent_reading _ _ _ (c.read_into-read.ensures.says, c.read_into-read.ensures.leaves) c.in-Yes.is)
+slice_bounds-numbers-end c =
+    let reading = lent_reading c.args.file.now _ (sym c.in_ok-count.was ∙ c.read_into.ensures.says, c.read_into.ensures.leaves) in
+    reading_fits _ _ reading
 
 pub slice_bounds-body-end : goal.slice_bounds-body-end
-slice_bounds-body-end c = sym (length-take-le _ _ (reading_fits _ _ (lent_reading _ _ _ (c.read_into-read.ensures.says, c.read_into-read.ensures.leaves) c.in-Yes.is)))
+slice_bounds-body-end c =
+    let reading = lent_reading c.args.file.now _ (sym c.in_ok-count.was ∙ c.read_into.ensures.says, c.read_into.ensures.leaves) in
+    sym (length-take-le _ _ (reading_fits _ _ reading))
 
 pub body-requires : goal.body-requires
-body-requires c = reading_long c.args.file.now _ (λ i. (c.type_inv.file i).fits) (lent_reading _ _ _ (c.read_into-read.ensures.says, c.read_into-read.ensures.leaves) c.in-Yes.is) refl
+body-requires c =
+    let reading = lent_reading c.args.file.now _ (sym c.in_ok-count.was ∙ c.read_into.ensures.says, c.read_into.ensures.leaves) in
+    reading_long c.args.file.now _ (λ i. (c.type_inv.file i).fits) reading
 
 pub advance_on-requires : goal.advance_on-requires
-advance_on-requires c = subst Accepted (sym c.body.ensures) (reading_accepted c.args.file.now _ (λ i. (c.type_inv.file i).fits) (lent_reading _ _ _ (c.read_into-read.ensures.says, c.read_into-read.ensures.leaves) c.in-Yes.is) refl)
+advance_on-requires c =
+    let reading = lent_reading c.args.file.now _ (sym c.in_ok-count.was ∙ c.read_into.ensures.says, c.read_into.ensures.leaves) in
+    subst Accepted (sym c.body.ensures) (reading_accepted c.args.file.now _ (λ i. (c.type_inv.file i).fits) reading)
 
-pub returns-in-No-clause-says : goal.returns-in-No-clause-says
-returns-in-No-clause-says c = (file_refused night_phase list_of c.args.file.now c.args.rec c.args.k c.args.past c.args.buffer.now (lent_bad _ _ _ _ (c.read_into-read.ensures.says, c.read_into-read.ensures.leaves) c.in-No.is) c.refuse.ensures).0
+pub returns-in_err-count-clause-says : goal.returns-in_err-count-clause-says
+returns-in_err-count-clause-says c =
+    exit_err c.from_residual.ensures.1
+    ∙ (file_refused night_phase list_of c.args.file.now c.args.rec c.args.k c.args.past c.args.buffer.now (lent_bad c.args.file.now (sym c.in_err-count.was ∙ c.read_into.ensures.says))).0
 
-pub returns-in-No-clause-leaves : goal.returns-in-No-clause-leaves
+pub returns-in_err-count-clause-leaves : goal.returns-in_err-count-clause-leaves
 unfolding night_left
-returns-in-No-clause-leaves c = (file_refused night_phase list_of c.args.file.now c.args.rec c.args.k c.args.past c.args.buffer.now (lent_bad _ _ _ _ (c.read_into-read.ensures.says, c.read_into-read.ensures.leaves) c.in-No.is) c.refuse.ensures).1
+returns-in_err-count-clause-leaves c =
+    (file_refused night_phase list_of c.args.file.now c.args.rec c.args.k c.args.past c.args.buffer.now (lent_bad c.args.file.now (sym c.in_err-count.was ∙ c.read_into.ensures.says))).1
 
-pub returns-in-Yes-clause-says : goal.returns-in-Yes-clause-says
-returns-in-Yes-clause-says c = (file_advanced night_phase list_of c.args.file.now c.args.rec c.args.k c.args.past c.args.buffer.now common_of (λ ws. refl) (reading_good c.args.file.now _ (lent_reading _ _ _ (c.read_into-read.ensures.says, c.read_into-read.ensures.leaves) c.in-Yes.is) refl) c.body.ensures (c.advance_on.ensures.says, c.advance_on.ensures.leaves)).0
+pub returns-clause-says : goal.returns-clause-says
+returns-clause-says c =
+    let reading = lent_reading c.args.file.now _ (sym c.in_ok-count.was ∙ c.read_into.ensures.says, c.read_into.ensures.leaves) in
+    (file_advanced night_phase list_of c.args.file.now c.args.rec c.args.k c.args.past c.args.buffer.now
+    common_of (λ ws. refl) (reading_good c.args.file.now _ reading) c.body.ensures (c.advance_on.ensures.says, c.advance_on.ensures.leaves)).0
 
-pub returns-in-Yes-clause-leaves : goal.returns-in-Yes-clause-leaves
+pub returns-clause-leaves : goal.returns-clause-leaves
 unfolding night_left
-returns-in-Yes-clause-leaves c = (file_advanced night_phase list_of c.args.file.now c.args.rec c.args.k c.args.past c.args.buffer.now common_of (λ ws. refl) (reading_good c.args.file.now _ (lent_reading _ _ _ (c.read_into-read.ensures.says, c.read_into-read.ensures.leaves) c.in-Yes.is) refl) c.body.ensures (c.advance_on.ensures.says, c.advance_on.ensures.leaves)).1
+returns-clause-leaves c =
+    let reading = lent_reading c.args.file.now _ (sym c.in_ok-count.was ∙ c.read_into.ensures.says, c.read_into.ensures.leaves) in
+    (file_advanced night_phase list_of c.args.file.now c.args.rec c.args.k c.args.past c.args.buffer.now
+    common_of (λ ws. refl) (reading_good c.args.file.now _ reading) c.body.ensures (c.advance_on.ensures.says, c.advance_on.ensures.leaves)).1

@@ -1,5 +1,7 @@
+use Rattle.std.proofs.Common.{rules, ◌≡◌, ◌≤◌, ◌<◌, length, take, get_or, sym, ◌∙◌, arith}
+use Rattle.std.proofs.lemmas.List.{length-take-le, get_or-take}
 use Rattle.removals.proofs.bars_of.Goals as goal
-use Rattle.removals.proofs.bars_of.Goals.{then-placed, else-placed, then-nurses-k, else-nurses-k}
+use Rattle.removals.proofs.bars_of.Goals.{then-placed, else-placed, then-nurse-number, else-nurse-number}
 use Rattle.removals.proofs.GivenLaws.{bars_same, bars_placed, bars_unplaced, bars_hers, bars_other}
 
 pub loop-k-init : goal.loop-k-init
@@ -9,7 +11,13 @@ loop-k-init c = elim c.if-placed.branch [
 ]
 
 pub loop-k-preserved : goal.loop-k-preserved
-loop-k-preserved c = elim c.if-nurses-k.branch [
-  | then-nurses-k w ↦ bars_same (bars_hers c.loop-k.invariant c.requires.0 c.loop-k-test.true w.if-nurses-k.true) w.bars-is w.count-is
-  | else-nurses-k w ↦ bars_same (bars_other c.loop-k.invariant c.loop-k-test.true w.if-nurses-k.false) w.bars-is w.count-is
-]
+loop-k-preserved c =
+    let s = c.args in
+    let k = c.loop-k.k in
+    let long : s.held ≤ length s.nurses.now = search rules in
+    let below : k < s.held = omega (arith, length-take-le s.held s.nurses.now long) in
+    let same : get_or (take s.held s.nurses.now) k 0 ≡ get_or s.nurses.now k 0 = get_or-take s.held s.nurses.now k 0 below in
+    elim c.if-nurse-number.branch [
+      | then-nurse-number w ↦ bars_same (bars_hers c.loop-k.invariant c.requires.0 below (sym same ∙ w.if-nurse-number.true)) w.bars-is w.count-is
+      | else-nurse-number w ↦ bars_same (bars_other c.loop-k.invariant below (λ e. w.if-nurse-number.false (same ∙ e))) w.bars-is w.count-is
+    ]

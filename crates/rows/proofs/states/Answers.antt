@@ -1,16 +1,16 @@
-use Rattle.std.proofs.Common.{◌≡◌, suc, get_or, arith}
-use Rattle.rows.specs.Rows.{row_state}
-use Rattle.rows.proofs.RowLaws.{states_start, states_turn, state_small}
+use Rattle.std.proofs.Common.{◌≡◌, ◌+◌, suc, ap, ap₂, sym, ◌∙◌, add-one, length-set, arith}
+use Rattle.numbers.proofs.BufferLaws.{place_turn}
+use Rattle.rows.specs.Rows.{row_state, state_after}
+use Rattle.rows.proofs.RowLaws.{row_turn}
 use Rattle.rows.proofs.states.Goals as goal
-
-pub loop-d-init : goal.loop-d-init
-loop-d-init c = states_start c.args.b.now c.args.p c.args.n c.last_duty.ensures c.day_zero-state.ensures.is
 
 pub loop-d-preserved : goal.loop-d-preserved
 loop-d-preserved c =
-    states_turn c.args.b.now c.args.p c.args.n c.loop-d.d c.loop-d.invariant c.requires.0 c.loop-d-test.true c.has_bit.ensures c.state_after-state.ensures.is
-
-pub returns-clause-small : goal.returns-clause-small
-returns-clause-small c = λ d h.
-    let are : get_or c.loop-d.states d 0 ≡ row_state c.args.b.now c.args.p (suc d) = c.loop-d.invariant.are d (omega (arith, h, c.loop-d-test.false)) in
-    rw are (state_small c.args.b.now c.args.p d)
+    let s = c.args in
+    let l = c.loop-d in
+    let next = c.state_after-state.result in
+    let there : next ≡ row_state s.b.now s.p (l.d + 1) = c.state_after-state.ensures.is ∙ ap₂ state_after l.invariant.1 c.has.ensures ∙ sym (row_turn s.b.now s.p l.d) in (
+      length-set l.states l.d next ∙ l.invariant.0,
+      there,
+      place_turn (λ e. row_state s.b.now s.p (suc e)) l.states l.d next (omega (arith, l.invariant.0)) l.invariant.2 (there ∙ ap (row_state s.b.now s.p) (add-one l.d)),
+    )

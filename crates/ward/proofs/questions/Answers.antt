@@ -1,41 +1,39 @@
-use Rattle.std.proofs.Common.{◌≡◌, ℕ, length, get_or, ap, sym, arith, rules}
+use Rattle.std.proofs.Common.{◌≡◌, length, get_or, sym, arith, rules}
 use mathlib.Core.Path.{◌∙◌, subst}
 use Rattle.fields.specs.Sizes.{number_places}
-use Rattle.refusals.specs.Refusals.{numbered}
+use Rattle.codec.proofs.CodecLaws.{passed_on}
 use Rattle.codec.proofs.EncodeLaws.{encode_most}
-use Rattle.ward.specs.Answers.{unwritten}
-use Rattle.ward.proofs.WriteLaws.{Walked, begin, missing, room_here, failed, below, turn, extra, whole}
+use Rattle.ward.proofs.WriteLaws.{Walked, begin, none_said, missing, room_here, failed, below, turn, extra, whole}
 use Rattle.ward.proofs.questions.Goals as goal
 
-pub loop-f-init : goal.loop-f-init
-loop-f-init c =
-    let l : length c.args.ward.numbers ≡ number_places = search rules in
+pub loop-field-init : goal.loop-field-init
+loop-field-init c =
+    let l : length c.args.ward.now.numbers ≡ number_places = search rules in
     subst (Walked _ 0 0) (sym c.start-c.ensures) (begin _ l)
 
-pub returns-then-i-count : goal.returns-then-i-count
-returns-then-i-count c = c.no.ensures ∙ extra _ _ _ _ c.loop-f.invariant (sym c.wanted_at.ensures ∙ c.in-Nothing.is) c.if-i-count.true
+pub returns-then-i-ward : goal.returns-then-i-ward
+returns-then-i-ward c = rw c.at.ensures (missing _ _ _ _ c.loop-field.invariant _ (sym c.wanted_at.ensures ∙ c.in-Some.is) c.if-i-ward.true)
 
-pub returns-in-Nothing : goal.returns-in-Nothing
-returns-in-Nothing c = whole _ _ _ _ c.loop-f.invariant (sym c.wanted_at.ensures ∙ c.in-Nothing.is) c.if-i-count.false
-
-pub returns-then-i-count-2 : goal.returns-then-i-count-2
-returns-then-i-count-2 c = c.no-then-i-count-2.ensures ∙ missing _ _ _ _ c.loop-f.invariant _ (sym c.wanted_at.ensures ∙ c.in-Next.is) c.if-i-count-2.true
-
-pub returns-then-failed-ne0 : goal.returns-then-failed-ne0
-returns-then-failed-ne0 c =
-    c.no-then-failed-ne0.ensures
-    ∙ ap (λ (q : ℕ). unwritten (numbered q c.loop-f.i)) c.ask-failed.ensures
-    ∙ failed _ _ _ _ c.loop-f.invariant _ (sym c.wanted_at.ensures ∙ c.in-Next.is) c.if-i-count-2.false (λ z. c.if-failed-ne0.true (c.ask-failed.ensures ∙ z))
+pub returns-in_err-ask : goal.returns-in_err-ask
+returns-in_err-ask c =
+    passed_on c.from_residual.result c.from_residual.ensures.1
+    ∙ failed _ _ _ _ c.loop-field.invariant _ (sym c.wanted_at.ensures ∙ c.in-Some.is) c.if-i-ward.false c.in_err-ask.ensures
 
 pub size-bytes-requires : goal.size-bytes-requires
-size-bytes-requires c = below _ _ _ _ c.loop-f.invariant _ (sym c.wanted_at.ensures ∙ c.in-Next.is) c.if-i-count-2.false (sym c.ask-failed.ensures ∙ c.if-failed-ne0.false)
+size-bytes-requires c = below _ _ _ _ c.loop-field.invariant _ (sym c.wanted_at.ensures ∙ c.in-Some.is) c.if-i-ward.false (none_said _ _ c.in_ok-ask.ensures)
 
 pub overflow_add-bytes : goal.overflow_add-bytes
 overflow_add-bytes c =
-    let s = room_here _ _ _ _ c.loop-f.invariant _ (sym c.wanted_at.ensures ∙ c.in-Next.is) in
-    omega (arith, c.loop-f.invariant.few, c.size-bytes.ensures, encode_most (get_or c.args.ward.numbers c.loop-f.i 0))
+    let s = room_here _ _ _ _ c.loop-field.invariant _ (sym c.wanted_at.ensures ∙ c.in-Some.is) in
+    omega (arith, c.loop-field.invariant.few, c.size-bytes.ensures, encode_most (get_or c.args.ward.now.numbers c.loop-field.i 0))
 
-pub loop-f-preserved : goal.loop-f-preserved
-loop-f-preserved c =
-    let t = turn _ _ _ _ c.loop-f.invariant _ (sym c.wanted_at.ensures ∙ c.in-Next.is) c.if-i-count-2.false (sym c.ask-failed.ensures ∙ c.if-failed-ne0.false) in
+pub loop-field-preserved : goal.loop-field-preserved
+loop-field-preserved c =
+    let t = turn _ _ _ _ c.loop-field.invariant _ (sym c.wanted_at.ensures ∙ c.in-Some.is) c.if-i-ward.false (none_said _ _ c.in_ok-ask.ensures) in
     subst (Walked _ _ _) (sym c.step-c.ensures) (rw c.size-bytes.ensures t)
+
+pub returns-then-i-ward-2 : goal.returns-then-i-ward-2
+returns-then-i-ward-2 c = rw c.at-then-i-ward-2.ensures (extra _ _ _ _ c.loop-field.invariant (sym c.wanted_at.ensures ∙ c.in_default.is) c.if-i-ward-2.true)
+
+pub returns : goal.returns
+returns c = whole _ _ _ _ c.loop-field.invariant (sym c.wanted_at.ensures ∙ c.in_default.is) c.if-i-ward-2.false

@@ -4,8 +4,8 @@ use Rattle.layout.specs.CodePlace.{tree}
 use Rattle.ward.proofs.WriteLaws.{Walked}
 use Rattle.ward.proofs.questions.Given as goal
 
-abbrev pub invariant-loop-f : goal.invariant-loop-f
-invariant-loop-f l = Walked l.ward l.i l.bytes (tree l.c)
+abbrev pub invariant-loop-field : goal.invariant-loop-field
+invariant-loop-field l = Walked l.ward l.i l.bytes (tree l.c)
 
-abbrev pub decreases-loop-f : goal.decreases-loop-f
-decreases-loop-f l = number_places - l.i
+abbrev pub decreases-loop-field : goal.decreases-loop-field
+decreases-loop-field l = number_places - l.i

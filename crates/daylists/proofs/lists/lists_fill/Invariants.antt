@@ -1,4 +1,3 @@
-use Rattle.std.proofs.Common.{◌-◌}
 use Rattle.fields.specs.Fields.{nurses}
 use Rattle.daylists.specs.Lists.{day_lists}
 use Rattle.daylists.proofs.ListsLaws.{FillAt}
@@ -6,6 +5,3 @@ use Rattle.daylists.proofs.lists.lists_fill.Given as goal
 
 abbrev pub invariant-loop-i : goal.invariant-loop-i
 invariant-loop-i l = FillAt (day_lists l.w l.nights) (nurses l.w) l.fn.buf l.i l.used l.buf
-
-abbrev pub decreases-loop-i : goal.decreases-loop-i
-decreases-loop-i l = l.m - l.i

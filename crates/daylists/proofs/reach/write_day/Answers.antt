@@ -1,22 +1,38 @@
-use Rattle.std.proofs.Common.{arith}
+use Rattle.std.proofs.Common.{arith, ap, ◌-◌, ◌∙◌}
 use lib.ListN.{length-set}
-use Rattle.daylists.proofs.LocalLaws.{choice_many}
-use Rattle.daylists.proofs.WalkLaws.{filled_turn, filled_less}
+use Rattle.numbers.specs.Sum.{one_if}
+use Rattle.days.specs.CodeMonth.{rest_on}
+use Rattle.daylists.proofs.WalkLaws.{top_is, choice_small, choice_inside, filled_less, filled_turn, filled_end}
+use Rattle.daylists.proofs.reach.write_day.Goals.{then-d-gt0, else-d-gt0}
 use Rattle.daylists.proofs.reach.write_day.Goals as goal
 
+pub reached-found-requires-clause-rest_is : goal.reached-found-requires-clause-rest_is
+unfolding rest_on
+reached-found-requires-clause-rest_is c =
+    elim c.if-d-gt0.branch [ then-d-gt0 w ↦ λ l. ap one_if (w.rest-is ∙ w.rests_on-rest.ensures) | else-d-gt0 w ↦ λ l. absurd (omega arith) ]
+
+pub reached-found-requires-clause-s_bound : goal.reached-found-requires-clause-s_bound
+reached-found-requires-clause-s_bound c = choice_small (c.args.sheet.now.month.days - c.args.d) (omega (arith, c.args.sheet.now.small.few_days)) c.min-top.ensures c.loop-s-test.true
+
 pub reached-found-requires-clause-in_month : goal.reached-found-requires-clause-in_month
-reached-found-requires-clause-in_month c = omega (arith, c.loop-s-test.true, choice_many c.args.m.now.days c.args.d c.requires.early)
+reached-found-requires-clause-in_month c = choice_inside (c.args.sheet.now.month.days - c.args.d) (omega (arith, c.args.sheet.now.small.few_days)) c.min-top.ensures c.loop-s-test.true
 
 pub reached-found-requires-clause-filled : goal.reached-found-requires-clause-filled
-reached-found-requires-clause-filled c = filled_less _ _ _ _ _ c.loop-s.invariant.2 (omega arith)
+reached-found-requires-clause-filled c = filled_less _ _ _ _ _ c.loop-s.invariant.1 (omega arith)
+
+pub kept-requires-in-loop-s-clause-x_bound : goal.kept-requires-in-loop-s-clause-x_bound
+kept-requires-in-loop-s-clause-x_bound c =
+    omega (arith, choice_small (c.args.sheet.now.month.days - c.args.d) (omega (arith, c.args.sheet.now.small.few_days)) c.min-top.ensures c.loop-s-test.true)
 
 pub loop-s-preserved : goal.loop-s-preserved
 loop-s-preserved c =
     let l = c.loop-s in
+    let sheet = c.args.sheet.now in
+    let small = choice_small (sheet.month.days - c.args.d) (omega (arith, sheet.small.few_days)) c.min-top.ensures c.loop-s-test.true in
     let after =
-    filled_turn c.args.m.now c.args.row.now l.ways c.args.d l.s c.loop-s-test.true l.invariant.2 (omega (arith, l.invariant.1, c.loop-s-test.true, c.requires.small_month.few_days))
-    c.reached-found.ensures c.kept-without.ensures c.kept-with.ensures in
-    (omega (arith, c.loop-s-test.true), simp length-set l.invariant.1, filled_less _ _ _ _ _ after (omega arith))
+    filled_turn sheet.month sheet.row l.ways c.args.d l.s small l.invariant.1 (omega (arith, l.invariant.0, small, sheet.small.few_days))
+    c.reached-found.ensures c.kept.ensures c.kept-in-loop-s.ensures in
+    (simp length-set l.invariant.0, filled_less _ _ _ _ _ after (omega arith))
 
 pub returns : goal.returns
-returns c = filled_less _ _ _ _ _ c.loop-s.invariant.2 (omega (arith, c.loop-s-test.false))
+returns c = filled_end _ _ _ _ _ (top_is (c.args.sheet.now.month.days - c.args.d) (omega (arith, c.args.sheet.now.small.few_days)) c.min-top.ensures) c.loop-s-test.false c.loop-s.invariant.1

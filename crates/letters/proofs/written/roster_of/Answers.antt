@@ -3,7 +3,7 @@ use Rattle.std.proofs.Common.{refl, arith}
 use Rattle.letters.proofs.written.roster_of.Goals as goal
 
 pub loop-i-init : goal.loop-i-init
-loop-i-init c = (omega arith, written_start _ _ _ _ refl refl)
+loop-i-init c = written_start _ _ _ _ refl refl
 
 pub loop-i-preserved : goal.loop-i-preserved
-loop-i-preserved c = (omega arith, written_turn _ _ _ _ c.loop-i.invariant.1 _ _ _ _ _ c.requires (omega arith) c.block.ensures c.days-n.ensures.0 c.days_of-p.ensures c.days_of-q.ensures c.with_row-roster.ensures.0 c.with_row-roster.ensures.1)
+loop-i-preserved c = written_turn _ _ _ _ c.loop-i.invariant _ _ _ _ _ c.requires (omega arith) c.block.ensures c.days-n.ensures.0 c.days_of-p.ensures c.days_of-q.ensures c.add_row.ensures.0 c.add_row.ensures.1

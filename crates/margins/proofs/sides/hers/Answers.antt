@@ -1,6 +1,6 @@
 use Rattle.std.proofs.Common.{arith, refl, sym, ◌∙◌}
 use Rattle.margins.proofs.SideLaws.{blank_low, hers_start, hers_in, hers_out}
-use Rattle.margins.proofs.sides.hers.Goals.{then-is_in, else-is_in}
+use Rattle.margins.proofs.sides.hers.Goals.{then-has, else-has}
 use Rattle.margins.proofs.sides.hers.Goals as goal
 
 pub add_row-requires : goal.add_row-requires
@@ -11,7 +11,7 @@ loop-g-init c = hers_start _ _ _ c.requires.2 c.add_row.ensures
 
 pub loop-g-preserved : goal.loop-g-preserved
 loop-g-preserved c =
-    elim c.if-is_in.branch [
-      | then-is_in w ↦ hers_in _ _ _ c.requires.2 c.loop-g.invariant c.loop-g-test.true c.requires.0 (sym c.is_in.ensures ∙ w.if-is_in.true) w.add_row-then-is_in.ensures w.sums-is
-      | else-is_in w ↦ hers_out _ _ _ c.requires.2 c.loop-g.invariant c.loop-g-test.true (sym c.is_in.ensures ∙ w.if-is_in.false) w.sums-is
+    elim c.if-has.branch [
+      | then-has w ↦ hers_in _ _ _ c.requires.2 c.loop-g.invariant c.loop-g-test.true c.requires.0 (sym c.has.ensures ∙ w.if-has.true) w.add_row-then-has.ensures w.sums-is
+      | else-has w ↦ hers_out _ _ _ c.requires.2 c.loop-g.invariant c.loop-g-test.true (sym c.has.ensures ∙ w.if-has.false) w.sums-is
     ]

@@ -14,12 +14,12 @@ loop-d-init c = sides_start _ _ _ _ _
 pub both-x-requires : goal.both-x-requires
 both-x-requires c =
     day_fits _ _ _ _ c.requires.0 c.requires.1 c.requires.2 _ _ _ _ _ c.member_sets-sets.ensures c.hers-sums.ensures c.conditions-zero.ensures
-    (omega (arith, c.loop-d-test.true, c.days-n.ensures.0)) c.is_in-on.ensures
+    (omega (arith, c.loop-d-test.true, c.days-n.ensures.0)) c.has-on.ensures
 
 pub loop-d-preserved : goal.loop-d-preserved
 loop-d-preserved c =
     sides_turn _ _ _ _ c.requires.0 c.requires.1 c.requires.2 _ _ _ _ _ c.member_sets-sets.ensures c.hers-sums.ensures c.conditions-zero.ensures
-    (omega (arith, c.loop-d-test.true, c.days-n.ensures.0)) c.is_in-on.ensures c.loop-d.invariant c.loop-d-test.true c.both-x.ensures
+    (omega (arith, c.loop-d-test.true, c.days-n.ensures.0)) c.has-on.ensures c.loop-d.invariant c.loop-d-test.true c.both-x.ensures
 
 pub returns : goal.returns
 returns c = sides_end _ _ _ _ c.loop-d.invariant c.loop-d-test.false c.days-n.ensures.0

@@ -7,5 +7,5 @@ use Rattle.nightlists.proofs.some.has_pattern.Goals as goal
 
 pub returns : goal.returns
 returns c = some_of_list c.args.w.now c.args.i _ _ c.requires.accepted
-    (walk_from (rules_of c.args.w.now) (days c.args.w.now) c.requires.accepted.run_some (c.walk_by-k.ensures.rules ∙ c.rules_of.ensures) c.days-n.ensures.0 c.fresh.ensures)
+    (walk_from (rules_of c.args.w.now) (days c.args.w.now) c.requires.accepted.run_some c.default.result (c.walk_by-k.ensures.rules ∙ c.rules_of.ensures) c.days-n.ensures.0 c.default.ensures)
     (c.some.ensures c.args.i c.masks_of-m.ensures.is c.pairs_of-x.ensures)

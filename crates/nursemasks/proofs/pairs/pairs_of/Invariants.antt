@@ -1,9 +1,7 @@
-use Rattle.std.proofs.Common.{◌-◌}
-use Rattle.nursemasks.proofs.PairMaskLaws.{PairsTo}
+use Rattle.std.proofs.Common.{◌≡◌, ℕ, suc, ◌≤◌, ◌<◌, length, get_or}
+use Rattle.fields.specs.Sizes.{pair_most}
+use Rattle.nursemasks.specs.CodePairs.{PairDays}
 use Rattle.nursemasks.proofs.pairs.pairs_of.Given as goal
 
 abbrev pub invariant-loop-k : goal.invariant-loop-k
-invariant-loop-k l = PairsTo l.w l.i l.count l.days l.k
-
-abbrev pub decreases-loop-k : goal.decreases-loop-k
-decreases-loop-k l = l.count - l.k
+invariant-loop-k l = record { long : length l.days ≡ suc pair_most; each : (j : ℕ) → 1 ≤ j → j < l.k → PairDays l.w l.i j (get_or l.days j 0) }

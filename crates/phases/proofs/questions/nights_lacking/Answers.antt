@@ -1,14 +1,15 @@
-use Rattle.std.proofs.Common.{arith, sym, ap}
-use mathlib.Core.Path.{◌∙◌}
-use Rattle.refusals.specs.Refusals.{refusal_in}
+use Rattle.std.proofs.Common.{arith, sym, ap, ◌∙◌}
+use mathlib.Core.Option.{some}
 use Rattle.phases.proofs.QuestionLaws.{lacking_more, lacking_stop, lacking_end}
 use Rattle.phases.proofs.questions.nights_lacking.Goals as goal
 
 pub loop-i-preserved : goal.loop-i-preserved
-loop-i-preserved c = (omega arith, lacking_more _ _ c.loop-i.invariant.1 c.loop-i-test.true (sym c.has_pattern.ensures ∙ c.if-has_pattern.true))
+loop-i-preserved c = lacking_more _ _ c.loop-i.invariant (omega (arith, c.loop-i-test.true, c.nurses-i-end.ensures.0)) (sym c.has_pattern.ensures ∙ c.if-not-has_pattern.false)
 
-pub returns-else-has_pattern : goal.returns-else-has_pattern
-returns-else-has_pattern c = ap refusal_in c.no.ensures ∙ lacking_stop _ _ c.loop-i.invariant.1 c.loop-i-test.true (sym c.has_pattern.ensures ∙ c.if-has_pattern.false)
+pub returns-then-not-has_pattern : goal.returns-then-not-has_pattern
+returns-then-not-has_pattern c =
+    ap some c.at.ensures
+    ∙ lacking_stop _ _ c.loop-i.invariant (omega (arith, c.loop-i-test.true, c.nurses-i-end.ensures.0)) (sym c.has_pattern.ensures ∙ c.if-not-has_pattern.true)
 
 pub returns : goal.returns
-returns c = lacking_end _ _ c.loop-i.invariant.1 c.loop-i-test.false
+returns c = lacking_end _ _ c.loop-i.invariant (omega (arith, c.loop-i-test.false, c.nurses-i-end.ensures.0))

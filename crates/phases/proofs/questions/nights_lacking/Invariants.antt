@@ -1,4 +1,4 @@
-use Rattle.std.proofs.Common.{◌-◌, ◌≡◌, ◌≤◌}
+use Rattle.std.proofs.Common.{◌-◌, ◌≡◌}
 use Rattle.numbers.specs.Range.{up_from}
 use Rattle.fields.specs.Fields.{nurses}
 use Rattle.nights.specs.Own.{pattern_list}
@@ -6,7 +6,4 @@ use Rattle.history.specs.Record.{lacking}
 use Rattle.phases.proofs.questions.nights_lacking.Given as goal
 
 abbrev pub invariant-loop-i : goal.invariant-loop-i
-invariant-loop-i l = (l.i ≤ l.m) × (lacking (pattern_list l.w) (up_from 0 (nurses l.w)) ≡ lacking (pattern_list l.w) (up_from l.i (l.m - l.i)))
-
-abbrev pub decreases-loop-i : goal.decreases-loop-i
-decreases-loop-i l = l.m - l.i
+invariant-loop-i l = lacking (pattern_list l.w) (up_from 0 (nurses l.w)) ≡ lacking (pattern_list l.w) (up_from l.i (nurses l.w - l.i))

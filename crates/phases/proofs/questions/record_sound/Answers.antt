@@ -1,3 +1,4 @@
+use Rattle.std.proofs.Common.{◌∙◌}
 use Rattle.phases.proofs.QuestionLaws.{sound_unused, sound_removals, sound_slots}
 use Rattle.phases.proofs.questions.record_sound.Goals as goal
 
@@ -8,8 +9,9 @@ returns-then-removals_name c =
 
 pub returns-else-removals_name : goal.returns-else-removals_name
 returns-else-removals_name c =
-    sound_removals _ _ _ _ c.requires c.unused_zero-zero.ensures.sized c.slots_hers.ensures c.if-slots_hers.true
-    c.removals_name.ensures c.if-removals_name.false
+    c.if-removals_name.false
+    ∙ sound_removals _ _ _ _ c.requires c.unused_zero-zero.ensures.sized c.slots_hers.ensures c.if-slots_hers.true c.removals_name.ensures c.if-removals_name.false
 
 pub returns-else-slots_hers : goal.returns-else-slots_hers
-returns-else-slots_hers c = sound_slots _ _ _ _ c.requires c.unused_zero-zero.ensures.sized c.slots_hers.ensures c.if-slots_hers.false
+returns-else-slots_hers c =
+    c.if-slots_hers.false ∙ sound_slots _ _ _ _ c.requires c.unused_zero-zero.ensures.sized c.slots_hers.ensures c.if-slots_hers.false

@@ -1,18 +1,8 @@
-use Rattle.rostercheck.specs.CodeBounds.{all_bounds_hold}
+use Rattle.std.proofs.Common.{rules, tests, refl}
+use Rattle.numbers.proofs.IterLaws.{all_below}
+use Rattle.rostercheck.specs.CodeBounds.{bounds_hold, all_bounds_hold}
 use Rattle.rostercheck.proofs.needs.all_bounds_hold.Goals as goal
-use native.Mathlib.Omega.{arith}
-use mathlib.Core.Path.{refl, sym, ◌∙◌}
-use Rattle.numbers.proofs.RangeLaws.{all_begin, all_more, all_stop, all_end}
-
-pub loop-g-init : goal.loop-g-init
-unfolding all_bounds_hold
-loop-g-init c = (omega arith, all_begin _ refl)
-
-pub loop-g-preserved : goal.loop-g-preserved
-loop-g-preserved c = (omega arith, all_more _ _ _ c.loop-g.invariant.1 c.loop-g-test.true (sym c.bounds_hold.ensures ∙ c.if-bounds_hold.true))
-
-pub returns-else-bounds_hold : goal.returns-else-bounds_hold
-returns-else-bounds_hold c = all_stop _ _ _ c.loop-g.invariant.1 c.loop-g-test.true (sym c.bounds_hold.ensures ∙ c.if-bounds_hold.false)
 
 pub returns : goal.returns
-returns c = all_end _ _ _ c.loop-g.invariant.1 c.loop-g-test.false
+unfolding all_bounds_hold
+returns c = all_below (bounds_hold c.args.sets.now c.args.needs.now c.args.k c.args.col) _ _ c.all.ensures.ran refl refl (λ x b q k. search (rules, tests))

@@ -1,8 +1,10 @@
+use Rattle.std.proofs.Common.{rules, tests}
 use Rattle.rostercheck.specs.Check.{lettered}
+use Rattle.rostercheck.proofs.NeedLaws.{same_set}
 use Rattle.rostercheck.proofs.needs.column.Goals as goal
-use native.Mathlib.Omega.{arith}
-use Rattle.penalty.proofs.ColumnLaws.{same_more}
 
-pub loop-i-preserved : goal.loop-i-preserved
+pub returns : goal.returns
 unfolding lettered
-loop-i-preserved c = (omega arith, same_more _ _ _ _ c.loop-i.invariant.1 c.put_bit-col.ensures)
+returns c =
+    let s = c.args in
+    same_set (lettered s.roster.now s.n s.d s.c) s.m _ (c.set_of.ensures.set (lettered s.roster.now s.n s.d s.c) (λ i b h k. search (rules, tests)))

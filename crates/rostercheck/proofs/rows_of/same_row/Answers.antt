@@ -1,15 +1,15 @@
+use Rattle.std.proofs.Common.{rules, ◌≡◌, length, arith}
+use native.Mathlib.Nat.{add-sub_cancel_left}
+use Rattle.std.proofs.lemmas.Bool.Decides.{Decides-eqb}
+use Rattle.std.proofs.lemmas.Slice.Eq.{slice_eq-Decides}
+use Rattle.fields.specs.Sizes.{day_places}
+use Rattle.letters.proofs.WriteLaws.{row_is}
+use Rattle.rostercheck.proofs.RowLaws.{row_same}
 use Rattle.rostercheck.proofs.rows_of.same_row.Goals as goal
-use native.Mathlib.Omega.{arith}
-use Rattle.rostercheck.proofs.RowLaws.{row_start, row_more, row_stop, row_end}
-
-pub loop-d-init : goal.loop-d-init
-loop-d-init c = (omega arith, row_start _ _ _ _ _ _)
-
-pub loop-d-preserved : goal.loop-d-preserved
-loop-d-preserved c = (omega arith, row_more c.args.b.now c.args.n c.args.roster.now c.args.at c.args.p c.args.q c.loop-d.d c.loop-d.invariant.1 c.loop-d-test.true (c.row_letters-row.ensures c.loop-d.d c.loop-d-test.true) c.if-roster-at.true)
-
-pub returns-else-roster-at : goal.returns-else-roster-at
-returns-else-roster-at c = row_stop c.args.b.now c.args.n c.args.roster.now c.args.at c.args.p c.args.q c.loop-d.d c.loop-d.invariant.1 c.loop-d-test.true (c.row_letters-row.ensures c.loop-d.d c.loop-d-test.true) c.if-roster-at.false
 
 pub returns : goal.returns
-returns c = row_end c.args.b.now c.args.n c.args.roster.now c.args.at c.args.p c.args.q c.loop-d.d c.loop-d.invariant.1 c.loop-d-test.false
+returns c =
+    let s = c.args in
+    let long : length c.row_letters-row.result ≡ day_places = search rules in
+    let row = row_is s.b.now s.n s.p s.q c.row_letters-row.result (omega (arith, long)) c.row_letters-row.ensures in
+    row_same s.roster.now s.at s.n c.requires.2 s.b.now s.p s.q row (slice_eq-Decides Decides-eqb _ _ _ (rw add-sub_cancel_left at c.eq.ensures))

@@ -1,12 +1,6 @@
 use Rattle.std.proofs.Common.{arith}
-use Rattle.rows.proofs.PairLaws.{set_none, set_beyond, set_two}
+use Rattle.rows.proofs.PairLaws.{set_two}
 use Rattle.rows.proofs.pairs.pair_days.Goals as goal
-
-pub returns-then-k-eq0 : goal.returns-then-k-eq0
-returns-then-k-eq0 c = set_none c.args.w.now c.args.k c.if-k-eq0.true
-
-pub returns-then-pair_count-k : goal.returns-then-pair_count-k
-returns-then-pair_count-k c = set_beyond c.args.w.now c.args.k c.pair_count.ensures.0 c.if-pair_count-k.true
 
 pub returns : goal.returns
 returns c =

@@ -1,16 +1,26 @@
-use Rattle.std.proofs.Common.{◌<◌}
+use Rattle.std.proofs.Common.{rules, ◌<◌, ◌≡◌, ◌∙◌, None}
 use Rattle.fields.specs.Fields.{nurses as nurses_in}
-use Rattle.search.proofs.ChoiceLaws.{exchange_needs, chosen_nurse, count_as, seeks_none, seeks_some, exchange_cost}
+use Rattle.search.proofs.ChoiceLaws.{chosen_nurse, count_as, seeks_none, seeks_some, exchange_cost}
 use Rattle.search.proofs.Record.step.Goals as goal
 
+pub returns-in_err-best-clause-takes : goal.returns-in_err-best-clause-takes
+returns-in_err-best-clause-takes c = λ P s.
+    let none : c.from_residual.result ≡ None = search rules in
+    none ∙ seeks_none s c.args.self (c.best_of.ensures.best P s) c.in_err-best.was
+
 pub exchange-requires : goal.exchange-requires
-exchange-requires c = exchange_needs c.requires.needs (chosen_nurse c.requires.needs c.best_of-best.ensures.best c.in-Exchange.is) c.unplaced-unplaced.ensures
+exchange-requires c =
+    let need = c.requires.needs in
+    record {
+      ward = need.ward;
+      nurse = chosen_nurse need c.best_of.ensures.best c.in_ok-best.was;
+      unplaced_most = c.unplaced-unplaced.ensures.most;
+      steps_few = need.steps_few;
+      columns_long = need.columns_long;
+    }
 
-pub returns-in-Nothing-clause-takes : goal.returns-in-Nothing-clause-takes
-returns-in-Nothing-clause-takes c = λ P s q. seeks_none s c.args.self (c.best_of-best.ensures.best P s) c.in-Nothing.is q
-
-pub returns-in-Exchange-clause-takes : goal.returns-in-Exchange-clause-takes
-returns-in-Exchange-clause-takes c =
-    let l : c.in-Exchange.nurse < nurses_in c.args.w.now = chosen_nurse c.requires.needs c.best_of-best.ensures.best c.in-Exchange.is in
-    λ P s q. seeks_some s c.args.self (c.best_of-best.ensures.best P s) c.in-Exchange.is c.exchange.ensures.made.0 c.exchange.ensures.made.1
+pub returns-clause-takes : goal.returns-clause-takes
+returns-clause-takes c =
+    let l : c.in_ok-best.best.nurse < nurses_in c.args.offers.now.ward.now = chosen_nurse c.requires.needs c.best_of.ensures.best c.in_ok-best.was in
+    λ P s. seeks_some s c.args.self (c.best_of.ensures.best P s) c.in_ok-best.was c.exchange.ensures.made
     (exchange_cost s _ _ c.requires.needs.shown l (count_as c.requires.needs c.nurses.ensures.0 c.unplaced-unplaced.ensures) c.exchange.ensures.costs)

@@ -1,11 +1,13 @@
-use Rattle.search.proofs.PlanLaws.{plan_start, plan_turn, plan_end}
+use Rattle.std.proofs.Common.{rules, ◌≡◌, length, arith, sym}
+use Rattle.std.proofs.lemmas.List.{length-take-le}
+use Rattle.search.proofs.PlanLaws.{day_planned}
 use Rattle.search.proofs.choice.day_plan.Goals as goal
 
-pub loop-i-init : goal.loop-i-init
-loop-i-init c = plan_start _ _
+pub slice_bounds-copy_from_slice-end-2 : goal.slice_bounds-copy_from_slice-end-2
+slice_bounds-copy_from_slice-end-2 c = let long : length c.args.ends ≡ 49 = search rules in sym (length-take-le 48 c.args.ends (omega (arith, long)))
 
-pub loop-i-preserved : goal.loop-i-preserved
-loop-i-preserved c = plan_turn c.loop-i.invariant c.loop-i-test.true c.requires
+pub copy_from_slice-requires : goal.copy_from_slice-requires
+copy_from_slice-requires c = let long : length c.args.ends ≡ 49 = search rules in sym (length-take-le 48 c.args.ends (omega (arith, long)))
 
 pub returns : goal.returns
-returns c = plan_end c.loop-i.invariant c.loop-i-test.false c.requires
+returns c = day_planned c.copy_from_slice.ensures.after c.copy_from_slice-2.ensures.after

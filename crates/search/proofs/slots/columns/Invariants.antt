@@ -1,11 +1,8 @@
-use Rattle.std.proofs.Common.{◌-◌, ℕ, ◌≤◌}
+use Rattle.std.proofs.Common.{ℕ}
 use Rattle.history.specs.Slot.{Slot}
 use Rattle.penalty.specs.CodeColumns.{Shown}
 use Rattle.search.specs.CodeSeek.{Agree}
 use Rattle.search.proofs.slots.columns.Given as goal
 
 abbrev pub invariant-loop-i : goal.invariant-loop-i
-invariant-loop-i l = (l.i ≤ l.m) × ((slots : ℕ → Slot) → Agree l.w l.rec slots → Shown l.search l.w slots l.i l.cols)
-
-abbrev pub decreases-loop-i : goal.decreases-loop-i
-decreases-loop-i l = l.m - l.i
+invariant-loop-i l = (slots : ℕ → Slot) → Agree l.w l.rec slots → Shown l.search l.w slots l.i l.cols

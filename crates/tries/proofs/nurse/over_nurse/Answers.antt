@@ -9,13 +9,13 @@ returns-then-not-improves-clause-tried c = λ slots may s b.
     let a = c.args in
     let need = c.requires.0 in
     let few : pair_count a.w.now < 2 ^ 32 = omega (arith, need.ward.pairs_most) in
-    let trials = cost_trials a.search a.w.now a.night.now a.day.now c.nurse_costs-c.result a.i a.workable a.before slots need.ward need.nurse s c.nurse_costs-c.ensures.costs need.workable_are need.before_is in
-    floor_found a.w.now _ may _ a.others a.i a.held a.list.now _ c.improves.ensures c.if-not-improves.true a.search a.before
+    let trials = cost_trials a.search a.w.now a.counts.now.night.now a.counts.now.day.now c.nurse_costs-c.result a.x.now.number a.x.now.workable a.x.now.before slots need.ward need.nurse s c.nurse_costs-c.ensures.costs need.workable_are need.before_is in
+    floor_found a.w.now _ may _ a.x.now.others a.x.now.number a.held a.x.now.list.now _ c.improves.ensures c.if-not-improves.true a.search a.x.now.before
     c.days-n.ensures.0 few trials c.least.ensures.trials c.least.ensures.without
 
 pub returns-clause-tried : goal.returns-clause-tried
 returns-clause-tried c = λ slots may s b.
     let a = c.args in
     let need = c.requires.0 in
-    let trials = cost_trials a.search a.w.now a.night.now a.day.now c.nurse_costs-c.result a.i a.workable a.before slots need.ward need.nurse s c.nurse_costs-c.ensures.costs need.workable_are need.before_is in
+    let trials = cost_trials a.search a.w.now a.counts.now.night.now a.counts.now.day.now c.nurse_costs-c.result a.x.now.number a.x.now.workable a.x.now.before slots need.ward need.nurse s c.nurse_costs-c.ensures.costs need.workable_are need.before_is in
     c.over_list.ensures may _ b trials

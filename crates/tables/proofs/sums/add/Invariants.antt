@@ -1,6 +1,0 @@
-use Rattle.std.proofs.Common.{get_or, ◌+◌}
-use Rattle.tables.proofs.SumLaws.{Written}
-use Rattle.tables.proofs.sums.add.Given as goal
-
-abbrev pub invariant-loop-y : goal.invariant-loop-y
-invariant-loop-y l = Written l.fn.t l.t l.at (λ k. get_or l.fn.t (l.at + k) 0 + l.x) l.y
