@@ -16,6 +16,11 @@ abbrev pub done_words : ℕ → ℕ → ℕ → ℕ → List ℕ
 done_words outcome steps penalty count = 0 ∷ 0 ∷ outcome ∷ steps ∷ penalty ∷ count ∷ []
 
 -- of the reader and the writer: a count of numbers read or of bytes written
+abbrev pub counted_words : Result ℕ Refusal → List ℕ
+counted_words (Err n) = refusal_words n
+counted_words (Ok count) = done_words 0 0 0 count
+
+-- the same of what is refused or done, beside the count
 abbrev pub count_words : Result (Unit {0}) Refusal → ℕ → List ℕ
 count_words (Err n) count = refusal_words n
 count_words (Ok _) count = done_words 0 0 0 count

@@ -1,4 +1,4 @@
--- The words that the code gives of a count that is read or written, and of what an advance hands back.
+-- The words that the code gives of what an advance hands back.
 use Rattle.std.specs.Prelude.{ℕ, List}
 use Rattle.std.specs.declared.result.Result.{Result}
 use Rattle.std.specs.declared.result.Result.TheVariants.{Ok, Err}
@@ -6,10 +6,6 @@ use Rattle.refusals.specs.declared.Refusal.{Refusal}
 use Rattle.search.specs.CodeSeek.{end_by}
 use Rattle.outcomes.specs.declared.Advance.{Advance}
 use Rattle.answerwords.specs.AnswerWords.{refusal_words, done_words, end_word}
-
-abbrev pub counted_words : Result ℕ Refusal → List ℕ
-counted_words (Err n) = refusal_words n
-counted_words (Ok count) = done_words 0 0 0 count
 
 abbrev pub result_words : Result Advance Refusal → List ℕ
 result_words (Err n) = refusal_words n

@@ -3,8 +3,8 @@
 
 ghost use Rattle.std.specs.Prelude.{◌≡◌, ◌++◌, ◌≤◌, length, drop};
 ghost use Rattle.fields.specs.Sizes.{letter_places};
-ghost use Rattle.answerwords.specs.AnswerWords.{refusal_words, check_words};
-ghost use Rattle.answerwords.specs.CodeAnswers.{counted_words, result_words};
+ghost use Rattle.answerwords.specs.AnswerWords.{refusal_words, counted_words, check_words};
+ghost use Rattle.answerwords.specs.CodeAnswers.{result_words};
 
 use fields::sizes::LETTERS;
 use outcomes::{Advance, Verdict};

@@ -1,25 +1,15 @@
 -- The search for the best exchange as loops make it, nurse by nurse and each nurse's list in order, finds the exchange that a step takes.
-use Prim.Native.Nat.{ℕ, zero, suc, ◌+◌, ◌≤◌, ◌<◌, suc-le-suc}
-use mathlib.Core.Path.{◌≡◌, refl, sym, ap, ◌∙◌, subst}
-use mathlib.Core.Bool.{Bool, true, false, cond, ◌&&◌}
-use mathlib.Core.Logic.{⊎_elim}
+use Rattle.std.specs.Prelude.{ℕ, zero, suc, ◌+◌, ◌≤◌, ◌<◌, ◌≡◌, refl, Bool, true, false, cond, ◌&&◌, List, [], ◌∷◌, ◌++◌, ltb, length, get_or, take, Some, None}
+use Rattle.std.proofs.Common.{suc-le-suc, sym, ap, ◌∙◌, subst, ⊎_elim, append_assoc, append-nil, arith, zero-add, add-one, take-suc, take_all, ltb-true, ltb-false, le-ltb}
+use Rattle.std.proofs.Math.Option.{Option, none, some}
 use mathlib.Core.List.Memᴰ
-use mathlib.Core.List.{List, [], ◌∷◌, ◌++◌, append_assoc, append-nil, Memᴰ}
-use mathlib.Core.Option.{Option, none, some}
-use native.Mathlib.Omega.{arith}
-use native.Mathlib.Nat.{zero-add}
-use native.Mathlib.Numerals.{add-one}
-use lib.Dec.{ltb}
-use lib.ListN.{length, get_or, take}
-use lib.Seq.{take-suc, take_all}
-use borrow.Author.Tests.{ltb-true, ltb-false, le-ltb}
+use mathlib.Core.List.{Memᴰ}
 use Rattle.numbers.specs.Range.{up_from, filter, Ascending}
 use Rattle.numbers.proofs.RangeLaws.{range_add}
 use Rattle.numbers.proofs.MemberLaws.{Each}
 use Rattle.history.specs.Phase.{Step, Phase, offers_to, offers, exchanges, least}
 use Rattle.history.specs.Record.{Record, may_take, cost_after, best}
 use Rattle.history.specs.Claim.{NotAfter}
-use Rattle.std.specs.Prelude.{Some, None}
 use Rattle.best.specs.CodeBest.{Best, exchange, improves, considered, over_list, over_nurses, best_over, found}
 use Rattle.history.proofs.ChooseLaws.{First, least_none, least_first, step_path, offers_to_only, offers_only, range_only}
 

@@ -1,14 +1,7 @@
 -- The bytes of a number below 2 ^ 49, by its last group and by its first of several.
-use Prim.Native.Nat.{ℕ, zero, suc, ◌+◌, ◌*◌, ◌/◌, ◌%◌, ◌^◌, ◌≤◌, ◌<◌}
-use mathlib.Core.Path.{◌≡◌, refl, ap}
-use mathlib.Core.Bool.{Bool, true, false, cond}
-use mathlib.Core.List.{List, [], ◌∷◌}
-use native.Mathlib.Nat.{pow-succ'}
-use native.Mathlib.Numerals.{add-one}
-use native.Mathlib.Omega.{arith}
-use borrow.Author.Tests.{lt-ltb, le-ltb}
-use lib.ListN.{length}
-use lib.Dec.{ltb}
+use Rattle.std.specs.Prelude.{ℕ, zero, suc, ◌+◌, ◌*◌, ◌/◌, ◌%◌, ◌^◌, ◌≤◌, ◌<◌, ◌≡◌, refl, Bool, true, false, cond, List, [], ◌∷◌, length, ltb}
+use Rattle.std.proofs.Common.{ap, add-one, arith, lt-ltb, le-ltb}
+use Rattle.std.proofs.Math.Nat.{pow-succ'}
 use Rattle.codec.specs.Groups.{encode_groups, encode}
 
 pub encode_last : (v : ℕ) → v < 128 → encode v ≡ v ∷ []

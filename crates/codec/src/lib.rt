@@ -66,6 +66,7 @@ pub fn size(v: u64) -> usize
 {
     let mut n: usize = 1;
     let mut w = v;
+    // The value ends the loop, so a range of sizes would be no plainer.
     while w >= 128 {
         w /= 128;
         n += 1;

@@ -1,28 +1,23 @@
--- Laws of the day advance: its questions in two parts, its roster, its lists in the buffer, and what it hands back.
-use Prim.Native.Nat.{ℕ, zero, suc, ◌+◌, ◌-◌, ◌≤◌, ◌<◌}
-use mathlib.Core.Path.{◌≡◌, refl, sym, ap, ap₂, ◌∙◌, subst}
-use mathlib.Core.Bool.{Bool, true, false, cond, ◌&&◌, true≢false}
-use mathlib.Core.Logic.{◌≢◌}
-use mathlib.Core.List.{List, [], ◌∷◌, ◌++◌, map, append-nil}
-use mathlib.Core.Option.{Option, none, some}
-use native.Mathlib.Numerals.{add-one}
-use native.Mathlib.Omega.{arith}
-use lib.Dec.{leb, ltb, eqb}
-use lib.ListN.{length, get_or, take, replicate, length-append}
-use borrow.Author.Tests.{leb-true, lt-ltb, le-ltb, eq-eqb, ne_eqb, eqb-true}
+-- Laws of the day advance: its questions in order, its roster, its lists in the buffer, and what it hands back.
+use Rattle.std.specs.Prelude.{ℕ, zero, suc, ◌+◌, ◌-◌, ◌≤◌, ◌<◌, ◌≡◌, refl, Bool, true, false, cond, ◌&&◌, ◌≢◌, List, [], ◌∷◌, ◌++◌, map, leb, ltb, eqb, length, get_or, take, replicate}
+use Rattle.std.proofs.Common.{sym, ap, ap₂, ◌∙◌, subst, true≢false, append-nil, add-one, arith, length-append, leb-true, lt-ltb, le-ltb, eq-eqb, ne_eqb, eqb-true}
+use Rattle.std.proofs.lemmas.Bool.{and_parts}
+use Rattle.std.proofs.Math.Option.{Option, none, some}
+use Rattle.std.specs.declared.result.Result.{Result}
+use Rattle.std.specs.declared.result.Result.TheVariants.{Ok, Err}
 use Rattle.fields.specs.Sizes.{nurse_places, letter_places}
 use Rattle.numbers.specs.Range.{up_from}
 use Rattle.numbers.specs.Patterns.{unpaired, days_of}
-use Rattle.numbers.proofs.RangeLaws.{and_parts}
 use Rattle.fields.specs.Fields.{Accepted, nurses}
 use Rattle.daylists.specs.Lists.{up_to, first_over}
-use Rattle.daylists.specs.CodeLists.{Counted}
+use Rattle.daylists.specs.declared.lists.Over.{Over}
+use Rattle.daylists.specs.CodeLists.{AllFit, FirstOver, Counted}
 use Rattle.daylists.proofs.ListsLaws.{up_length, up_mono, stretch_is}
 use Rattle.history.specs.declared.Search.TheVariants.{Days}
 use Rattle.history.specs.Slot.{Slot}
 use Rattle.history.specs.Phase.{Phase, Answer, refusal}
 use Rattle.refusals.specs.declared.Refusal.{Refusal}
-use Rattle.refusals.specs.Refusals.{numbered, unless, first}
+use Rattle.refusals.specs.Refusals.{numbered, refusal_in, unless, first}
 use Rattle.refusals.specs.Questions as question
 use Rattle.refusals.proofs.OrderLaws.{first_none, unless_none}
 use Rattle.history.specs.Record.{Record, lacking, reply_of, proceed}
@@ -38,16 +33,15 @@ use Rattle.letters.specs.CodeRoster.{Written}
 use Rattle.letters.specs.declared.written.Roster.{Roster}
 use Rattle.letters.proofs.RowLaws.{letters_length}
 use Rattle.phases.specs.Phases.{nights_open, lists_fit, day_list_over, day_phase, night_of}
-use Rattle.phases.specs.CodeQuestions.{phase_of, before_lists, after_lists, EndsOf, UnplacedZero}
+use Rattle.phases.specs.CodeQuestions.{phase_of, EndsOf, UnplacedZero}
 use Rattle.outcomes.specs.Outcomes.{roster_of, letters_of, call_of}
 use Rattle.outcomes.proofs.OutcomeLaws.{list_front}
 use Rattle.phases.proofs.PhaseLaws.{day_ascending}
 
--- ---- the questions in two parts
+-- ---- the questions in order
 
-regroup : (a b c d : Option Refusal) → first (first a (first b c)) d ≡ first (first a b) (first c d)
-regroup none none none d = refl
-regroup none none (some n) d = refl
+regroup : (a b c d : Option Refusal) → first (first a (first b c)) d ≡ first a (first b (first c d))
+regroup none none c d = refl
 regroup none (some n) c d = refl
 regroup (some n) b c d = refl
 
@@ -61,43 +55,53 @@ lacking_unpaired lists (i ∷ is) = go (lists i) refl (lacking_unpaired lists is
     go [] q e = rw (q, lacking)
     go (p ∷ ps) q e = rw (q, lacking) e
 
-module _ (w : List ℕ) (nights : ℕ → ℕ) (k : ℕ) (past_zero : Bool) (places : ℕ) (r : Stored) where
-  pub in_two : refusal_stored (day_phase w nights) (call_of k past_zero places) r ≡ first (before_lists w nights k r) (after_lists w nights places r)
-  unfolding refusal_stored refusal day_phase before_lists after_lists
-  in_two =
-      ap (λ (l : Option Refusal). first (first (unless (leb k 10000 && leb (r.steps + k) 1000000) question.steps 0) (first (unless (nights_open w nights) question.nights 0)
-      (lists_fit (day_list_over w nights) (nurses w) places))) (first l (unless (sound_stored (day_phase w nights) r) question.record_sound 0)))
-      (lacking_unpaired (day_list_over w nights) (up_from 0 (nurses w)))
-      ∙ regroup (unless (leb k 10000 && leb (r.steps + k) 1000000) question.steps 0) (unless (nights_open w nights) question.nights 0) (lists_fit (day_list_over w nights) (nurses w) places)
-      (first (lacking (day_list_over w nights) (up_from 0 (nurses w))) (unless (sound_stored (day_phase w nights) r) question.record_sound 0))
+-- all of them, the record's asked of the phase over these nights
+module _ (w nights : List ℕ) (r : Stored) (k places : ℕ) where
+  abbrev over_nights : ℕ → ℕ
+  over_nights = night_of nights
 
-  pub two_before : {n : Option Refusal} → n ≡ before_lists w nights k r → {x : Refusal} → n ≡ some x → refusal_stored (day_phase w nights) (call_of k past_zero places) r ≡ some x
-  two_before e q = in_two ∙ rw (← e, q)
+  abbrev asks_steps : Option Refusal
+  asks_steps = unless (leb k 10000 && leb (r.steps + k) 1000000) question.steps 0
 
-  pub two_after : {n : Option Refusal} → before_lists w nights k r ≡ none → n ≡ after_lists w nights places r → refusal_stored (day_phase w nights) (call_of k past_zero places) r ≡ n
-  two_after e q = in_two ∙ rw (e, ← q)
+  abbrev asks_nights : Option Refusal
+  asks_nights = unless (nights_open w over_nights) question.nights 0
 
--- ---- questions 9, 10 and 11
+  abbrev asks_room : Option Refusal
+  asks_room = lists_fit (day_list_over w over_nights) (nurses w) places
 
-module _ (w : List ℕ) (nights : ℕ → ℕ) (r : Stored) {m : ℕ} (em : m ≡ nurses w) {places over : ℕ} {ends : List ℕ}
-    (c : Counted (day_list_over w nights) (nurses w) places over ends) where
-  pub after_nine : over < m → some (numbered question.lists (over + 1)) ≡ after_lists w nights places r
-  unfolding after_lists lists_fit
-  after_nine h = rw (← c.over_is, ne_eqb over (nurses w) (λ (q : over ≡ nurses w). omega arith), add-one over)
+  abbrev asks_lists : Option Refusal
+  asks_lists = lacking (day_list_over w over_nights) (up_from 0 (nurses w))
 
-  pub ends_of : m ≤ over → EndsOf (day_list_over w nights) m ends
-  unfolding EndsOf
-  ends_of h k l = c.ends_are k (omega arith)
+  abbrev asks_record : Option Refusal
+  asks_record = unless (sound_stored (phase_of Days w nights) r) question.record_sound 0
 
-  lists_fit_lem : m ≤ over → lists_fit (day_list_over w nights) (nurses w) places ≡ none
+  pub in_order : (past_zero : Bool) → first asks_steps (first asks_nights (first asks_room (first asks_lists asks_record))) ≡ refusal_stored (day_phase w over_nights) (call_of k past_zero places) r
+  unfolding refusal_stored refusal day_phase phase_of
+  in_order past_zero =
+      sym (ap (λ (l : Option Refusal). first (first asks_steps (first asks_nights asks_room)) (first l (unless (sound_stored (day_phase w over_nights) r) question.record_sound 0)))
+      (lacking_unpaired (day_list_over w over_nights) (up_from 0 (nurses w)))
+      ∙ regroup asks_steps asks_nights asks_room (first asks_lists (unless (sound_stored (day_phase w over_nights) r) question.record_sound 0)))
+
+-- ---- question 9 by the count
+
+module _ (f : ℕ → List ℕ) (m places : ℕ) where
+  over_fit : {over : Over} → FirstOver f m places over → some (numbered question.lists (over.nurse + 1)) ≡ lists_fit f m places
   unfolding lists_fit
-  lists_fit_lem h = rw (← c.over_is, eq-eqb over (nurses w) (let q : over ≡ nurses w = omega (arith, c.over_most) in q))
+  over_fit {over} c = rw (← c.over_is, ne_eqb over.nurse m (λ (q : over.nurse ≡ m). omega (arith, c.below)), add-one over.nurse)
 
-  -- where all fit, the questions after it
-  pub after_ten : (nights' : List ℕ) → nights ≡ night_of nights' → m ≤ over
-      → first (lacking (day_list_over w nights) (up_from 0 m)) (unless (sound_stored (phase_of Days w nights') r) question.record_sound 0) ≡ after_lists w nights places r
-  unfolding after_lists phase_of
-  after_ten nights' e h = rw (lists_fit_lem h, em, e)
+  all_fit : {ends : List ℕ} → AllFit f m places ends → none ≡ lists_fit f m places
+  unfolding lists_fit
+  all_fit c = rw (← c.none_over, eq-eqb m m refl)
+
+  -- what the code answers by the count
+  pub counted_asked : (counted : Result (List ℕ) Over) {r : Result (List ℕ) Refusal} → Counted f m places counted → ((ends : List ℕ) → counted ≡ Ok ends → r ≡ Ok ends)
+      → ((over : Over) → counted ≡ Err over → r ≡ Err (numbered question.lists (over.nurse + 1))) → refusal_in r ≡ lists_fit f m places
+  counted_asked (Ok ends) c fit over_by = ap refusal_in (fit ends refl) ∙ all_fit c
+  counted_asked (Err over) c fit over_by = ap refusal_in (over_by over refl) ∙ over_fit c
+
+pub ends_of : {f : ℕ → List ℕ} {m places n : ℕ} {ends : List ℕ} → AllFit f m places ends → n ≡ m → EndsOf f n ends
+unfolding EndsOf
+ends_of c e k l = c.ends_are k (omega arith)
 
 -- ---- question 10 by where the lists end
 
@@ -172,35 +176,20 @@ stored_zero w P past_zero k r acc e =
 
 -- ---- an advance that no question refuses
 
--- all lists fit exactly where none is over
-none_over : {f : ℕ → List ℕ} {m places over : ℕ} {ends : List ℕ} → Counted f m places over ends → lists_fit f m places ≡ none → m ≤ over
-unfolding lists_fit
-none_over {f} {m} {places} {over} c e =
-    let q : eqb (first_over f places 0 m) m ≡ true = unless_none (eqb (first_over f places 0 m) m) question.lists _ e in
-    omega (arith, eqb-true (first_over f places 0 m) m q, c.over_is)
-
-pub record Open (w : List ℕ) (nights : ℕ → ℕ) (r : Stored) (k : ℕ) (past_zero : Bool) (places over : ℕ) : Type 0 where
-  pub unrefused : refusal_stored (day_phase w nights) (call_of k past_zero places) r ≡ none
+pub record Open (w : List ℕ) (nights : ℕ → ℕ) (r : Stored) (k : ℕ) : Type 0 where
   pub steps_fit : r.steps + k ≤ 1000000
-  pub full : nurses w ≤ over
-  pub room : length (up_to (day_list_over w nights) (nurses w)) ≤ places
   pub sound : sound_stored (day_phase w nights) r ≡ true
 
-pub opened : (w : List ℕ) (nights : ℕ → ℕ) (r : Stored) (k : ℕ) (past_zero : Bool) {places over : ℕ} {ends : List ℕ} → before_lists w nights k r ≡ none
-    → Counted (day_list_over w nights) (nurses w) places over ends → none ≡ after_lists w nights places r → Open w nights r k past_zero places over
-unfolding before_lists after_lists
-opened w nights r k past_zero {places} e n f =
-    let a = first_none (unless (leb k 10000 && leb (r.steps + k) 1000000) question.steps 0) _ e in
-    let b = first_none (lists_fit (day_list_over w nights) (nurses w) places) _ (sym f) in
-    let c = first_none (lacking (day_list_over w nights) (up_from 0 (nurses w))) _ b.1 in
+pub opened : (w nights : List ℕ) (r : Stored) (k places : ℕ) (past_zero : Bool) → refusal_stored (day_phase w (night_of nights)) (call_of k past_zero places) r ≡ none → Open w (night_of nights) r k
+unfolding phase_of
+opened w nights r k places past_zero e =
+    let all = in_order w nights r k places past_zero ∙ e in
+    let a = first_none (unless (leb k 10000 && leb (r.steps + k) 1000000) question.steps 0) _ all in
+    let b = first_none (unless (nights_open w (night_of nights)) question.nights 0) _ a.1 in
+    let c = first_none (lists_fit (day_list_over w (night_of nights)) (nurses w) places) _ b.1 in
+    let d = first_none (lacking (day_list_over w (night_of nights)) (up_from 0 (nurses w))) _ c.1 in
     let s = and_parts (leb k 10000) (leb (r.steps + k) 1000000) (unless_none _ question.steps 0 a.0) in
-    record {
-      unrefused = two_after w nights k past_zero places r e f;
-      steps_fit = leb-true _ _ s.1;
-      full = none_over n b.0;
-      room = n.all_fit (none_over n b.0);
-      sound = unless_none _ question.record_sound 0 c.1;
-    }
+    record { steps_fit = leb-true _ _ s.1; sound = unless_none _ question.record_sound 0 d.1 }
 
 -- what the code finds in the buffer
 pub lists_front : (L rest : List ℕ) {buf : List ℕ} {n : ℕ} → n ≡ length L → buf ≡ L ++ rest → take n buf ≡ L ++ []
@@ -208,10 +197,10 @@ lists_front L rest e q = list_front L rest q e ∙ sym (append-nil L)
 
 module _ (w : List ℕ) (nights : ℕ → ℕ) where
   -- a buffer that begins with all lists, each from where the one before it ends
-  module _ {places over : ℕ} {ends lists : List ℕ} (rest : List ℕ) (c : Counted (day_list_over w nights) (nurses w) places over ends) (full : nurses w ≤ over)
+  module _ {places : ℕ} {ends lists : List ℕ} (rest : List ℕ) (c : AllFit (day_list_over w nights) (nurses w) places ends)
       (e : lists ≡ up_to (day_list_over w nights) (nurses w) ++ rest) where
     begin_is : (i : ℕ) → i ≤ nurses w → get_or ends i 0 ≡ length (up_to (day_list_over w nights) i)
-    begin_is i h = c.ends_are i (omega arith)
+    begin_is i h = c.ends_are i h
 
     pub day_lists : Lists Days w lists ends
     day_lists = record {

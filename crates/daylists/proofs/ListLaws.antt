@@ -1,16 +1,11 @@
 -- The walk lists the numbers below 2^n that the rule over the month lets through, in their order.
-use mathlib.Core.Path.{◌≡◌, refl, sym, ap, ap₂, ◌∙◌, subst}
-use mathlib.Core.Bool.{Bool, true, false, cond}
-use mathlib.Core.Logic.{◌⊎◌, inl, inr}
-use mathlib.Core.List.{List, [], ◌++◌}
-use Prim.Native.Nat.{ℕ, zero, suc, ◌+◌, ◌-◌, ◌*◌, ◌/◌, ◌%◌, ◌^◌, ◌≤◌, ◌<◌}
-use native.Mathlib.Nat.{add_comm, zero-mul, eq-or-lt_of_le}
-use native.Mathlib.Numerals.{add-one}
-use native.Mathlib.Omega.{arith}
-use lib.Pow.{high, shl-shr, pow_pos}
+use Rattle.std.specs.Prelude.{◌≡◌, refl, Bool, true, false, cond, ◌⊎◌, List, [], ◌++◌, ℕ, zero, suc, ◌+◌, ◌-◌, ◌*◌, ◌/◌, ◌%◌, ◌^◌, ◌≤◌, ◌<◌}
+use Rattle.std.proofs.Common.{sym, ap, ap₂, ◌∙◌, subst, inl, inr, add_comm, zero-mul, eq-or-lt_of_le, add-one, arith, pow_pos}
+use Rattle.std.proofs.lemmas.Bool.{and_parts}
+use Rattle.std.proofs.lemmas.Nat.{shl-shr}
+use Rattle.std.proofs.Math.Pow.{high}
 use Rattle.numbers.specs.Range.{up_from, filter}
 use Rattle.numbers.specs.Digits.{has}
-use Rattle.numbers.proofs.RangeLaws.{and_parts}
 use Rattle.numbers.proofs.HalfLaws.{pow_twice, low_half, high_half, filter_halves}
 use Rattle.numbers.proofs.AgreeLaws.{filter_none, high_agree}
 use Rattle.days.specs.CodeMonth.{duty_at, rule_of, rest_on}

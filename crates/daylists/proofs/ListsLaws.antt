@@ -1,18 +1,14 @@
 -- Lists one after the other in a buffer: one turn of the loops that count and write them, and each list's stretch.
-use mathlib.Core.Path.{◌≡◌, refl, sym, ap, ◌∙◌, subst}
-use mathlib.Core.List.{List, [], ◌++◌, append-nil, append_assoc}
-use Prim.Native.Nat.{ℕ, zero, suc, ◌+◌, ◌-◌, ◌≤◌, ◌<◌, min}
-use native.Mathlib.Nat.{add-zero, sub-zero}
-use native.Mathlib.Numerals.{add-one}
-use native.Mathlib.Omega.{arith}
-use native.Mathlib.Decide.{dec_lt}
-use borrow.Author.Tests.{le-leb, lt-leb}
-use lib.ListN.{length, get_or, set, take, drop, length-append, length-set}
-use lib.Seq.{get_or-set_same, get_or-set_other, drop-append_seam, take-append_seam}
+use Rattle.std.specs.Prelude.{◌≡◌, refl, List, [], ◌++◌, ℕ, zero, suc, ◌+◌, ◌-◌, ◌≤◌, ◌<◌, min, length, get_or, set, take, drop}
+use Rattle.std.proofs.Common.{sym, ap, ◌∙◌, subst, append-nil, append_assoc, add-zero, add-one, arith, le-leb, length-append, length-set, get_or-set_same, get_or-set_other}
+use Rattle.std.proofs.lemmas.Bool.{lt-leb}
+use Rattle.std.proofs.Math.Decide.{dec_lt}
+use Rattle.std.proofs.Math.Nat.{sub-zero}
+use Rattle.std.proofs.Math.Seq.{drop-append_seam, take-append_seam}
 use Rattle.fields.specs.Sizes.{nurse_places}
 use Rattle.numbers.proofs.BufferLaws.{Halves, halves_count, halves_written, as_long}
 use Rattle.daylists.specs.Lists.{up_to, first_over}
-use Rattle.daylists.specs.CodeLists.{Counted}
+use Rattle.daylists.specs.CodeLists.{AllFit, FirstOver}
 
 pub up_none : (f : ℕ → List ℕ) → up_to f 0 ≡ []
 unfolding up_to
@@ -147,25 +143,21 @@ module _ (f : ℕ → List ℕ) (m places over at : ℕ) (ends : List ℕ) (c : 
           subst (λ (x : ℕ). get_or (set ends (over + 1) (at + found)) x 0 ≡ length (up_to f x)) (sym s)
           (get_or-set_same ends (over + 1) (at + found) 0 (omega (arith, c.ends_long)) ∙ next)
 
-  pub counted_over : {found : ℕ} → over < m → found ≡ min (places - at + 1) (length (f over)) → places - at < found → Counted f m places over ends
+  pub counted_over : {found : ℕ} → over < m → found ≡ min (places - at + 1) (length (f over)) → places - at < found → FirstOver f m places (record { nurse = over; ends = ends })
   counted_over h e l =
       let long : places < length (up_to f (over + 1)) = omega (arith, up_length f over, c.at_is, c.fits) in
       record {
         over_is = sym (c.answer ∙ over_no f places m over h long);
-        over_most = c.over_most;
+        below = h;
         ends_are = c.ends_are;
-        too_long = λ k. omega (arith, up_mono f (over + 1) m (omega arith));
-        all_fit = λ k. absurd (omega arith);
+        too_long = omega (arith, up_mono f (over + 1) m (omega arith));
       }
 
-  pub counted_all : {all : ℕ} → m ≤ over → all ≡ m → Counted f m places all ends
-  counted_all {all} h q =
+  pub counted_all : m ≤ over → AllFit f m places ends
+  counted_all h =
       let s : over ≡ m = omega (arith, c.over_most) in
-      let here : all ≡ over = omega arith in
-      rw here (record {
-        over_is = sym (c.answer ∙ over_done f places m over h);
-        over_most = c.over_most;
-        ends_are = c.ends_are;
-        too_long = λ k. absurd (omega arith);
-        all_fit = λ k. omega (arith, ap (λ (x : ℕ). length (up_to f x)) s, c.at_is, c.fits);
-      })
+      record {
+        none_over = sym s ∙ sym (c.answer ∙ over_done f places m over h);
+        ends_are = λ k l. c.ends_are k (omega arith);
+        fit = omega (arith, ap (λ (x : ℕ). length (up_to f x)) s, c.at_is, c.fits);
+      }

@@ -1,11 +1,7 @@
 -- The walk over the table and the days of rest lists what the walk over the month does.
-use mathlib.Core.Path.{◌≡◌, refl, sym, ap, ap₂, ◌∙◌}
-use mathlib.Core.Bool.{Bool, true, false, cond, ◌&&◌}
-use mathlib.Core.List.{List, [], ◌++◌}
-use Prim.Native.Nat.{ℕ, zero, suc, ◌+◌, ◌-◌, ◌*◌, ◌/◌, ◌%◌, ◌^◌, ◌≤◌, ◌<◌}
-use native.Mathlib.Nat.{add-zero, mod-lt, zero-lt-suc}
-use native.Mathlib.Omega.{arith}
-use lib.Pow.{shl-shr}
+use Rattle.std.specs.Prelude.{◌≡◌, refl, Bool, true, false, cond, ◌&&◌, List, [], ◌++◌, ℕ, zero, suc, ◌+◌, ◌-◌, ◌*◌, ◌/◌, ◌%◌, ◌^◌, ◌≤◌, ◌<◌}
+use Rattle.std.proofs.Common.{sym, ap, ap₂, ◌∙◌, add-zero, mod-lt, zero-lt-suc, arith}
+use Rattle.std.proofs.lemmas.Nat.{shl-shr}
 use Rattle.numbers.specs.Digits.{has}
 use Rattle.numbers.proofs.DigitLaws.{bit_of_zero}
 use Rattle.numbers.proofs.AgreeLaws.{field_agree}

@@ -1,19 +1,13 @@
 -- A pattern that meets the rules is never cut off: on its way the walk goes on. And one that the walk comes to meets them.
-use mathlib.Core.Path.{◌≡◌, refl, sym, ap, ◌∙◌, subst}
-use mathlib.Core.Bool.{Bool, true, false, cond, not, ◌&&◌, ◌||◌}
-use mathlib.Core.List.{List}
-use Prim.Native.Nat.{ℕ, zero, suc, ◌+◌, ◌-◌, ◌*◌, ◌/◌, ◌%◌, ◌^◌, ◌≤◌, ◌<◌, min}
-use native.Mathlib.Nat.{add-zero, pow-suc, div-one, mul_comm, mul_assoc, sub-zero}
-use native.Mathlib.Numerals.{add-one}
-use native.Mathlib.Omega.{arith}
-use native.Mathlib.Decide.{dec_lt}
-use borrow.Author.Tests.{lt-ltb, le-ltb, ltb-true, eqb-true, eqb-false}
-use lib.Dec.{ltb}
-use lib.Bits.{bit_or}
-use lib.Pow.{shr-shr, shl-shr}
+use Rattle.std.specs.Prelude.{◌≡◌, refl, Bool, true, false, cond, not, ◌&&◌, ◌||◌, List, ℕ, zero, suc, ◌+◌, ◌-◌, ◌*◌, ◌/◌, ◌%◌, ◌^◌, ◌≤◌, ◌<◌, min, ltb, bit_or}
+use Rattle.std.proofs.Common.{sym, ap, ◌∙◌, subst, add-zero, pow-suc, div-one, mul_comm, mul_assoc, add-one, arith, lt-ltb, le-ltb, ltb-true, eqb-true, shr-shr}
+use Rattle.std.proofs.lemmas.Bool.{eqb-false, and_parts, and_from}
+use Rattle.std.proofs.lemmas.Nat.{shl-shr}
+use Rattle.std.proofs.Math.Decide.{dec_lt}
+use Rattle.std.proofs.Math.Nat.{sub-zero}
 use Rattle.numbers.specs.Range.{up_from, all}
 use Rattle.numbers.specs.Digits.{has, bit}
-use Rattle.numbers.proofs.RangeLaws.{and_parts, both_true, length_range, range_all, range_each}
+use Rattle.numbers.proofs.RangeLaws.{length_range, range_all, range_each}
 use Rattle.numbers.proofs.DigitLaws.{bit_lt, bit_of_zero}
 use Rattle.numbers.proofs.AgreeLaws.{filter_le, low_agree, field_agree, has_moved_down, has_or_left, has_or_right}
 use Rattle.rows.specs.Rows.{started}
@@ -74,7 +68,7 @@ module _ (m : Month) (row : List ℕ) (b : Bounded m) (q : ℕ) (y : Meets m row
   first_made : first_hold m row (q / 2 ^ 0 % 64) ≡ true
   unfolding first_hold
   first_made =
-      both_true (all (may_choose m (q / 2 ^ 0 % 64)) (up_from 0 (min 6 m.days))) (all (windows_hold (duty_at row (q / 2 ^ 0 % 64)) m.longest) (up_from 7 (min 6 m.days)))
+      and_from (all (may_choose m (q / 2 ^ 0 % 64)) (up_from 0 (min 6 m.days))) (all (windows_hold (duty_at row (q / 2 ^ 0 % 64)) m.longest) (up_from 7 (min 6 m.days)))
       (range_all (may_choose m (q / 2 ^ 0 % 64)) 0 (min 6 m.days)
       (λ d l h. ap (λ (b : Bool). cond b (has m.available d) (not (has m.fixed d))) (first_days d (omega arith)) ∙ y.chosen d (omega arith)))
       (range_all (windows_hold (duty_at row (q / 2 ^ 0 % 64)) m.longest) 7 (min 6 m.days)

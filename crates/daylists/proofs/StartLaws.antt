@@ -1,11 +1,6 @@
 -- What the walk lists from its beginning is the nurse's day list.
-use mathlib.Core.Path.{◌≡◌, sym, ap, ap₂, ◌∙◌, subst}
-use mathlib.Core.Bool.{Bool}
-use mathlib.Core.List.{List}
-use Prim.Native.Nat.{ℕ, ◌+◌, ◌-◌, ◌*◌, ◌^◌, ◌≤◌}
-use native.Mathlib.Nat.{zero-mul}
-use native.Mathlib.Omega.{arith}
-use lib.Pow.{pow_mono, pow_pos}
+use Rattle.std.specs.Prelude.{◌≡◌, Bool, List, ℕ, ◌+◌, ◌-◌, ◌*◌, ◌^◌, ◌≤◌}
+use Rattle.std.proofs.Common.{sym, ap, ap₂, ◌∙◌, subst, zero-mul, arith, pow_mono, pow_pos}
 use Rattle.fields.specs.Sizes.{day_places}
 use Rattle.numbers.specs.Range.{up_from, filter}
 use Rattle.numbers.specs.Digits.{has}

@@ -1,22 +1,10 @@
 -- Laws of the table and of the walk: what each function of the code has in hand is what the model says.
-use mathlib.Core.Path.{◌≡◌, refl, sym, ap, ap₂, ◌∙◌, subst}
-use mathlib.Core.Bool.{Bool, true, false, cond}
-use mathlib.Core.List.{List, [], ◌∷◌, ◌++◌}
-use Prim.Native.Nat.{ℕ, zero, suc, ◌+◌, ◌-◌, ◌*◌, ◌/◌, ◌%◌, ◌^◌, ◌≤◌, ◌<◌, min}
-use native.Mathlib.Nat.{zero-div, div-one}
-use native.Mathlib.Numerals.{sub-one}
-use native.Mathlib.Omega.{arith}
-use native.Mathlib.Decide.{dec_lt}
-use borrow.Author.Tests.{lt-ltb}
-use lib.Bits.{bit_or}
-use lib.Pow.{shl-shr, shl_exact}
-use lib.ListN.{length, get_or, set, take, drop, length-set}
-use lib.Seq.{take-suc-set}
+use Rattle.std.specs.Prelude.{◌≡◌, refl, Bool, true, false, cond, List, [], ◌∷◌, ◌++◌, ℕ, zero, suc, ◌+◌, ◌-◌, ◌*◌, ◌/◌, ◌%◌, ◌^◌, ◌≤◌, ◌<◌, min, bit_or, length, get_or, set, take, drop}
+use Rattle.std.proofs.Common.{sym, ap, ap₂, ◌∙◌, subst, div-one, sub-one, arith, lt-ltb, shl_exact, one-mul, length-set, take-suc-set, add-one, append_assoc, add-zero, zero-add, get_or-set_same, get_or-set_other}
 use Rattle.std.proofs.lemmas.List.{drop-set-lt, take-append-drop}
-use native.Mathlib.Numerals.{add-one}
-use mathlib.Core.List.{append_assoc}
-use native.Mathlib.Nat.{add-zero, zero-add}
-use lib.Seq.{get_or-set_same, get_or-set_other}
+use Rattle.std.proofs.lemmas.Nat.{shl-shr}
+use Rattle.std.proofs.Math.Decide.{dec_lt}
+use Rattle.std.proofs.Math.Nat.{zero-div}
 use Rattle.fields.specs.Sizes.{day_places}
 use Rattle.numbers.specs.Range.{up_from, all}
 use Rattle.numbers.specs.Sum.{one_if}
@@ -25,7 +13,7 @@ use Rattle.numbers.proofs.DigitLaws.{bit_lt, bit_is, number_has}
 use Rattle.numbers.proofs.HalfLaws.{pow_half, low_half, high_half}
 use Rattle.days.specs.Days.{is_rest, windows_hold}
 use Rattle.days.specs.CodeMonth.{duty_at, rest_on}
-use Rattle.daylists.specs.CodeWalk.{Filled, Idle, Inside, may_choose, step_holds, first_hold, branch, reach, onward, opens, walked, Written}
+use Rattle.daylists.specs.CodeWalk.{Filled, Idle, Inside, may_choose, step_holds, first_hold, branch, reach, onward, opens, walked, PutFrom}
 use Rattle.days.specs.declared.month.Month.{Month}
 use Rattle.daylists.proofs.LocalLaws.{choice_next, choice_few, choice_many, rest_low, rest_high}
 
@@ -190,6 +178,10 @@ pub record Node (ways : List ℕ) (left a r : ℕ) : Type 0 where
 pub node_yes : {ways : List ℕ} {left a r : ℕ} {v : Bool} → v ≡ opens ways left a r → v ≡ true → (left ≡ 0 → ⊥) → Node ways left a r
 node_yes e y f = record { goes = sym e ∙ y; more = f }
 
+-- the number of the day decided next, as the code shifts it
+pub day_bit : {left a r : ℕ} → Inside left a r → (1 * 2 ^ (left - 1)) % 2 ^ 64 ≡ 2 ^ (left - 1)
+day_bit {left} inside = shl_exact {a = 1} 1 (left - 1) 64 (omega arith) (omega (arith, inside.days_left)) ∙ one-mul (2 ^ (left - 1))
+
 module _ {ways : List ℕ} {left a r : ℕ} (idle : ℕ) (n : Node ways left a r) where
   -- without the day, and with it: b is its number
   pub node_lists : {b : ℕ} → b ≡ 2 ^ (left - 1)
@@ -212,30 +204,30 @@ module _ {ways : List ℕ} {left a r : ℕ} (idle : ℕ) (n : Node ways left a r
 -- ---- what the walk puts into a room
 
 module _ {R : Type 0} (Put : R → ℕ → ℕ → R → Type 0) where
-  pub none_put : (s : R) (i : ℕ) (L : List ℕ) → length L ≡ 0 → Written Put s i L s
-  unfolding Written
+  pub none_put : (s : R) (i : ℕ) (L : List ℕ) → length L ≡ 0 → PutFrom Put s i L s
+  unfolding PutFrom
   none_put s i [] e = refl
   none_put s i (x ∷ L) e = absurd (omega arith)
 
-  pub one_put : (s t : R) (i x : ℕ) (L : List ℕ) → L ≡ x ∷ [] → Put s i x t → Written Put s i L t
-  unfolding Written
+  pub one_put : (s t : R) (i x : ℕ) (L : List ℕ) → L ≡ x ∷ [] → Put s i x t → PutFrom Put s i L t
+  unfolding PutFrom
   one_put s t i x L e p = rw e (t, p, refl)
 
-  both_put : (A B : List ℕ) (s u t : R) (i j : ℕ) → Written Put s i A u → j ≡ i + length A → Written Put u j B t → Written Put s i (A ++ B) t
-  unfolding Written
+  both_put : (A B : List ℕ) (s u t : R) (i j : ℕ) → PutFrom Put s i A u → j ≡ i + length A → PutFrom Put u j B t → PutFrom Put s i (A ++ B) t
+  unfolding PutFrom
   both_put [] B s u t i j f e g =
       let h : j ≡ i = omega arith in
       rw (← f, ← h) g
   both_put (x ∷ A) B s u t i j f e g = (f.0, f.1, both_put A B f.0 u t (i + 1) j f.2 (omega arith) g)
 
-  pub more_put : (L A B : List ℕ) (s u t : R) (i j : ℕ) → L ≡ A ++ B → Written Put s i A u → j ≡ i + length A → Written Put u j B t → Written Put s i L t
+  pub more_put : (L A B : List ℕ) (s u t : R) (i j : ℕ) → L ≡ A ++ B → PutFrom Put s i A u → j ≡ i + length A → PutFrom Put u j B t → PutFrom Put s i L t
   more_put L A B s u t i j w f e g = rw w (both_put A B s u t i j f e g)
 
 -- where the room is seen as a list in which each one put is set
 module _ {R : Type 0} (Put : R → ℕ → ℕ → R → Type 0) (view : R → List ℕ) (sets : (s : R) (i q : ℕ) (t : R) → Put s i q t → view t ≡ set (view s) i q) where
-  written_from : (L : List ℕ) (s t : R) (i : ℕ) → Written Put s i L t → i + length L ≤ length (view s)
+  written_from : (L : List ℕ) (s t : R) (i : ℕ) → PutFrom Put s i L t → i + length L ≤ length (view s)
       → view t ≡ take i (view s) ++ (L ++ drop (i + length L) (view s))
-  unfolding Written
+  unfolding PutFrom
   written_from [] s t i f h = rw (f, add-zero i) (sym (take-append-drop i (view s)))
   written_from (x ∷ L) s t i f h =
       let xs = view s in
@@ -245,12 +237,12 @@ module _ {R : Type 0} (Put : R → ℕ → ℕ → R → Type 0) (view : R → L
       ∙ rw (one, add-one i, take-suc-set xs i x (omega arith), ← add-one i, drop-set-lt (i + 1 + length L) xs i x (omega arith), next)
       (append_assoc (take i xs) (x ∷ []) (L ++ drop (i + suc (length L)) xs))
 
-  pub written_list : (L : List ℕ) (s t : R) → Written Put s 0 L t → length L ≤ length (view s) → view t ≡ L ++ drop (length L) (view s)
+  pub written_list : (L : List ℕ) (s t : R) → PutFrom Put s 0 L t → length L ≤ length (view s) → view t ≡ L ++ drop (length L) (view s)
   written_list L s t f h = written_from L s t 0 f (omega arith) ∙ ap (λ (k : ℕ). L ++ drop k (view s)) (zero-add (length L))
 
 -- what each one put keeps
 pub written_keeps : {R N : Type 0} (Put : R → ℕ → ℕ → R → Type 0) (name : R → N) → ((s : R) (i q : ℕ) (t : R) → Put s i q t → name t ≡ name s)
-    → (L : List ℕ) (s t : R) (i : ℕ) → Written Put s i L t → name t ≡ name s
-unfolding Written
+    → (L : List ℕ) (s t : R) (i : ℕ) → PutFrom Put s i L t → name t ≡ name s
+unfolding PutFrom
 written_keeps Put name keeps [] s t i f = ap name f
 written_keeps Put name keeps (x ∷ L) s t i f = written_keeps Put name keeps L f.0 t (i + 1) f.2 ∙ keeps s i x f.0 f.1

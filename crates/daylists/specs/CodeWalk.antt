@@ -81,6 +81,6 @@ pub record Inside (left a r : ℕ) : Type 0 where
   pub fits : a + 2 ^ left ≤ 2 ^ 32
 
 -- each of a list put into the places from i on, where `Put` says what one put into a room makes of it
-unfoldable pub Written : {R : Type 0} → (R → ℕ → ℕ → R → Type 0) → R → ℕ → List ℕ → R → Type 0
-Written Put s i [] t = t ≡ s
-Written Put s i (x ∷ xs) t = (u : _) × Put s i x u × Written Put u (i + 1) xs t
+unfoldable pub PutFrom : {R : Type 0} → (R → ℕ → ℕ → R → Type 0) → R → ℕ → List ℕ → R → Type 0
+PutFrom Put s i [] t = t ≡ s
+PutFrom Put s i (x ∷ xs) t = (u : _) × Put s i x u × PutFrom Put u (i + 1) xs t

@@ -1,28 +1,28 @@
 // All nurses' day lists in one buffer, each in the part that begins where the last one ends.
 ghost use Rattle.std.specs.Prelude.{◌≡◌, ◌++◌, ◌≤◌, ◌<◌, length, drop};
-ghost use Rattle.fields.specs.Fields.{Accepted, nurses};
+ghost use Rattle.fields.specs.Fields.{nurses};
 ghost use Rattle.daylists.specs.Lists.{up_to, day_lists};
 ghost use Rattle.daylists.specs.CodeLists.{Counted};
 
 use crate::reach::WAYS;
+use fields::Body;
 use fields::sizes::{ENDS, NURSES};
 
-// The first nurse, from 0, whose list does not end within the places, or the number of nurses; and where the lists before hers
-// begin and end: nurse i's is from ends[i] to ends[i + 1].
+// The first nurse, from 0, whose list does not end within the places, and where the lists before hers begin and end.
 #[derive(Clone, Copy)]
-pub struct Ends {
-    pub over: usize,
+pub struct Over {
+    pub nurse: usize,
     pub ends: [usize; ENDS],
 }
 
+// Where the lists begin and end: nurse i's is from place i of the answer to place i + 1.
 // Not inlined, here and below: the table would stay on the stack while steps are made.
 #[inline(never)]
-pub fn lists_count(w: &[u64], nights: &[u64; NURSES], places: usize) -> Ends
-    requires accepted { Accepted w.now }
+pub fn lists_count(w: &Body, nights: &[u64; NURSES], places: usize) -> Result<[usize; ENDS], Over>
     requires places_bound { places < 2305843009213693952 }
-    ensures { Counted (day_lists w.now nights.now) (nurses w.now) places result.over result.ends }
+    ensures { Counted (day_lists w.now.numbers.now nights.now) (nurses w.now.numbers.now) places result }
 {
-    let m = fields::nurses(w);
+    let m = w.nurses();
     let mut ends = [0usize; ENDS];
     let mut ways = [0u64; WAYS];
     let mut at: usize = 0;
@@ -30,23 +30,22 @@ pub fn lists_count(w: &[u64], nights: &[u64; NURSES], places: usize) -> Ends
         let room = places - at;
         let found = crate::day_count(w, i, nights[i], room + 1, &mut ways);
         if room < found {
-            return Ends { over: i, ends };
+            return Err(Over { nurse: i, ends });
         }
         at += found;
         ends[i + 1] = at;
     }
-    Ends { over: m, ends }
+    Ok(ends)
 }
 
 // Writes all lists, where there is room.
 #[inline(never)]
-pub fn lists_fill(w: &[u64], nights: &[u64; NURSES], buf: &mut [u32]) -> usize
-    requires accepted { Accepted w.now }
-    requires w_in_bounds { length (up_to (day_lists w.now nights.now) (nurses w.now)) ≤ length buf.old }
-    ensures value { result ≡ length (up_to (day_lists w.now nights.now) (nurses w.now)) }
-    ensures buf_after { buf.new ≡ up_to (day_lists w.now nights.now) (nurses w.now) ++ drop (length (up_to (day_lists w.now nights.now) (nurses w.now))) buf.old }
+pub fn lists_fill(w: &Body, nights: &[u64; NURSES], buf: &mut [u32]) -> usize
+    requires w_in_bounds { length (up_to (day_lists w.now.numbers.now nights.now) (nurses w.now.numbers.now)) ≤ length buf.old }
+    ensures value { result ≡ length (up_to (day_lists w.now.numbers.now nights.now) (nurses w.now.numbers.now)) }
+    ensures buf_after { buf.new ≡ up_to (day_lists w.now.numbers.now nights.now) (nurses w.now.numbers.now) ++ drop (length (up_to (day_lists w.now.numbers.now nights.now) (nurses w.now.numbers.now))) buf.old }
 {
-    let m = fields::nurses(w);
+    let m = w.nurses();
     let mut ways = [0u64; WAYS];
     let mut used: usize = 0;
     for i in 0..m {

@@ -6,6 +6,7 @@ ghost use Rattle.days.specs.CodeMonth.{rest_on};
 ghost use Rattle.daylists.specs.CodeWalk.{step_holds, first_hold, reach, Filled, Idle};
 
 use days::month::Sheet;
+use days::rule;
 
 // The table's places: 128 for each day of the month, and for the one after it.
 pub(crate) const WAYS: usize = 4096;
@@ -71,7 +72,7 @@ fn write_day(sheet: &Sheet, d: usize, ways: &mut [u64; WAYS])
     requires filled { Filled sheet.now.month sheet.now.row ways.old (64 * d) }
     ensures { Filled sheet.now.month sheet.now.row ways.new (64 * d + 64) }
 {
-    let rest = d > 0 && sheet.rests_on(0, d - 1);
+    let rest = d > 0 && rule::rests_on(&sheet.row, 0, d - 1);
     let top = (1usize << (sheet.month.days - d)).min(64);
     for s in 0..top {
         let found = reached(sheet, ways, d, rest, s as u64);
@@ -94,5 +95,5 @@ pub(crate) fn write_table(sheet: &Sheet, ways: &mut [u64; WAYS])
 pub(crate) fn idle_days(sheet: &Sheet) -> u64
     ensures { Idle sheet.now.row sheet.now.month.days result }
 {
-    numbers::set_of(sheet.month.days, |d| sheet.rests_on(0, d))
+    numbers::set_of(sheet.month.days, |d| rule::rests_on(&sheet.row, 0, d))
 }

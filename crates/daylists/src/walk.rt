@@ -2,7 +2,7 @@
 // make the number `from`, with so many rests.
 ghost use Rattle.std.specs.Prelude.{◌≡◌, ℕ, ◌+◌, ◌≤◌, ◌<◌, min, length, set};
 ghost use Rattle.std.proofs.Common.{rules};
-ghost use Rattle.daylists.specs.CodeWalk.{opens, walked, Written, Inside};
+ghost use Rattle.daylists.specs.CodeWalk.{opens, walked, PutFrom, Inside};
 
 use crate::reach::WAYS;
 use numbers::Set;
@@ -17,11 +17,11 @@ fn goes_on(ways: &[u64; WAYS], left: usize, from: u64, rests: u64) -> bool
 }
 
 // What becomes of the walk's patterns: each has a place, as far as there are places.
-pub(crate) trait Room {
+pub(crate) trait Listing {
     // How many places there are.
     ghost places: { Self → ℕ };
 
-    // What q at place i makes of the room.
+    // What q at place i makes of it.
     ghost Put: { Self → ℕ → ℕ → Self → Type 0 };
 
     fn places(&self) -> usize
@@ -34,11 +34,11 @@ pub(crate) trait Room {
     ghost keeps: { (s : Self) (i q : ℕ) (t : Self) → Put s i q t → places t ≡ places s };
 }
 
-// Counts the patterns, up to so many.
+// So many places, in which nothing is put: only how many are taken is told.
 #[derive(Clone, Copy)]
-pub(crate) struct Cap(pub usize);
+pub(crate) struct Counting(pub usize);
 
-impl Room for Cap {
+impl Listing for Counting {
     ghost places = { λ s. s.0 };
 
     ghost Put = { λ s i q t. t ≡ s };
@@ -54,11 +54,11 @@ impl Room for Cap {
 
 // Writes each pattern at its place.
 #[derive(Drop)]
-pub(crate) struct Places<'a> {
+pub(crate) struct Writing<'a> {
     pub list: &'a mut [u32],
 }
 
-impl Room for Places<'_> {
+impl Listing for Writing<'_> {
     ghost places = { λ s. length s.list.now };
 
     ghost Put = { λ s i q t. (t.list.ghost_name ≡ s.list.ghost_name) × (t.list.now ≡ set s.list.now i q) };
@@ -76,34 +76,36 @@ impl Room for Places<'_> {
 
 // Puts the patterns below at the places from `at` on, those without the next day before those with it, and answers the place
 // after them. It ends where the places do.
-pub(crate) fn walk<R: Room>(
+// Seven parameters: the table and the idle days never change, and each of the others does at every call, so that a struct of
+// either would be taken apart at once.
+pub(crate) fn walk<L: Listing>(
     ways: &[u64; WAYS],
     idle: u64,
     left: usize,
     from: u64,
     rests: u64,
     at: usize,
-    room: &mut R,
+    list: &mut L,
 ) -> usize
     requires inside { Inside left from rests }
-    requires at_most { at ≤ R.places room.old }
-    ensures value { result ≡ min (R.places room.old) (at + length (walked ways.now idle left from rests)) }
-    ensures places { R.places room.new ≡ R.places room.old }
-    ensures written { at + length (walked ways.now idle left from rests) ≤ R.places room.old → Written R.Put room.old at (walked ways.now idle left from rests) room.new }
+    requires at_most { at ≤ L.places list.old }
+    ensures value { result ≡ min (L.places list.old) (at + length (walked ways.now idle left from rests)) }
+    ensures places { L.places list.new ≡ L.places list.old }
+    ensures written { at + length (walked ways.now idle left from rests) ≤ L.places list.old → PutFrom L.Put list.old at (walked ways.now idle left from rests) list.new }
 {
-    if at == room.places() {
+    if at == list.places() {
         return at;
     }
     if !goes_on(ways, left, from, rests) {
         return at;
     }
     if left == 0 {
-        room.put(at, from as u32);
+        list.put(at, from as u32);
         return at + 1;
     }
     let day = left - 1;
     let with = from + (1u64 << day);
     let rested = rests + (idle >> day) % 2;
-    let next = walk(ways, idle, day, from, rested, at, room);
-    walk(ways, idle, day, with, rests, next, room)
+    let next = walk(ways, idle, day, from, rested, at, list);
+    walk(ways, idle, day, with, rests, next, list)
 }

@@ -1,8 +1,6 @@
 -- Tests of mapped and of shifted numbers, and what a test keeps in std's words.
-use mathlib.Core.Path.{◌≡◌, refl, ap}
-use mathlib.Core.Bool.{Bool, cond, ◌&&◌, ◌||◌}
-use mathlib.Core.List.{List, [], ◌∷◌, map}
-use Prim.Native.Nat.{ℕ, zero, suc}
+use Rattle.std.specs.Prelude.{◌≡◌, refl, Bool, cond, ◌&&◌, ◌||◌, List, [], ◌∷◌, map, ℕ, zero, suc}
+use Rattle.std.proofs.Common.{ap}
 use Rattle.std.specs.List.{filter as kept}
 use Rattle.numbers.specs.Range.{up_from, filter, all, any_of}
 

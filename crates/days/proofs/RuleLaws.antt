@@ -1,20 +1,14 @@
 -- Laws of the day rule over a row: what its tests of places and days come to, and the rests of the days after the first.
-use mathlib.Core.Path.{◌≡◌, refl, sym, ap, ◌∙◌}
-use mathlib.Core.Bool.{Bool, true, cond, not, ◌&&◌}
-use mathlib.Core.List.{List, [], ◌∷◌, map}
-use Prim.Native.Nat.{ℕ, suc, ◌+◌, ◌-◌, ◌≤◌, ◌<◌}
-use native.Mathlib.Nat.{sub-zero, add-zero, zero-add}
-use native.Mathlib.Omega.{arith}
-use borrow.Author.Tests.{le-ltb}
-use lib.Dec.{eqb}
-use lib.ListN.{length, get_or}
+use Rattle.std.specs.Prelude.{◌≡◌, refl, Bool, true, cond, not, ◌&&◌, List, [], ◌∷◌, map, ℕ, suc, ◌+◌, ◌-◌, ◌≤◌, ◌<◌, eqb, length, get_or}
+use Rattle.std.proofs.Common.{sym, ap, ◌∙◌, add-zero, zero-add, arith, le-ltb}
+use Rattle.std.proofs.Math.Nat.{sub-zero}
+use Rattle.std.specs.List.{range_with_len, filter as kept}
 use Rattle.numbers.specs.Range.{up_from, filter, all, any_of}
 use Rattle.numbers.specs.Sum.{one_if}
 use Rattle.numbers.specs.Digits.{has}
 use Rattle.numbers.proofs.RangeLaws.{range_next, range_done, length_filtered}
 use Rattle.numbers.proofs.IterLaws.{range_is}
 use Rattle.days.proofs.ChainLaws.{all_map, any_map, all_shift, filter_is}
-use Rattle.std.specs.List.{range_with_len, filter as kept}
 use Rattle.rows.specs.Rows.{started}
 use Rattle.days.specs.Days.{in_run, is_rest, alternating, same, window, rests}
 use Rattle.days.specs.CodeMonth.{duty_at, rest_on}

@@ -1,18 +1,13 @@
 -- The rule over a nurse's month is the day rule.
-use mathlib.Core.Path.{◌≡◌, refl, sym, ap, ap₂, ◌∙◌, subst}
-use mathlib.Core.Bool.{Bool, true, false, cond, not, ◌&&◌}
-use mathlib.Core.List.{List}
-use Prim.Native.Nat.{ℕ, zero, suc, ◌+◌, ◌-◌, ◌^◌, ◌≤◌, ◌<◌}
-use native.Mathlib.Omega.{arith}
-use native.Mathlib.Decide.{dec_lt}
-use borrow.Author.Tests.{lt-ltb, le-ltb, ltb-true, eqb-true}
-use lib.Dec.{ltb, eqb}
-use lib.ListN.{length}
+use Rattle.std.specs.Prelude.{◌≡◌, refl, Bool, true, false, cond, not, ◌&&◌, List, ℕ, zero, suc, ◌+◌, ◌-◌, ◌^◌, ◌≤◌, ◌<◌, ltb, eqb, length}
+use Rattle.std.proofs.Common.{sym, ap, ap₂, ◌∙◌, subst, arith, lt-ltb, le-ltb, ltb-true, eqb-true}
+use Rattle.std.proofs.lemmas.Bool.{and_parts}
+use Rattle.std.proofs.Math.Decide.{dec_lt}
 use Rattle.fields.specs.Sizes.{day_places}
 use Rattle.numbers.specs.Range.{up_from, all, Exactly}
 use Rattle.numbers.specs.Digits.{has, number_of}
 use Rattle.numbers.specs.Patterns.{days_of, pair_of}
-use Rattle.numbers.proofs.RangeLaws.{and_parts, range_each, filtered_exactly}
+use Rattle.numbers.proofs.RangeLaws.{range_each, filtered_exactly}
 use Rattle.numbers.proofs.DigitLaws.{number_has, bit_of_zero}
 use Rattle.numbers.proofs.AgreeLaws.{all_agree, filter_agree}
 use Rattle.fields.specs.Fields.{days, longest_days, block, duty, least_rests_of, most_rests_of, mark_on}

@@ -1,17 +1,12 @@
 -- The test `day_rule` says yes exactly when the day rule holds as specs/DayRule says it.
-use mathlib.Core.Path.{◌≡◌, refl, sym, ap, ap₂, ◌∙◌, subst}
-use mathlib.Core.Logic.{◌↔◌, ◌≢◌, ⊎_elim}
-use mathlib.Core.Bool.{Bool, true, false, cond, not, ◌&&◌, ◌||◌, or-true, true≢false, false≢true}
+use Rattle.std.specs.Prelude.{◌≡◌, refl, ◌↔◌, ◌≢◌, Bool, true, false, cond, not, ◌&&◌, ◌||◌, List, [], ◌∷◌, map, ℕ, zero, suc, ◌+◌, ◌-◌, ◌^◌, ◌≤◌, ◌<◌, leb, ltb, eqb, length}
+use Rattle.std.proofs.Common.{sym, ap, ap₂, ◌∙◌, subst, ⊎_elim, true≢false, eq-or-lt_of_le, arith, ltb-true, lt-ltb, leb-true, le-leb, eqb-true, eq-eqb}
+use Rattle.std.proofs.lemmas.Bool.{false≢true, not-true, and_parts}
+use Rattle.std.proofs.Math.Bool.{or-true}
 use mathlib.Core.List.Memᴰ
-use mathlib.Core.List.{List, [], ◌∷◌, map, Memᴰ}
-use Prim.Native.Nat.{ℕ, zero, suc, ◌+◌, ◌-◌, ◌^◌, ◌≤◌, ◌<◌}
-use native.Mathlib.Nat.{eq-or-lt_of_le}
-use native.Mathlib.Omega.{arith}
-use borrow.Author.Tests.{ltb-true, lt-ltb, leb-true, le-leb, eqb-true, eq-eqb, not-true}
-use lib.Dec.{leb, ltb, eqb}
-use lib.ListN.{length}
+use mathlib.Core.List.{Memᴰ}
 use Rattle.numbers.specs.Range.{up_from, all, any_of}
-use Rattle.numbers.proofs.RangeLaws.{and_parts, range_all, range_each}
+use Rattle.numbers.proofs.RangeLaws.{range_all, range_each}
 use Rattle.fields.specs.Fields.{least_rests_of, most_rests_of, mark_on}
 use Rattle.rows.specs.Rows.{started, available_on}
 use Rattle.days.specs.Days.{may_work, choice, row_duty, window, in_run, is_rest, forbidden, same, free_of, windows_hold, rests, day_rule}

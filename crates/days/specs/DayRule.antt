@@ -1,8 +1,8 @@
 -- The day rule in document 01's words, with jobs 1 and 2 of document 02. `b` is the nurse's block of the ward's numbers, p her night pattern, `off` says which
 -- days are of her pair, q is a day pattern. A row has a place for each of the seven days and of the month: place t is day t - 6, so the month's days are
 -- places 7 on. proofs/WordsLaws shows that `day_rule` is the same.
-use Rattle.std.specs.Prelude.{◌≡◌, Bool, true, false, ◌≢◌, ℕ, ◌+◌, ◌^◌, ◌≤◌, ◌<◌, length}
-use mathlib.Core.List.{List, Memᴰ}
+use Rattle.std.specs.Prelude.{◌≡◌, Bool, true, false, ◌≢◌, ℕ, ◌+◌, ◌^◌, ◌≤◌, ◌<◌, length, List}
+use mathlib.Core.List.{Memᴰ}
 use Rattle.fields.specs.Fields.{least_rests_of, most_rests_of, mark_on}
 use Rattle.rows.specs.Rows.{started, available_on}
 use Rattle.days.specs.Days.{row_duty, window, in_run, is_rest, forbidden, rests}

@@ -1,15 +1,16 @@
 // A nurse's month under her nights and her pair, made ready for the day patterns: the duties where she works no day, the days
 // that she may work, and the ward's and her own limits.
-ghost use Rattle.std.specs.Prelude.{◌≡◌, not, ◌&&◌, ℕ, ◌+◌, ◌≤◌, ◌<◌, length, get_or};
-ghost use Rattle.fields.specs.Sizes.{day_places};
+ghost use Rattle.std.specs.Prelude.{◌≡◌, not, ◌&&◌, ℕ, ◌≤◌, ◌<◌, get_or};
 ghost use Rattle.numbers.specs.Digits.{has, number_of};
-ghost use Rattle.fields.specs.Fields.{Block, duty};
+ghost use Rattle.fields.specs.Fields.{duty};
+ghost use Rattle.rows.specs.States.{code};
 ghost use Rattle.rows.specs.Rows.{started, available};
 ghost use Rattle.days.specs.CodeMonth.{IsSheet, SmallMonth, in_bounds};
 
-use fields::nurse;
+use fields::nurse::Nurse;
 use fields::sizes::ROW;
 use numbers::Set;
+use rows::State;
 
 // The days of the month, D, the bounds of her rests, the days that she may work, those marked 2, and the counts of
 // rests within her bounds: the last three are sets.
@@ -47,46 +48,44 @@ fn bounds(least: u64, most: u64) -> u64
 }
 
 // The seven days, with no duty after them.
-fn seven_days(b: &[u64]) -> [u64; ROW]
-    requires { 7 ≤ length b.now }
-    ensures { (t : ℕ) → t < 7 → get_or result t 0 ≡ duty b.now t }
+fn seven_days(b: &Nurse) -> [u64; ROW]
+    ensures { (t : ℕ) → t < 7 → get_or result t 0 ≡ duty b.now.numbers.now t }
 {
     let mut row = [0u64; ROW];
     for t in 0..7 {
-        row[t] = nurse::duty(b, t);
+        row[t] = b.duty(t);
     }
     row
 }
 
-// Whether she may work the day of index d: it is available, and none of her pair.
-fn may_work(mark: u64, state: usize, off: u32, d: usize) -> bool
+// Whether she may work the day of index d: it is available, and none of her pair. The mark is the file's number.
+fn may_work(mark: u64, state: State, off: u32, d: usize) -> bool
     requires { d < 32 }
-    ensures { result ≡ (available mark state && not (has off d)) }
+    ensures { result ≡ (available mark (code state) && not (has off d)) }
 {
     rows::is_available(mark, state) && !off.has(d)
 }
 
-// Her month by her block of the ward's numbers, her night pattern and the days of her pair.
-pub(crate) fn sheet_of(b: &[u64], n: usize, longest: usize, p: u32, off: u32) -> Sheet
-    requires block { Block b.now n }
-    requires n_le_day_places { n ≤ day_places }
-    requires longest_bound { longest ≤ 6 }
-    ensures { IsSheet b.now n longest p (started off) result.month result.row }
+// Her month by her numbers, her night pattern and the days of her pair.
+pub(crate) fn sheet_of(b: &Nurse, longest: usize, p: u32, off: u32) -> Sheet
+    requires { longest ≤ 6 }
+    ensures { IsSheet b.now.numbers.now b.now.days longest p (started off) result.month result.row }
 {
-    let states = rows::states(b, n, p);
+    let n = b.days;
+    let states = rows::states(b.numbers, b.days, p);
     let mut row = seven_days(b);
     for d in 0..n {
-        row[d + 7] = rows::duty_of(nurse::mark(b, d), states[d], false);
+        row[d + 7] = rows::duty_of(b.mark(d), states[d], false);
     }
-    let least = nurse::least_rests(b);
-    let most = nurse::most_rests(b);
+    let least = b.least_rests();
+    let most = b.most_rests();
     let month = Month {
         days: n,
         longest,
         least,
         most,
-        available: numbers::set_of(n, |d| may_work(nurse::mark(b, d), states[d], off, d)),
-        fixed: numbers::set_of(n, |d| nurse::mark(b, d) == 2),
+        available: numbers::set_of(n, |d| may_work(b.mark(d), states[d], off, d)),
+        fixed: numbers::set_of(n, |d| b.mark(d) == 2),
         within: bounds(least, most),
     };
     Sheet { month, row }

@@ -7,12 +7,13 @@ ghost use Rattle.days.specs.Days.{in_run, is_rest, alternating, same, window, wi
 ghost use Rattle.days.specs.CodeMonth.{duty_at, choice_of, rule_of};
 
 use crate::month::{Month, Sheet, in_bounds};
+use fields::sizes::ROW;
 use numbers::Set;
 
 // The sequence of duties that no row has: rest, day, rest, day, rest.
 const FORBIDDEN: [u64; 5] = [0, 1, 0, 1, 0];
 
-// Which duties count in a run of day duty: day and other.
+// Which duties, as the file's numbers, count in a run of day duty: day and other.
 fn in_run(duty: u64) -> bool
     ensures { result ≡ in_run duty }
 {
@@ -39,74 +40,88 @@ impl Month {
     }
 }
 
+// Her duty at a place of the row where she works the days of q.
+#[tactic(auto, unfolding(crate::specs::CodeMonth::duty_at))]
+fn duty_at(row: &[u64; ROW], q: u64, t: usize) -> u64
+    requires { t < row_places }
+    ensures { result ≡ duty_at row.now q t }
+{
+    if t >= 7 && q.has(t - 7) { 1 } else { row[t] }
+}
+
+// More than `longest` duties running that count in a run, the last at place t.
+fn long_run(row: &[u64; ROW], q: u64, longest: usize, t: usize) -> bool
+    requires t_lt_row_places { t < row_places }
+    requires longest_le_t { longest ≤ t }
+    ensures { result ≡ all in_run (window (duty_at row.now q) (suc longest) t) }
+{
+    (t - longest..t + 1).all(|u| in_run(duty_at(row, q, u)))
+}
+
+// A rest in the seven days that end at place t. Inlined, as `windows_hold`, which is asked for each place of a table.
+#[inline(always)]
+fn rested(row: &[u64; ROW], q: u64, t: usize) -> bool
+    requires t_lt_row_places { t < row_places }
+    requires le_t { 6 ≤ t }
+    ensures { result ≡ any_of is_rest (window (duty_at row.now q) 7 t) }
+{
+    (t - 6..t + 1).any(|u| is_rest(duty_at(row, q, u)))
+}
+
+// The forbidden sequence, ending at place t.
+fn is_forbidden(row: &[u64; ROW], q: u64, t: usize) -> bool
+    requires t_lt_row_places { t < row_places }
+    requires le_t { 4 ≤ t }
+    ensures { result ≡ same alternating (window (duty_at row.now q) 5 t) }
+{
+    (0..5).all(|j| FORBIDDEN[j] == duty_at(row, q, t - 4 + j))
+}
+
+// The windows that end at place t, of a row of any month and any longest run up to 6.
+#[inline(always)]
+#[tactic(auto, unfolding(crate::specs::Days::windows_hold, crate::specs::Days::free_of))]
+pub fn windows_hold(row: &[u64; ROW], q: u64, longest: usize, t: usize) -> bool
+    requires t_lt_row_places { t < row_places }
+    requires le_t { 6 ≤ t }
+    requires longest_bound { longest ≤ 6 }
+    ensures { result ≡ windows_hold (duty_at row.now q) longest t }
+{
+    !long_run(row, q, longest, t) && rested(row, q, t) && !is_forbidden(row, q, t)
+}
+
+// The windows that end on the first days of the month, `count` of them.
+pub fn all_windows_hold(row: &[u64; ROW], q: u64, longest: usize, count: usize) -> bool
+    requires count_le_day_places { count ≤ day_places }
+    requires longest_bound { longest ≤ 6 }
+    ensures { result ≡ all (windows_hold (duty_at row.now q) longest) (up_from 7 count) }
+{
+    (7..7 + count).all(|t| windows_hold(row, q, longest, t))
+}
+
+// Whether day d is a rest.
+pub fn rests_on(row: &[u64; ROW], q: u64, d: usize) -> bool
+    requires { d < day_places }
+    ensures { result ≡ is_rest (duty_at row.now q (d + 7)) }
+{
+    is_rest(duty_at(row, q, d + 7))
+}
+
 // In each of these she works the days of q.
 impl Sheet {
-    // Her duty at a place of the row.
-    #[tactic(auto, unfolding(crate::specs::CodeMonth::duty_at))]
-    fn duty_at(&self, q: u64, t: usize) -> u64
-        requires { t < row_places }
-        ensures { result ≡ duty_at self.now.row q t }
-    {
-        if t >= 7 && q.has(t - 7) {
-            1
-        } else {
-            self.row[t]
-        }
-    }
-
-    // More than D duties running that count in a run, the last at place t.
-    fn long_run(&self, q: u64, t: usize) -> bool
-        requires t_lt_row_places { t < row_places }
-        requires le_t { 6 ≤ t }
-        ensures { result ≡ all in_run (window (duty_at self.now.row q) (suc self.now.month.longest) t) }
-    {
-        (t - self.month.longest..t + 1).all(|u| in_run(self.duty_at(q, u)))
-    }
-
-    // A rest in the seven days that end at place t. Inlined, as `windows_hold`, which is asked for each place of a table.
     #[inline(always)]
-    fn rested(&self, q: u64, t: usize) -> bool
-        requires t_lt_row_places { t < row_places }
-        requires le_t { 6 ≤ t }
-        ensures { result ≡ any_of is_rest (window (duty_at self.now.row q) 7 t) }
-    {
-        (t - 6..t + 1).any(|u| is_rest(self.duty_at(q, u)))
-    }
-
-    // The forbidden sequence, ending at place t.
-    fn is_forbidden(&self, q: u64, t: usize) -> bool
-        requires t_lt_row_places { t < row_places }
-        requires le_t { 4 ≤ t }
-        ensures { result ≡ same alternating (window (duty_at self.now.row q) 5 t) }
-    {
-        (0..5).all(|j| FORBIDDEN[j] == self.duty_at(q, t - 4 + j))
-    }
-
-    // The windows that end at place t.
-    #[inline(always)]
-    #[tactic(auto, unfolding(crate::specs::Days::windows_hold, crate::specs::Days::free_of))]
     pub fn windows_hold(&self, q: u64, t: usize) -> bool
         requires t_lt_row_places { t < row_places }
         requires le_t { 6 ≤ t }
         ensures { result ≡ windows_hold (duty_at self.now.row q) self.now.month.longest t }
     {
-        !self.long_run(q, t) && self.rested(q, t) && !self.is_forbidden(q, t)
+        windows_hold(&self.row, q, self.month.longest, t)
     }
 
-    // The windows that end on the first days of the month, `count` of them.
     pub fn all_windows_hold(&self, q: u64, count: usize) -> bool
         requires { count ≤ day_places }
         ensures { result ≡ all (windows_hold (duty_at self.now.row q) self.now.month.longest) (up_from 7 count) }
     {
-        (7..7 + count).all(|t| self.windows_hold(q, t))
-    }
-
-    // Whether day d is a rest.
-    pub fn rests_on(&self, q: u64, d: usize) -> bool
-        requires { d < day_places }
-        ensures { result ≡ is_rest (duty_at self.now.row q (d + 7)) }
-    {
-        is_rest(self.duty_at(q, d + 7))
+        all_windows_hold(&self.row, q, self.month.longest, count)
     }
 
     // The rests of the month.
@@ -114,7 +129,7 @@ impl Sheet {
         ensures { result ≡ rests (duty_at self.now.row q) self.now.month.days }
     {
         (7..7 + self.month.days)
-            .filter(|t| is_rest(self.duty_at(q, *t)))
+            .filter(|t| is_rest(duty_at(&self.row, q, *t)))
             .count() as u64
     }
 

@@ -1,11 +1,6 @@
 -- A ward of edition one is its own body, and how long the parts of an accepted ward are.
-use Prim.Native.Nat.{ℕ, ◌<◌}
-use mathlib.Core.Path.{◌≡◌}
-use mathlib.Core.List.{List}
-use native.Mathlib.Omega.{arith}
-use borrow.Author.Tests.{ne_eqb}
-use lib.ListN.{length, get_or, drop, length-drop}
-use lib.Seq.{length-take-le}
+use Rattle.std.specs.Prelude.{ℕ, ◌<◌, ◌≡◌, List, length, get_or, drop}
+use Rattle.std.proofs.Common.{arith, ne_eqb, length-drop, length-take-le}
 use Rattle.fields.specs.Fields.{body_of, days, groups, groups_at, member_sets, needs_at, needs_size, needs, Accepted}
 
 pub body_one : (ws : List ℕ) → (get_or ws 0 0 ≡ 0 → ⊥) → ws ≡ body_of ws

@@ -1,7 +1,6 @@
 -- What an accepted ward says of its rules of night duty and of a nurse's numbers.
-use mathlib.Core.Path.{◌≡◌, sym, subst}
-use mathlib.Core.List.{List}
-use Prim.Native.Nat.{ℕ, ◌<◌}
+use Rattle.std.specs.Prelude.{◌≡◌, List, ℕ, ◌<◌}
+use Rattle.std.proofs.Common.{sym, subst}
 use Rattle.fields.specs.Fields.{Accepted, Block, nurses, days, block}
 use Rattle.fields.specs.Rules.{rules_of}
 use Rattle.fields.specs.CodeRules.{SmallRules}

@@ -1,57 +1,120 @@
-// A nurse's numbers: seven duties, least and most nights, least and most rests, the marks.
+// A nurse's numbers: seven duties, least and most nights, least and most rests, the marks. Each is read from any numbers that reach it, and from
+// her part of an accepted ward.
 ghost use Rattle.std.specs.Prelude.{◌≡◌, ℕ, suc, ◌+◌, ◌≤◌, ◌<◌, length};
+ghost use Rattle.fields.specs.Sizes.{day_places};
 ghost use Rattle.fields.specs.Fields as of;
 ghost use Rattle.fields.specs.Fields.{Block};
 
+// Duties and marks are the file's numbers, and the documents tell them by these: an enum of either would be made of a number at each reading, for
+// one comparison.
+
 // The duty of one of the seven days, oldest first.
-pub fn duty(b: &[u64], k: usize) -> u64
-    requires { (k < 7) × (7 ≤ length b.now) }
-    ensures { result ≡ of.duty b.now k }
+pub fn duty(numbers: &[u64], k: usize) -> u64
+    requires { (k < 7) × (7 ≤ length numbers.now) }
+    ensures { result ≡ of.duty numbers.now k }
 {
-    b[k]
+    numbers[k]
 }
 
 // The duty of day 0.
-pub fn last_duty(b: &[u64]) -> u64
-    requires { 7 ≤ length b.now }
-    ensures { result ≡ of.duty b.now 6 }
+pub fn last_duty(numbers: &[u64]) -> u64
+    requires { 7 ≤ length numbers.now }
+    ensures { result ≡ of.duty numbers.now 6 }
 {
-    b[6]
+    numbers[6]
 }
 
-pub fn least_nights(b: &[u64]) -> u64
-    requires { 11 ≤ length b.now }
-    ensures { result ≡ of.least_nights_of b.now }
+pub fn least_nights(numbers: &[u64]) -> u64
+    requires { 11 ≤ length numbers.now }
+    ensures { result ≡ of.least_nights_of numbers.now }
 {
-    b[7]
+    numbers[7]
 }
 
-pub fn most_nights(b: &[u64]) -> u64
-    requires { 11 ≤ length b.now }
-    ensures { result ≡ of.most_nights_of b.now }
+pub fn most_nights(numbers: &[u64]) -> u64
+    requires { 11 ≤ length numbers.now }
+    ensures { result ≡ of.most_nights_of numbers.now }
 {
-    b[8]
+    numbers[8]
 }
 
-pub fn least_rests(b: &[u64]) -> u64
-    requires { 11 ≤ length b.now }
-    ensures { result ≡ of.least_rests_of b.now }
+pub fn least_rests(numbers: &[u64]) -> u64
+    requires { 11 ≤ length numbers.now }
+    ensures { result ≡ of.least_rests_of numbers.now }
 {
-    b[9]
+    numbers[9]
 }
 
-pub fn most_rests(b: &[u64]) -> u64
-    requires { 11 ≤ length b.now }
-    ensures { result ≡ of.most_rests_of b.now }
+pub fn most_rests(numbers: &[u64]) -> u64
+    requires { 11 ≤ length numbers.now }
+    ensures { result ≡ of.most_rests_of numbers.now }
 {
-    b[10]
+    numbers[10]
 }
 
 // The mark of the day of index d.
-pub fn mark(b: &[u64], d: usize) -> u64
-    requires { 11 + d < length b.now }
-    ensures is { result ≡ of.mark_on b.now (suc d) }
-    ensures small { (n : ℕ) → Block b.now n → result < 7 }
+pub fn mark(numbers: &[u64], d: usize) -> u64
+    requires { 11 + d < length numbers.now }
+    ensures { result ≡ of.mark_on numbers.now (suc d) }
 {
-    b[11 + d]
+    numbers[11 + d]
+}
+
+// Her part of an accepted ward's numbers, and the days of the month.
+#[derive(Clone, Copy)]
+pub struct Nurse<'a> {
+    pub numbers: &'a [u64],
+    pub days: usize,
+    pub ghost block: { Block numbers.now days },
+    pub ghost month: { days ≤ day_places },
+}
+
+impl Nurse<'_> {
+    // The duty of one of the seven days, oldest first.
+    pub fn duty(&self, k: usize) -> u64
+        requires { k < 7 }
+        ensures { result ≡ of.duty self.now.numbers.now k }
+    {
+        duty(self.numbers, k)
+    }
+
+    // The duty of day 0.
+    pub fn last_duty(&self) -> u64
+        ensures { result ≡ of.duty self.now.numbers.now 6 }
+    {
+        last_duty(self.numbers)
+    }
+
+    pub fn least_nights(&self) -> u64
+        ensures { result ≡ of.least_nights_of self.now.numbers.now }
+    {
+        least_nights(self.numbers)
+    }
+
+    pub fn most_nights(&self) -> u64
+        ensures { result ≡ of.most_nights_of self.now.numbers.now }
+    {
+        most_nights(self.numbers)
+    }
+
+    pub fn least_rests(&self) -> u64
+        ensures { result ≡ of.least_rests_of self.now.numbers.now }
+    {
+        least_rests(self.numbers)
+    }
+
+    pub fn most_rests(&self) -> u64
+        ensures { result ≡ of.most_rests_of self.now.numbers.now }
+    {
+        most_rests(self.numbers)
+    }
+
+    // The mark of the day of index d.
+    pub fn mark(&self, d: usize) -> u64
+        requires { d < self.now.days }
+        ensures is { result ≡ of.mark_on self.now.numbers.now (suc d) }
+        ensures small { result < 7 }
+    {
+        mark(self.numbers, d)
+    }
 }

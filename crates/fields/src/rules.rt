@@ -1,7 +1,6 @@
 // The ward's rules of night duty.
 ghost use Rattle.std.specs.Prelude.{◌≡◌};
-ghost use Rattle.fields.specs.Fields.{Accepted};
-ghost use Rattle.fields.specs.Rules.{rules_of, gap};
+ghost use Rattle.fields.specs.Rules.{gap};
 
 // The most starts, the longest run, and the gaps after a run of one, of two, of more.
 #[derive(Clone, Copy)]
@@ -13,26 +12,15 @@ pub struct Rules {
     pub g3: u64,
 }
 
-pub fn rules_of(w: &[u64]) -> Rules
-    requires { Accepted w.now }
-    ensures { result ≡ rules_of w.now }
-{
-    Rules {
-        most: w[3],
-        longest: w[4],
-        g1: w[5],
-        g2: w[6],
-        g3: w[7],
-    }
-}
-
-// The gap after a run of so many starts.
-pub fn gap_after(r: Rules, run: u64) -> u64
-    ensures { result ≡ gap r run }
-{
-    match run {
-        0 | 1 => r.g1,
-        2 => r.g2,
-        _ => r.g3,
+impl Rules {
+    // The gap after a run of so many starts.
+    pub fn gap_after(self, run: u64) -> u64
+        ensures { result ≡ gap self run }
+    {
+        match run {
+            0 | 1 => self.g1,
+            2 => self.g2,
+            _ => self.g3,
+        }
     }
 }

@@ -1,22 +1,15 @@
 -- The test `allowed` is the statement `Allowed`, and `next` is the step to take of all that are allowed.
-use Prim.Native.Nat.{ℕ, zero, suc, ◌<◌}
-use mathlib.Core.Path.{◌≡◌, refl, sym, ap}
-use mathlib.Core.Bool.{true, not, ◌&&◌, false≢true}
-use mathlib.Core.Logic.{⊎_elim}
+use Rattle.std.specs.Prelude.{ℕ, zero, suc, ◌<◌, ◌≡◌, refl, true, not, ◌&&◌, [], ◌∷◌, ◌++◌, eqb, length}
+use Rattle.std.proofs.Common.{sym, ap, ⊎_elim, arith, not-suc-le-zero, eqb-true, eq-eqb}
+use Rattle.std.proofs.lemmas.Bool.{false≢true, and_parts, or_cases, not-true, not_from_false, false_from_ne_true, or_left, or_right, and_from}
+use Rattle.std.proofs.Math.Option.{none, some}
 use mathlib.Core.List.Memᴰ
-use mathlib.Core.List.{[], ◌∷◌, ◌++◌, Memᴰ}
-use mathlib.Core.Option.{none, some}
-use native.Mathlib.Omega.{arith}
-use native.Mathlib.Nat.{not-suc-le-zero}
-use lib.Dec.{eqb}
-use lib.ListN.{length}
-use borrow.Author.Tests.{eqb-true, eq-eqb}
+use mathlib.Core.List.{Memᴰ}
 use Rattle.history.specs.Phase.{Step, Phase, holds, exchanges}
 use Rattle.numbers.specs.Range.{up_from}
-use Rattle.numbers.proofs.RangeLaws.{both_true}
 use Rattle.history.specs.History.{History, in_use, given_up, penalty, allowed, next}
 use Rattle.history.specs.Claim.{Allowed, Least}
-use Rattle.history.proofs.TestLaws.{and_true, or_true, false_of, false_of_not, not_of_false, not_both, holds_true, holds_some, or_left, or_right}
+use Rattle.history.proofs.TestLaws.{not_both, holds_true, holds_some}
 use Rattle.history.proofs.ChooseLaws.{least_none, least_first, offers_only, offers_all, range_only, range_all}
 
 module _ (i p : ℕ) where
@@ -47,7 +40,7 @@ module _ (i p : ℕ) where
   given_up_true (suc n) [] e = absurd (false≢true e)
   given_up_true (suc n) (s ∷ h) e =
       ⊎_elim
-      (λ a. let b = and_true (eqb i s.nurse) (holds (in_use h i) p) a in
+      (λ a. let b = and_parts (eqb i s.nurse) (holds (in_use h i) p) a in
       record {
         later = [];
         earlier = h;
@@ -58,14 +51,14 @@ module _ (i p : ℕ) where
         pattern = holds_true (in_use h i) p b.1;
       })
       (λ a. gave_up_later n s h (given_up_true n h a))
-      (or_true (eqb i s.nurse && holds (in_use h i) p) (given_up n h i p) e)
+      (or_cases (eqb i s.nurse && holds (in_use h i) p) (given_up n h i p) e)
 
   given_up_at : (n : ℕ) (later : History) (t : Step) (earlier : History) → length later < n → t.nurse ≡ i → in_use earlier i ≡ some p
       → given_up n (later ++ (t ∷ earlier)) i p ≡ true
   given_up_at zero later t earlier l e u = absurd (not-suc-le-zero l)
   given_up_at (suc n) [] t earlier l e u =
       or_left (eqb i t.nurse && holds (in_use earlier i) p) (given_up n earlier i p)
-      (both_true (eqb i t.nurse) (holds (in_use earlier i) p) (eq-eqb i t.nurse (sym e)) (holds_some (in_use earlier i) p u))
+      (and_from (eqb i t.nurse) (holds (in_use earlier i) p) (eq-eqb i t.nurse (sym e)) (holds_some (in_use earlier i) p u))
   given_up_at (suc n) (s ∷ later) t earlier l e u =
       or_right (eqb i s.nurse && holds (in_use (later ++ (t ∷ earlier)) i) p) (given_up n (later ++ (t ∷ earlier)) i p)
       (given_up_at n later t earlier (omega arith) e u)
@@ -74,22 +67,22 @@ module _ (P : Phase) (h : History) where
   pub allowed_true : (s : Step) → Allowed P h s → allowed P h s.nurse s.pattern ≡ true
   unfolding allowed
   allowed_true s a =
-      both_true (not (holds (in_use h s.nurse) s.pattern)) (not (given_up P.tabu h s.nurse s.pattern))
-      (not_of_false _ (false_of _ (λ e. a.not_in_use (holds_true (in_use h s.nurse) s.pattern e))))
-      (not_of_false _ (false_of _ (λ e.
+      and_from (not (holds (in_use h s.nurse) s.pattern)) (not (given_up P.tabu h s.nurse s.pattern))
+      (not_from_false _ (false_from_ne_true _ (λ e. a.not_in_use (holds_true (in_use h s.nurse) s.pattern e))))
+      (not_from_false _ (false_from_ne_true _ (λ e.
       let g = given_up_true s.nurse s.pattern P.tabu h e in
       a.not_given_up g.later g.earlier g.at g.here g.recent g.nurse g.pattern)))
 
   pub allowed_of : (s : Step) → s.nurse < P.nurses → Memᴰ s.pattern (P.patterns s.nurse) → allowed P h s.nurse s.pattern ≡ true → Allowed P h s
   unfolding allowed
   allowed_of s l m e =
-      let b = and_true (not (holds (in_use h s.nurse) s.pattern)) (not (given_up P.tabu h s.nurse s.pattern)) e in
+      let b = and_parts (not (holds (in_use h s.nurse) s.pattern)) (not (given_up P.tabu h s.nurse s.pattern)) e in
       record {
         nurse = l;
         hers = m;
-        not_in_use = λ u. not_both (holds_some (in_use h s.nurse) s.pattern u) (false_of_not _ b.0);
+        not_in_use = λ u. not_both (holds_some (in_use h s.nurse) s.pattern u) (not-true _ b.0);
         not_given_up = λ later earlier t q r n u.
-            not_both {b = given_up P.tabu h s.nurse s.pattern} (rw q (given_up_at s.nurse s.pattern P.tabu later t earlier r n u)) (false_of_not _ b.1);
+            not_both {b = given_up P.tabu h s.nurse s.pattern} (rw q (given_up_at s.nurse s.pattern P.tabu later t earlier r n u)) (not-true _ b.1);
       }
 
   listed : (t : Step) → Allowed P h t → Memᴰ t (exchanges P (allowed P h))

@@ -1,18 +1,14 @@
 -- What `least` takes is in its list, and goes before all else in it; `offers` lists exactly the may patterns.
-use Prim.Native.Nat.{ℕ, zero, suc, ◌+◌, ◌≤◌, ◌<◌}
-use mathlib.Core.Path.{◌≡◌, refl, sym, ap, subst}
-use mathlib.Core.Bool.{Bool, true, false, cond, ◌&&◌, ◌||◌}
-use mathlib.Core.Logic.{◌≢◌, ◌⊎◌, inl, inr, ⊎_elim}
+use Rattle.std.specs.Prelude.{ℕ, zero, suc, ◌+◌, ◌≤◌, ◌<◌, ◌≡◌, refl, Bool, true, false, cond, ◌&&◌, ◌||◌, ◌≢◌, ◌⊎◌, List, [], ◌∷◌, ltb, eqb}
+use Rattle.std.proofs.Common.{sym, ap, subst, inl, inr, ⊎_elim, arith, ltb-true, ltb-false, eqb-true, eq-eqb}
+use Rattle.std.proofs.lemmas.Bool.{eqb-false, and_parts, or_cases, or_parts, cases_Bool}
+use Rattle.std.proofs.Math.Option.{Option, none, some, none-ne-some, some-ne-none, some-injective}
 use mathlib.Core.List.Memᴰ
-use mathlib.Core.List.{List, [], ◌∷◌, Memᴰ}
-use mathlib.Core.Option.{Option, none, some, none-ne-some, some-ne-none, some-injective}
-use native.Mathlib.Omega.{arith}
-use lib.Dec.{ltb, eqb}
-use borrow.Author.Tests.{ltb-true, ltb-false, eqb-true, eqb-false, eq-eqb}
+use mathlib.Core.List.{Memᴰ}
 use Rattle.history.specs.Phase.{Step, before, lesser, least, offers_to, offers}
 use Rattle.numbers.specs.Range.{up_from}
 use Rattle.history.specs.Claim.{NotAfter}
-use Rattle.history.proofs.TestLaws.{and_true, or_true, or_false, cases, and_false_right, not_both}
+use Rattle.history.proofs.TestLaws.{and_false_right, not_both}
 
 pub step_path : (s t : Step) → s.nurse ≡ t.nurse → s.pattern ≡ t.pattern → s ≡ t
 step_path s t p q = λ i. record { nurse = p i; pattern = q i }
@@ -41,18 +37,18 @@ module _ (c d : ℕ) (s t : Step) where
   before_true : before c d s t ≡ true → NotAfter c d s t
   before_true e = ⊎_elim
       (λ l. omega (arith, ltb-true c d l))
-      (λ r. let q = and_true (eqb c d) by_nurse r in
+      (λ r. let q = and_parts (eqb c d) by_nurse r in
       ⊎_elim
       (λ l. omega (arith, eqb-true c d q.0, ltb-true s.nurse t.nurse l))
-      (λ n. let a = and_true (eqb s.nurse t.nurse) (ltb s.pattern t.pattern) n in
+      (λ n. let a = and_parts (eqb s.nurse t.nurse) (ltb s.pattern t.pattern) n in
       omega (arith, eqb-true c d q.0, eqb-true s.nurse t.nurse a.0, ltb-true s.pattern t.pattern a.1))
-      (or_true (ltb s.nurse t.nurse) by_number q.1))
-      (or_true (ltb c d) (eqb c d && by_nurse) e)
+      (or_cases (ltb s.nurse t.nurse) by_number q.1))
+      (or_cases (ltb c d) (eqb c d && by_nurse) e)
 
   before_false : before c d s t ≡ false → NotAfter d c t s
   before_false e =
-      let r = or_false (ltb c d) (eqb c d && by_nurse) e in
-      let n : d ≡ c → (ltb s.nurse t.nurse ≡ false) × (by_number ≡ false) = λ q. or_false (ltb s.nurse t.nurse) by_number (and_false_right (eqb c d) by_nurse r.1 (eq-eqb c d (sym q))) in
+      let r = or_parts (ltb c d) (eqb c d && by_nurse) e in
+      let n : d ≡ c → (ltb s.nurse t.nurse ≡ false) × (by_number ≡ false) = λ q. or_parts (ltb s.nurse t.nurse) by_number (and_false_right (eqb c d) by_nurse r.1 (eq-eqb c d (sym q))) in
       record {
         penalty = ltb-false c d r.0;
         nurse = λ q. ltb-false s.nurse t.nurse (n q).0;
@@ -163,4 +159,4 @@ range_all a (suc n) i l u =
     ⊎_elim
     (λ e. Memᴰ.head (eqb-true i a e))
     (λ e. let d : i ≢ a = eqb-false i a e in Memᴰ.tail (range_all (suc a) n i (omega arith) (omega arith)))
-    (cases (eqb i a))
+    (cases_Bool (eqb i a))

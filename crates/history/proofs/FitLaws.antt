@@ -1,21 +1,16 @@
 -- What the record of a history rests on, whatever the penalties were under which its steps were chosen.
-use Prim.Native.Nat.{ℕ, zero, suc, ◌≤◌, ◌<◌, min}
-use mathlib.Core.Path.{◌≡◌, refl, sym, ap, ◌∙◌}
-use mathlib.Core.Bool.{Bool, true, false, cond, ◌&&◌, ◌||◌, false≢true}
-use mathlib.Core.Logic.{⊎_elim}
+use Rattle.std.specs.Prelude.{ℕ, zero, suc, ◌≤◌, ◌<◌, min, ◌≡◌, refl, Bool, true, false, cond, ◌&&◌, ◌||◌, List, [], ◌∷◌, eqb, length, take}
+use Rattle.std.proofs.Common.{sym, ap, ◌∙◌, ⊎_elim, arith, length-take, eqb-true, eq-eqb, ne_eqb, lt-ltb}
+use Rattle.std.proofs.lemmas.Bool.{false≢true, or_cases, or_left, or_right}
+use Rattle.std.proofs.Math.Option.{none, some}
+use Rattle.std.proofs.Math.Seq.{take-nil}
 use mathlib.Core.List.Memᴰ
-use mathlib.Core.List.{List, [], ◌∷◌, Memᴰ}
-use mathlib.Core.Option.{none, some}
-use native.Mathlib.Omega.{arith}
-use lib.Dec.{eqb}
-use lib.ListN.{length, take, length-take}
-use lib.Seq.{take-nil}
-use borrow.Author.Tests.{eqb-true, eq-eqb, ne_eqb, lt-ltb}
+use mathlib.Core.List.{Memᴰ}
 use Rattle.numbers.specs.Range.{up_from, all}
 use Rattle.history.specs.Phase.{Step, Phase, holds}
 use Rattle.history.specs.History.{History, in_use, given_up}
 use Rattle.history.specs.Record.{removals, record_of, among, hers, all_name, sound}
-use Rattle.history.proofs.TestLaws.{or_true, or_left, or_right, some_not_none}
+use Rattle.history.proofs.TestLaws.{some_not_none}
 
 -- ---- question 11's tests
 
@@ -27,7 +22,7 @@ among_member (q ∷ l) p m =
 pub member_among : (l : List ℕ) (p : ℕ) → among l p ≡ true → Memᴰ p l
 member_among [] p e = absurd (false≢true e)
 member_among (q ∷ l) p e =
-    ⊎_elim (λ a. Memᴰ.head (sym (eqb-true q p a))) (λ a. Memᴰ.tail (member_among l p a)) (or_true (eqb q p) (among l p) e)
+    ⊎_elim (λ a. Memᴰ.head (sym (eqb-true q p a))) (λ a. Memᴰ.tail (member_among l p a)) (or_cases (eqb q p) (among l p) e)
 
 pub all_members : (t : ℕ → Bool) (xs : List ℕ) → ((i : ℕ) → Memᴰ i xs → t i ≡ true) → all t xs ≡ true
 unfolding all

@@ -1,15 +1,11 @@
 -- The record follows the history, step by step.
-use Prim.Native.Nat.{ℕ, zero, suc, ◌<◌}
-use mathlib.Core.Path.{◌≡◌, refl, ap, ap₂, ◌∙◌, fun_ext}
-use mathlib.Core.Bool.{Bool, true, false, ◌&&◌, ◌||◌}
-use mathlib.Core.Logic.{◌≢◌}
-use mathlib.Core.List.{List, [], ◌∷◌, Memᴰ}
-use mathlib.Core.Option.{none, some}
-use native.Mathlib.Omega.{arith}
-use lib.Dec.{eqb, eqb-suc-suc}
-use lib.ListN.{length, take}
-use lib.Seq.{take-take, take-nil}
-use borrow.Author.Tests.{eqb-true}
+use Rattle.std.specs.Prelude.{ℕ, zero, suc, ◌<◌, ◌≡◌, refl, Bool, true, false, ◌&&◌, ◌||◌, ◌≢◌, List, [], ◌∷◌, eqb, length, take}
+use Rattle.std.proofs.Common.{ap, ap₂, ◌∙◌, arith, take-take, eqb-true}
+use Rattle.std.proofs.Math.Dec.{eqb-suc-suc}
+use Rattle.std.proofs.Math.Option.{none, some}
+use Rattle.std.proofs.Math.Path.{fun_ext}
+use Rattle.std.proofs.Math.Seq.{take-nil}
+use mathlib.Core.List.{Memᴰ}
 use Rattle.history.specs.Slot.{exchanged}
 use Rattle.numbers.specs.Range.{up_from}
 use Rattle.history.specs.Phase.{Step, Phase, Call, refused, holds, exchanges, least, stops, refusal}

@@ -1,8 +1,6 @@
 -- Histories that grew by steps each of which was the one to take.
-use mathlib.Core.Path.{◌≡◌, refl, ap, subst}
-use mathlib.Core.Bool.{Bool, false}
-use mathlib.Core.Logic.{◌≢◌}
-use mathlib.Core.List.{[], ◌∷◌, ◌++◌}
+use Rattle.std.specs.Prelude.{◌≡◌, refl, Bool, false, ◌≢◌, [], ◌∷◌, ◌++◌}
+use Rattle.std.proofs.Common.{ap, subst}
 use Rattle.history.specs.Phase.{Step, Phase}
 use Rattle.history.specs.History.{History, penalty}
 use Rattle.history.specs.Claim.{Least, Steps}

@@ -1,8 +1,5 @@
 -- What the proof of demand 3 takes of a phase; `phases` shows it of nights and days.
-use Prim.Native.Nat.{ℕ, ◌+◌, ◌*◌, ◌<◌}
-use mathlib.Core.Path.{◌≡◌}
-use mathlib.Core.Logic.{◌≢◌}
-use mathlib.Core.List.{[]}
+use Rattle.std.specs.Prelude.{ℕ, ◌+◌, ◌*◌, ◌<◌, ◌≡◌, ◌≢◌, []}
 use Rattle.history.specs.Slot.{Slot, unplaced_cost}
 use Rattle.history.specs.Phase.{Phase, unplaced}
 

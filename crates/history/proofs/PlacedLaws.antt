@@ -1,15 +1,8 @@
 -- An unplaced nurse costs more than all else, so each step places one while there is one.
-use Prim.Native.Nat.{ℕ, zero, suc, ◌+◌, ◌-◌, ◌*◌, ◌≤◌, ◌<◌}
-use mathlib.Core.Path.{◌≡◌, refl, sym}
-use mathlib.Core.Bool.{Bool, true, false, cond}
-use mathlib.Core.Logic.{◌≢◌, ⊎_elim}
-use mathlib.Core.List.{List, [], ◌∷◌, ◌++◌, Memᴰ}
-use mathlib.Core.Option.{none, some}
-use native.Mathlib.Omega.{arith}
-use native.Mathlib.Nat.{not-suc-le-zero, le_of_suc-le-suc, eq-or-lt_of_le}
-use lib.Dec.{eqb}
-use lib.ListN.{length}
-use borrow.Author.Tests.{eq-eqb, ne_eqb}
+use Rattle.std.specs.Prelude.{ℕ, zero, suc, ◌+◌, ◌-◌, ◌*◌, ◌≤◌, ◌<◌, ◌≡◌, refl, Bool, true, false, cond, ◌≢◌, List, [], ◌∷◌, ◌++◌, eqb, length}
+use Rattle.std.proofs.Common.{sym, ⊎_elim, arith, not-suc-le-zero, le_of_suc-le-suc, eq-or-lt_of_le, eq-eqb, ne_eqb}
+use Rattle.std.proofs.Math.Option.{none, some}
+use mathlib.Core.List.{Memᴰ}
 use Rattle.numbers.specs.Sum.{sum_to, count_to, one_if}
 use Rattle.numbers.proofs.SumLaws.{count_le}
 use Rattle.history.specs.Slot.{Slot, is_none, exchanged}

@@ -1,10 +1,7 @@
 -- The laws of `run`: an equation for each of its cases, a proof by turns, and two runs that go alike.
-use Prim.Native.Nat.{ℕ, zero, suc, ◌-◌, ◌<◌}
-use native.Mathlib.Nat.{not-suc-le-zero}
-use native.Mathlib.Omega.{arith}
-use mathlib.Core.Path.{◌≡◌, refl, ap, ◌∙◌}
-use mathlib.Core.Bool.{Bool, true, false}
-use mathlib.Core.Option.{Option, none, some}
+use Rattle.std.specs.Prelude.{ℕ, zero, suc, ◌-◌, ◌<◌, ◌≡◌, refl, Bool, true, false}
+use Rattle.std.proofs.Common.{not-suc-le-zero, arith, ap, ◌∙◌}
+use Rattle.std.proofs.Math.Option.{Option, none, some}
 use Rattle.history.specs.Phase.{Step, End, end_zero, end_asked, end_none, run}
 
 module _ {S : Type 0} (stop : S → Bool) (best : S → Option Step) (make : Step → S → S) where

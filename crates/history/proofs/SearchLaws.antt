@@ -1,7 +1,6 @@
 -- The two searches are not one.
-use mathlib.Core.Path.{sym, ap}
-use mathlib.Core.Bool.{Bool, true, false, true≢false}
-use mathlib.Core.Logic.{◌≢◌}
+use Rattle.std.specs.Prelude.{Bool, true, false, ◌≢◌}
+use Rattle.std.proofs.Common.{sym, ap, true≢false}
 use Rattle.history.specs.declared.Search.{Search}
 use Rattle.history.specs.declared.Search.TheVariants.{Nights, Days}
 

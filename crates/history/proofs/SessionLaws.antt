@@ -1,17 +1,13 @@
 -- Laws of sessions: what holds of every search in them, and two that go alike.
-use Prim.Native.Nat.{ℕ}
-use mathlib.Core.Path.{◌≡◌, refl, sym, ap, ◌∙◌, fun_ext, subst}
-use mathlib.Core.Bool.{Bool, true, false, cond, ◌&&◌}
-use mathlib.Core.Logic.{◌≢◌}
-use mathlib.Core.List.{List, [], ◌∷◌}
-use mathlib.Core.Option.{Option, none, some, map, none-ne-some, some-injective, map-map}
-use lib.Dec.{leb, eqb}
-use borrow.Author.Tests.{leb-true, le-leb, eqb-true, eqb-false, eq-eqb, ne_eqb}
-use Rattle.numbers.proofs.RangeLaws.{both_true}
+use Rattle.std.specs.Prelude.{ℕ, ◌≡◌, refl, Bool, true, false, cond, ◌&&◌, ◌≢◌, List, [], ◌∷◌, leb, eqb}
+use Rattle.std.proofs.Common.{sym, ap, ◌∙◌, subst, leb-true, le-leb, eqb-true, eq-eqb, ne_eqb}
+use Rattle.std.proofs.lemmas.Bool.{eqb-false, and_parts, false_from_ne_true, and_from}
+use Rattle.std.proofs.Math.Option.{Option, none, some, map, none-ne-some, some-injective, map-map}
+use Rattle.std.proofs.Math.Path.{fun_ext}
 use Rattle.history.specs.Phase.{Call, Answer, in_turn}
 use Rattle.history.specs.Session.{Operation, operation_advance, operation_keep, operation_return, Answered, stored, Session, begun, known, kept_with, keep_number, no13, act}
 use Rattle.history.specs.Claim.{Storable}
-use Rattle.history.proofs.TestLaws.{and_true, false_of, not_both}
+use Rattle.history.proofs.TestLaws.{not_both}
 
 -- ---- two ways to take a list that go alike: f takes what the first leaves to what the second leaves, as long as I holds
 
@@ -26,15 +22,15 @@ module _ {O A S R : Type 0} (step : O → S → A × S) (step' : O → R → A �
 
 pub storable : (room : Bool) (n : ℕ) → (room && keep_number n) ≡ true → Storable room n
 storable room n e =
-    let a = and_true room (keep_number n) e in
-    let b = and_true (leb 1 n) (leb n 8) a.1 in
+    let a = and_parts room (keep_number n) e in
+    let b = and_parts (leb 1 n) (leb n 8) a.1 in
     (a.0, leb-true 1 n b.0, leb-true n 8 b.1)
 
 pub storable_true : (room : Bool) (n : ℕ) → Storable room n → (room && keep_number n) ≡ true
-storable_true room n s = both_true room (keep_number n) s.0 (both_true (leb 1 n) (leb n 8) (le-leb 1 n s.1) (le-leb n 8 s.2))
+storable_true room n s = and_from room (keep_number n) s.0 (and_from (leb 1 n) (leb n 8) (le-leb 1 n s.1) (le-leb n 8 s.2))
 
 pub storable_false : (room : Bool) (n : ℕ) → (Storable room n → ⊥) → (room && keep_number n) ≡ false
-storable_false room n f = false_of (room && keep_number n) (λ e. f (storable room n e))
+storable_false room n f = false_from_ne_true (room && keep_number n) (λ e. f (storable room n e))
 
 pub not_storable : (room : Bool) (n : ℕ) → (room && keep_number n) ≡ false → Storable room n → ⊥
 not_storable room n e s = not_both (storable_true room n s) e

@@ -1,9 +1,7 @@
 -- When an advance stops.
-use Prim.Native.Nat.{ℕ}
-use mathlib.Core.Path.{◌≡◌, refl, sym, ◌∙◌}
-use mathlib.Core.Bool.{Bool, true, false, true≢false, false≢true}
-use mathlib.Core.Logic.{◌≢◌}
-use borrow.Author.Tests.{eqb-true, ne_eqb}
+use Rattle.std.specs.Prelude.{ℕ, ◌≡◌, refl, Bool, true, false, ◌≢◌}
+use Rattle.std.proofs.Common.{sym, ◌∙◌, true≢false, eqb-true, ne_eqb}
+use Rattle.std.proofs.lemmas.Bool.{false≢true}
 use Rattle.history.specs.Phase.{stops}
 
 pub stops_at : (past_zero : Bool) (c : ℕ) → stops past_zero c ≡ true → (past_zero ≡ false) × (c ≡ 0)

@@ -1,8 +1,7 @@
 -- What each operation of a list says of the patterns in use after it.
-use mathlib.Core.Path.{sym, subst}
-use Prim.Native.Nat.{ℕ}
-use mathlib.Core.Bool.{Bool}
-use mathlib.Core.Option.{Option}
+use Rattle.std.specs.Prelude.{ℕ, Bool}
+use Rattle.std.proofs.Common.{sym, subst}
+use Rattle.std.proofs.Math.Option.{Option}
 use Rattle.history.specs.Phase.{Phase, Call}
 use Rattle.history.specs.History.{History}
 use Rattle.history.specs.Session.{Operation, Answered, Session}

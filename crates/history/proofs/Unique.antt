@@ -1,20 +1,13 @@
 -- The claim's own words fix the answers and the session: whoever believes `Turns` need not read how they are computed.
-use Prim.Native.Nat.{ℕ, ◌-◌, ◌≤◌}
-use mathlib.Core.Path.{◌≡◌, refl, sym, ap, ◌∙◌}
-use mathlib.Core.Bool.{Bool, true, false, ◌&&◌}
-use mathlib.Core.Logic.{◌≢◌, ⊎_elim}
-use mathlib.Core.List.{List, [], ◌∷◌, ◌++◌}
-use mathlib.Core.Option.{Option, none, some}
-use native.Mathlib.Nat.{sub-zero}
-use native.Mathlib.Omega.{arith}
-use lib.Dec.{eqb}
-use lib.ListN.{length, length-append}
-use borrow.Author.Tests.{eqb-true, eqb-false}
+use Rattle.std.specs.Prelude.{ℕ, ◌-◌, ◌≤◌, ◌≡◌, refl, Bool, true, false, ◌&&◌, ◌≢◌, List, [], ◌∷◌, ◌++◌, eqb, length}
+use Rattle.std.proofs.Common.{sym, ap, ◌∙◌, ⊎_elim, arith, length-append, eqb-true}
+use Rattle.std.proofs.lemmas.Bool.{eqb-false, cases_Bool}
+use Rattle.std.proofs.Math.Nat.{sub-zero}
+use Rattle.std.proofs.Math.Option.{Option, none, some}
 use Rattle.history.specs.Phase.{Step, Phase, Call, Answer, ended, End, end_zero, end_asked, end_none, stops, given, in_turn}
 use Rattle.history.specs.History.{History, in_use, penalty, next, extend, reply, advance}
 use Rattle.history.specs.Session.{Operation, operation_return, Answered, advanced, stored, Session, keep_number, no13, act, answers, session}
 use Rattle.history.specs.Claim.{Least, Made, Storable, Went, refuses, goes, keeps, keeps_not, returns, returns_not, Turns, done, turn, Determined}
-use Rattle.history.proofs.TestLaws.{cases}
 use Rattle.history.proofs.StopLaws.{stops_when, goes_when}
 use Rattle.history.proofs.AllowedLaws.{next_none, next_some}
 use Rattle.history.proofs.RunLaws.{run_zero, run_asked, run_none_left, run_on}
@@ -72,7 +65,7 @@ module _ (P : Phase) where
       ⊎_elim
       (λ t. let z = eqb-true c 0 t in f.0 z ∙ sym ((given_letters P (in_use h)).0 (sym e ∙ z)))
       (λ t. let z = eqb-false c 0 t in f.1 z ∙ sym ((given_letters P (in_use h)).1 (λ q. z (e ∙ q))))
-      (cases (eqb c 0))
+      (cases_Bool (eqb c 0))
 
   made_is : (c : Call) (h h' : History) (e : End) (n p : ℕ) (l : List ℕ) → Made P c h h' e n p l → (ended e n p l, h') ≡ reply P h (extend P c.past_zero c.steps h)
   unfolding reply

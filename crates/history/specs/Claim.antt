@@ -1,7 +1,7 @@
 -- Demand 3: one claim about a whole list of operations.
-use Rattle.std.specs.Prelude.{ℕ, suc, ◌-◌, ◌≤◌, ◌<◌, ◌≡◌, Bool, true, false, ◌≢◌, ◌↔◌, ◌⊎◌, length}
-use mathlib.Core.List.{List, [], ◌∷◌, ◌++◌, Memᴰ}
+use Rattle.std.specs.Prelude.{ℕ, suc, ◌-◌, ◌≤◌, ◌<◌, ◌≡◌, Bool, true, false, ◌≢◌, ◌↔◌, ◌⊎◌, length, List, [], ◌∷◌, ◌++◌}
 use Rattle.std.proofs.Math.Option.{Option, none, some}
+use mathlib.Core.List.{Memᴰ}
 use Rattle.refusals.specs.Refusals.{numbered}
 use Rattle.refusals.specs.Questions as question
 use Rattle.history.specs.Phase.{Step, Phase, unplaced, Call, Answer, refused, ended, End, end_zero, end_asked, end_none, refusal, in_turn}

@@ -1,18 +1,14 @@
 -- What is kept comes back as it was, whatever else is kept meanwhile; storage of zeros keeps nothing; a record that comes back has its declared sizes.
-use Prim.Native.Nat.{ℕ, zero, suc, ◌+◌}
-use mathlib.Core.Path.{◌≡◌, refl, ◌∙◌}
-use mathlib.Core.Bool.{Bool, true, false}
-use mathlib.Core.List.{List, [], ◌∷◌}
-use mathlib.Core.Option.{none}
-use native.Mathlib.Omega.{arith}
-use lib.ListN.{length, get_or, take, drop, replicate}
+use Rattle.std.specs.Prelude.{ℕ, zero, suc, ◌+◌, ◌≡◌, refl, Bool, true, false, List, [], ◌∷◌, length, get_or, take, drop, replicate}
+use Rattle.std.proofs.Common.{◌∙◌, arith}
+use Rattle.std.proofs.Math.Option.{none}
 use Rattle.refusals.specs.Questions as question
 use Rattle.refusals.proofs.OrderLaws.{unless_none}
 use Rattle.search.specs.Stored.{Sized}
 use Rattle.search.specs.declared.Record.{Record as Stored}
 use Rattle.recordwords.specs.Words.{record_words}
 use Rattle.recordwords.proofs.WordLaws.{words_sized}
-use Rattle.keeping.specs.Storage.{entry_at, may_keep, may_return, keep_no, kept_in, record_at, returned_to}
+use Rattle.keeping.specs.Storage.{entry_at, may_keep, may_return, keep_no, kept_in, record_at, return_no, returned_to}
 use Rattle.keeping.specs.Assurance.{Keeping, kept_all, OthersThan, Assurance}
 use Rattle.keeping.proofs.PartLaws.{part_long}
 use Rattle.keeping.proofs.EntryLaws.{entry, within, kept_long, kept_may, kept_same, kept_other, return_may, answered_yes, answered_no, returns_kept, returns_nothing}
@@ -55,9 +51,9 @@ record_sized storage n h =
     words_sized (take record_words (drop (entry_at n + 1) storage)) (part_long storage (entry_at n + 1) record_words (omega arith))
 
 sized_by : (storage : List ℕ) (n : ℕ) (r : Stored) → Sized r → (b : Bool) → may_return storage n ≡ b → Sized (returned_to storage n r)
-unfolding returned_to
-sized_by storage n r z true h = rw h (record_sized storage n (return_may storage n h))
-sized_by storage n r z false h = rw h z
+unfolding return_no returned_to
+sized_by storage n r z true h = rw (returned_to, h) (record_sized storage n (return_may storage n h))
+sized_by storage n r z false h = rw (returned_to, h) z
 
 pub return_sized : (storage : List ℕ) (n : ℕ) (r : Stored) → Sized r → Sized (returned_to storage n r)
 return_sized storage n r z = sized_by storage n r z (may_return storage n) refl

@@ -1,14 +1,10 @@
 -- What a keeping and a return end with.
-use Prim.Native.Nat.{ℕ, ◌+◌}
-use mathlib.Core.Path.{◌≡◌, sym, ap, ◌∙◌}
-use mathlib.Core.Bool.{Bool, true, false}
-use mathlib.Core.List.{List, ◌∷◌, ◌++◌, append_assoc}
-use native.Mathlib.Omega.{arith}
-use lib.ListN.{take, drop}
-use lib.Seq.{paste, take_all}
+use Rattle.std.specs.Prelude.{ℕ, ◌+◌, ◌≡◌, Bool, true, false, List, ◌∷◌, ◌++◌, take, drop}
+use Rattle.std.proofs.Common.{sym, ap, ◌∙◌, append_assoc, arith, take_all}
+use Rattle.std.proofs.Math.Seq.{paste}
+use Rattle.std.specs.declared.result.Result.TheVariants.{Ok, Err}
 use Rattle.refusals.specs.Questions as question
 use Rattle.refusals.specs.Refusals.{numbered, answer_by}
-use Rattle.std.specs.declared.result.Result.TheVariants.{Ok, Err}
 use Rattle.search.specs.Stored.{Sized}
 use Rattle.search.specs.declared.Record.{Record as Stored}
 use Rattle.recordwords.specs.Words.{record_words, record_of_words, words_of_record}

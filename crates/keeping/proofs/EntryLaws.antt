@@ -1,23 +1,15 @@
 -- The entries of storage: what is written to one is read from it, and no other changes.
-use Prim.Native.Nat.{ℕ, ◌+◌, ◌≤◌, ◌<◌}
-use mathlib.Core.Path.{◌≡◌, refl, sym, ap, ◌∙◌}
-use mathlib.Core.Logic.{◌≢◌}
-use mathlib.Core.Bool.{Bool, true, false, ◌&&◌, and-false}
-use mathlib.Core.List.{List, [], ◌∷◌, ◌++◌}
-use mathlib.Core.Option.{Option, none, some}
-use native.Mathlib.Omega.{arith}
-use native.Mathlib.Nat.{add-zero}
-use lib.Dec.{leb}
-use lib.ListN.{length, get_or, take, drop}
-use lib.Seq.{drop-drop, get_or-take, get_or-drop}
-use borrow.Author.Tests.{leb-true, leb-false}
-use Rattle.numbers.proofs.RangeLaws.{and_parts}
+use Rattle.std.specs.Prelude.{ℕ, ◌+◌, ◌≤◌, ◌<◌, ◌≡◌, refl, ◌≢◌, Bool, true, false, ◌&&◌, cond, List, [], ◌∷◌, ◌++◌, leb, length, get_or, take, drop}
+use Rattle.std.proofs.Common.{sym, ap, ◌∙◌, arith, add-zero, drop-drop, get_or-take, get_or-drop, leb-true, leb-false}
+use Rattle.std.proofs.lemmas.Bool.{and_parts}
+use Rattle.std.proofs.Math.Bool.{and-false}
+use Rattle.std.proofs.Math.Option.{Option, none, some}
+use Rattle.std.specs.declared.result.Result.{Result}
+use Rattle.std.specs.declared.result.Result.TheVariants.{Ok, Err}
 use Rattle.refusals.specs.Questions as question
 use Rattle.refusals.specs.Refusals.{numbered}
 use Rattle.refusals.specs.declared.Refusal.{Refusal}
 use Rattle.refusals.proofs.OrderLaws.{unless_none}
-use Rattle.std.specs.declared.result.Result.{Result}
-use Rattle.std.specs.declared.result.Result.TheVariants.{Ok, Err}
 use Rattle.history.specs.Session.{keep_number}
 use Rattle.history.proofs.SessionLaws.{storable}
 use Rattle.search.specs.Stored.{Sized}
@@ -147,11 +139,19 @@ module _ (storage : List ℕ) (n : ℕ) where
 module _ (storage : List ℕ) (n : ℕ) (other : Stored) where
   pub returned_not : may_return storage n ≡ false → ReturnsNot storage n other
   unfolding return_no returned_to
-  returned_not h = (rw h, rw h)
+  returned_not h = (rw h, rw (returned_to, h))
 
   pub returned_is : may_return storage n ≡ true → Returns storage n other (record_at storage n)
   unfolding return_no returned_to
-  returned_is h = (rw h, rw h)
+  returned_is h = (rw h, rw (returned_to, h))
+
+  returned_as_by : (b : Bool) → may_return storage n ≡ b → returned_to storage n other ≡ cond b (record_at storage n) other
+  returned_as_by true h = (returned_is h).1
+  returned_as_by false h = (returned_not h).1
+
+  -- the record after it, by the test alone
+  pub returned_as : returned_to storage n other ≡ cond (may_return storage n) (record_at storage n) other
+  returned_as = returned_as_by (may_return storage n) refl
 
   may_of : return_no storage n ≡ none → may_return storage n ≡ true
   unfolding return_no

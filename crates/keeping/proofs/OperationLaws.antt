@@ -1,10 +1,7 @@
 -- Operations on a record and storage that was all zeros go as those of the session that they hold.
-use Prim.Native.Nat.{ℕ}
-use mathlib.Core.Path.{◌≡◌, refl, sym, ap, ap₂, ◌∙◌}
-use mathlib.Core.Bool.{Bool, true, false}
-use mathlib.Core.List.{List}
-use mathlib.Core.Option.{Option}
-use lib.ListN.{replicate}
+use Rattle.std.specs.Prelude.{ℕ, ◌≡◌, refl, Bool, true, false, List, replicate}
+use Rattle.std.proofs.Common.{sym, ap, ap₂, ◌∙◌}
+use Rattle.std.proofs.Math.Option.{Option}
 use Rattle.refusals.specs.Refusals.{unless}
 use Rattle.refusals.specs.Questions as question
 use Rattle.refusals.specs.declared.Refusal.{Refusal}

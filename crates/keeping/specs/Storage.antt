@@ -58,10 +58,10 @@ return_no storage n = unless (may_return storage n) question.storage 0
 unfoldable pub record_at : List ℕ → ℕ → Stored
 record_at storage n = record_of_words (take record_words (drop (entry_at n + 1) storage))
 
--- the record after it; a refused one leaves the record in hand
-unfoldable pub returned_to : List ℕ → ℕ → Stored → Stored
-returned_to storage n r = cond (may_return storage n) (record_at storage n) r
-
 -- what it answers: the record that was kept, or question 13
 abbrev pub returned_of : List ℕ → ℕ → Result Stored Refusal
 returned_of storage n = elim (return_no storage n) [ none ↦ Ok (record_at storage n) | some x ↦ Err x ]
+
+-- the record after it: the one that it answers; a refused one leaves the record in hand
+unfoldable pub returned_to : List ℕ → ℕ → Stored → Stored
+returned_to storage n r = elim (returned_of storage n) [ Ok x ↦ x | Err x ↦ r ]

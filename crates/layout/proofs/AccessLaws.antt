@@ -1,9 +1,6 @@
 -- From a ward that the questions let through to the range of the number at an index, whatever the numbers before it are.
-use Prim.Native.Nat.{ℕ, zero, suc, ◌+◌, ◌-◌, ◌*◌, ◌/◌, ◌%◌, ◌^◌, ◌≤◌, ◌<◌}
-use mathlib.Core.Path.{◌≡◌, refl, sym, ap, subst}
-use mathlib.Core.List.{List, [], ◌∷◌}
-use native.Mathlib.Omega.{arith}
-use lib.ListN.{length, get_or, drop}
+use Rattle.std.specs.Prelude.{ℕ, zero, suc, ◌+◌, ◌-◌, ◌*◌, ◌/◌, ◌%◌, ◌^◌, ◌≤◌, ◌<◌, ◌≡◌, refl, List, [], ◌∷◌, length, get_or, drop}
+use Rattle.std.proofs.Common.{sym, ap, subst, arith}
 use Rattle.layout.specs.declared.Field.{Field}
 use Rattle.layout.specs.Grammar.{Grammar, done, number, failed_by, good, check}
 use Rattle.layout.specs.Layout.{range, one, pair, repeat, duties, bounds, day, group, mark, nurse}

@@ -1,10 +1,7 @@
 -- What `failed_by` is at the returns of `ask`.
-use Prim.Native.Nat.{ℕ, ◌≤◌, ◌<◌}
-use mathlib.Core.Path.{◌≡◌, refl}
-use mathlib.Core.Logic.{◌⊎◌, inl, inr}
-use mathlib.Core.Bool.{Bool, true, false, not, beq, cond}
-use borrow.Author.Tests.{le-ltb, lt-ltb}
-use lib.Dec.{eqb}
+use Rattle.std.specs.Prelude.{ℕ, ◌≤◌, ◌<◌, ◌≡◌, refl, ◌⊎◌, Bool, true, false, not, cond, eqb}
+use Rattle.std.proofs.Common.{inl, inr, le-ltb, lt-ltb}
+use Rattle.std.proofs.Math.Bool.{beq}
 use Rattle.std.specs.declared.option.Option.TheVariants.{None, Some}
 use Rattle.layout.specs.declared.Field.{Field}
 use Rattle.layout.specs.Grammar.{failed_by}

@@ -1,16 +1,10 @@
 -- Edition two beside edition one.
-use Prim.Native.Nat.{ℕ, zero, suc, ◌+◌, ◌≤◌}
-use mathlib.Core.Path.{◌≡◌, refl, ap, ◌∙◌}
-use mathlib.Core.Bool.{Bool, true, false, cond}
-use mathlib.Core.List.{List, [], ◌∷◌}
-use native.Mathlib.Omega.{arith}
-use borrow.Author.Tests.{ltb-false, le-ltb}
-use lib.ListN.{drop}
-use lib.Dec.{ltb}
-use Rattle.refusals.specs.Refusals.{numbered}
-use Rattle.refusals.specs.Questions as question
+use Rattle.std.specs.Prelude.{ℕ, zero, suc, ◌+◌, ◌≤◌, ◌≡◌, refl, Bool, true, false, cond, List, [], ◌∷◌, drop, ltb}
+use Rattle.std.proofs.Common.{ap, ◌∙◌, arith, ltb-false, le-ltb}
 use Rattle.std.specs.declared.result.Result.{Result}
 use Rattle.std.specs.declared.result.Result.TheVariants.{Ok, Err}
+use Rattle.refusals.specs.Refusals.{numbered}
+use Rattle.refusals.specs.Questions as question
 use Rattle.codec.specs.declared.Number.{Number}
 use Rattle.codec.specs.declared.Fault.{Fault}
 use Rattle.codec.specs.declared.Fault.TheVariants.{Ended, Long}

@@ -1,20 +1,14 @@
 -- Reading and checking by any grammar, a number at a time.
-use Prim.Native.Nat.{ℕ, zero, suc, ◌+◌, ◌-◌, ◌≤◌, ◌<◌}
-use mathlib.Core.Path.{◌≡◌, refl, sym, ap, ◌∙◌, subst}
-use mathlib.Core.Bool.{Bool, true, false, cond}
-use mathlib.Core.List.{List, [], ◌∷◌, ◌++◌, append_assoc}
-use native.Mathlib.Omega.{arith}
-use borrow.Author.Tests.{ltb-false}
-use lib.ListN.{length, drop}
-use lib.Dec.{ltb}
-use Rattle.refusals.specs.Refusals.{numbered}
-use Rattle.layout.specs.declared.Field.{Field}
+use Rattle.std.specs.Prelude.{ℕ, zero, suc, ◌+◌, ◌-◌, ◌≤◌, ◌<◌, ◌≡◌, refl, Bool, true, false, cond, List, [], ◌∷◌, ◌++◌, length, drop, ltb}
+use Rattle.std.proofs.Common.{sym, ap, ◌∙◌, subst, append_assoc, arith, ltb-false}
+use Rattle.std.specs.declared.option.Option.TheVariants.{None, Some}
 use Rattle.std.specs.declared.result.Result.{Result}
 use Rattle.std.specs.declared.result.Result.TheVariants.{Ok, Err}
+use Rattle.refusals.specs.Refusals.{numbered}
+use Rattle.layout.specs.declared.Field.{Field}
 use Rattle.codec.specs.declared.Number.{Number}
 use Rattle.codec.specs.declared.Fault.{Fault}
 use Rattle.codec.specs.declared.Fault.TheVariants.{Ended, Long}
-use Rattle.std.specs.declared.option.Option.TheVariants.{None, Some}
 use Rattle.codec.specs.Groups.{value, decode, decode_groups, final, under}
 use Rattle.layout.specs.Grammar.{Grammar, done, number, failed_by, fits, Read, good, bad, prepend, on_pass, on_number, read, check}
 use Rattle.layout.specs.CodeWant.{wanted, after, Within, SmallField}

@@ -1,8 +1,5 @@
 -- The largest ward, of edition two: 48 nurses, 31 days and 16 groups, every nurse in each, and ten pairs.
-use Prim.Native.Nat.{ℕ, ◌-◌, ◌^◌}
-use mathlib.Core.Path.{◌≡◌, refl}
-use mathlib.Core.List.{List, [], ◌∷◌, ◌++◌}
-use lib.ListN.{length, replicate}
+use Rattle.std.specs.Prelude.{ℕ, ◌-◌, ◌^◌, ◌≡◌, refl, List, [], ◌∷◌, ◌++◌, length, replicate}
 use Rattle.codec.specs.Groups.{encode}
 use Rattle.layout.specs.Grammar.{failed_by, good, check, bytes_of}
 use Rattle.layout.specs.Layout.{ward}

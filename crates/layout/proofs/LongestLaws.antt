@@ -1,13 +1,6 @@
 -- The longest ward file has 4,203 bytes: one for each of 4,107 numbers, but seven for the members of each of 16 groups.
-use Prim.Native.Nat.{ℕ, ◌≤◌}
-use mathlib.Core.Path.{◌≡◌, refl}
-use mathlib.Core.Bool.{Bool, true, false, cond}
-use mathlib.Core.List.{List}
-use native.Mathlib.Nat.{le_refl}
-use native.Mathlib.Omega.{arith}
-use borrow.Author.Tests.{ltb-true, lt-ltb}
-use lib.ListN.{length, length-append}
-use lib.Dec.{ltb}
+use Rattle.std.specs.Prelude.{ℕ, ◌≤◌, ◌≡◌, refl, Bool, true, false, cond, List, length, ltb}
+use Rattle.std.proofs.Common.{le_refl, arith, ltb-true, lt-ltb, length-append}
 use Rattle.codec.specs.Groups.{encode}
 use Rattle.codec.proofs.EncodeLaws.{encode_last, encode_most}
 use Rattle.layout.specs.Grammar.{Grammar, done, bytes_of}

@@ -1,11 +1,6 @@
 -- What a yes says of the numbers after the days: the pairs' count, and each pair's first day.
-use Prim.Native.Nat.{ℕ, zero, suc, ◌+◌, ◌-◌, ◌≤◌, ◌<◌}
-use mathlib.Core.Path.{◌≡◌}
-use mathlib.Core.Bool.{Bool, true, false, cond}
-use mathlib.Core.List.{List, [], ◌∷◌}
-use native.Mathlib.Omega.{arith}
-use lib.ListN.{length, get_or}
-use lib.Dec.{ltb, eqb}
+use Rattle.std.specs.Prelude.{ℕ, zero, suc, ◌+◌, ◌-◌, ◌≤◌, ◌<◌, ◌≡◌, Bool, true, false, cond, List, [], ◌∷◌, length, get_or, ltb, eqb}
+use Rattle.std.proofs.Common.{arith}
 use Rattle.layout.specs.declared.Head.{Head}
 use Rattle.layout.specs.Grammar.{Grammar, done, number, failed_by, good, check}
 use Rattle.layout.specs.Layout.{range, since, pairs, pairs_most, two}

@@ -1,7 +1,6 @@
 -- What is left at a place that is known, and where a number of turns is left.
-use Prim.Native.Nat.{ℕ, zero, suc, ◌≤◌, ◌<◌, ◌-◌}
-use mathlib.Core.Path.{◌≡◌, ◌∙◌, refl, sym, ap}
-use native.Mathlib.Omega.{arith}
+use Rattle.std.specs.Prelude.{ℕ, zero, suc, ◌≤◌, ◌<◌, ◌-◌, ◌≡◌, refl}
+use Rattle.std.proofs.Common.{◌∙◌, sym, ap, arith}
 use Rattle.layout.specs.declared.Cursor.{Cursor}
 use Rattle.layout.specs.declared.Place.{Place}
 use Rattle.layout.specs.declared.Place.TheVariants.{Gap, Tabu, Weight, FirstDuty, NextDuty, LeastNightsOf, Mark, Members, NightNeed, NightLow, PairDay, End}

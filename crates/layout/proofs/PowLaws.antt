@@ -1,9 +1,7 @@
 -- Powers of two below 2 ^ 50, as the code makes them.
-use Prim.Native.Nat.{ℕ, ◌-◌, ◌^◌, ◌≤◌, ◌<◌}
-use native.Mathlib.Nat.{lt_of_not-le}
-use native.Mathlib.Decide.{dec_le}
-use native.Mathlib.Omega.{arith}
-use lib.Pow.{pow_mono}
+use Rattle.std.specs.Prelude.{ℕ, ◌-◌, ◌^◌, ◌≤◌, ◌<◌}
+use Rattle.std.proofs.Common.{lt_of_not-le, arith, pow_mono}
+use Rattle.std.proofs.Math.Decide.{dec_le}
 
 pub small_power : (m : ℕ) → 2 ^ m - 1 < 2 ^ 49 → m < 64
 small_power m h = elim (dec_le m 49) [ yes p ↦ omega arith | no p ↦ high (lt_of_not-le p) ]

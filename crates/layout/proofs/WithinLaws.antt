@@ -1,14 +1,10 @@
 -- What a ward's numbers come to at most, by any measure of its fields: 4,107 numbers where each counts 1; proofs/LongestLaws counts bytes.
-use Prim.Native.Nat.{ℕ, zero, suc, ◌+◌, ◌-◌, ◌*◌, ◌^◌, ◌≤◌, ◌<◌}
-use mathlib.Core.Bool.{Bool, true, false, cond}
-use native.Mathlib.Nat.{le_refl, le_trans, mul-le-mul_right}
-use native.Mathlib.Omega.{arith}
-use lib.Dec.{lit<, ltb}
-use lib.Pow.{pow_mono}
+use Rattle.std.specs.Prelude.{ℕ, zero, suc, ◌+◌, ◌-◌, ◌*◌, ◌^◌, ◌≤◌, ◌<◌, Bool, true, false, cond, ltb}
+use Rattle.std.proofs.Common.{le_refl, le_trans, mul-le-mul_right, arith, lit<, pow_mono}
+use Rattle.std.specs.declared.option.Option.TheVariants.{Some}
 use Rattle.layout.specs.declared.Field.{Field}
 use Rattle.layout.specs.declared.Head.{Head}
 use Rattle.layout.specs.Grammar.{Grammar, done, number}
-use Rattle.std.specs.declared.option.Option.TheVariants.{Some}
 use Rattle.layout.specs.CodeWant.{SmallField, Within}
 use Rattle.layout.specs.Layout.{range, one, pair, repeat, duties, since, pairs, two, bounds, day, group, mark, nurse, rules, sizes, body, first, ward}
 use Rattle.layout.proofs.PairLaws.{pairs_few}

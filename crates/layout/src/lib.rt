@@ -1,12 +1,13 @@
 // The layout as a walk: the field that is wanted at a place, and the place after a number.
 #![tactic(auto)]
 
-ghost use Rattle.std.specs.Prelude.{◌≡◌, ◌+◌, ◌-◌, ◌^◌, ◌<◌};
+ghost use Rattle.std.specs.Prelude.{◌≡◌, ◌+◌, ◌-◌, ◌^◌, ◌<◌, ℕ};
 ghost use Rattle.layout.specs.Grammar.{failed_by};
 ghost use Rattle.layout.specs.CodeAsked.{asked};
 ghost use Rattle.layout.specs.CodeWant.{wanted, after, SmallField};
 ghost use Rattle.layout.specs.Layout;
-ghost use Rattle.layout.specs.CodePlace.{tree, moved, sized, inner_left, outer_left, turn};
+ghost use Rattle.layout.specs.CodePlace.{tree, moved, sized, inner_left, turn};
+ghost use Rattle.layout.specs.declared.Cursor.{Cursor};
 
 use refusals::question::Question;
 
@@ -27,6 +28,7 @@ pub struct Head {
     pub m: u64,
     pub n: u64,
     pub r: u64,
+    // No enum, since it is an order: a later edition has all that an earlier one has, the code asks `edition < 2`, and the file holds the number.
     pub edition: u64,
 }
 
@@ -71,7 +73,8 @@ pub enum Place {
     End,
 }
 
-// A place in the layout: `outer` rows and `inner` numbers or pairs are left after this one, and `before` is the number before.
+// A place in the layout: `outer` rows and `inner` numbers or pairs are left after this one, and `before` is the number before. Beside the place and not
+// in each of its 26 cases.
 #[derive(Clone, Copy)]
 pub struct Cursor {
     pub place: Place,
@@ -191,28 +194,20 @@ fn sized(c: Cursor, head: Head, place: Place) -> Cursor
     Cursor { place, head, ..c }
 }
 
-// Where k numbers or pairs from `place` on are left; with none left, at `rest`.
-#[tactic(auto, using(crate::proofs::PlaceLaws::turn_again, crate::proofs::PlaceLaws::turn_over), unfolding(crate::specs::CodePlace::inner_left))]
-fn at_inner(mut c: Cursor, place: Place, k: u64, rest: Cursor) -> Cursor
-    ensures { result ≡ turn k (inner_left place c) rest }
+// Of k turns the next one, with how many are left after it; with none left, `rest`.
+#[tactic(auto, using(crate::proofs::PlaceLaws::turn_again, crate::proofs::PlaceLaws::turn_over))]
+fn turn<F: FnOnce(u64) -> Cursor>(k: u64, next: F, rest: Cursor) -> Cursor
+    requires { F.IsAlwaysCallable next }
+    ensures { (at : ℕ → Cursor) → ((j : ℕ) (c : Cursor) → j < k → F.post next j c → c ≡ at j) → result ≡ turn k at rest }
 {
-    if k > 0 {
-        c.inner = k - 1;
-        return moved(c, place);
-    }
-    rest
+    if k > 0 { next(k - 1) } else { rest }
 }
 
-// Where k rows from `place` on are left; with none left, at `rest`.
-#[tactic(auto, using(crate::proofs::PlaceLaws::turn_again, crate::proofs::PlaceLaws::turn_over), unfolding(crate::specs::CodePlace::outer_left))]
-fn at_outer(mut c: Cursor, place: Place, k: u64, rest: Cursor) -> Cursor
-    ensures { result ≡ turn k (outer_left place c) rest }
+// Where k numbers or pairs from `place` on are left; with none left, at `rest`.
+fn at_inner(c: Cursor, place: Place, k: u64, rest: Cursor) -> Cursor
+    ensures { result ≡ turn k (inner_left place c) rest }
 {
-    if k > 0 {
-        c.outer = k - 1;
-        return moved(c, place);
-    }
-    rest
+    turn(k, |inner| Cursor { place, inner, ..c }, rest)
 }
 
 // Where k pairs are left, the next one's first day above `before`.
@@ -234,28 +229,36 @@ fn at_two(c: Cursor) -> Cursor
     moved(c, Place::PairCount)
 }
 
-// Where k days are left.
-#[tactic(auto, using(crate::proofs::PlaceLaws::days_left))]
+// Where k days are left. Days, groups and nurses have a function each, as the grammar has a name for each: what they share is the call of `turn`.
 fn at_days(c: Cursor, k: u64) -> Cursor
     ensures { tree result ≡ Layout.days c.head k }
 {
-    at_outer(c, Place::NightNeed, k, at_two(c))
+    let place = Place::NightNeed;
+    turn(k, |outer| Cursor { place, outer, ..c }, at_two(c))
 }
 
 // Where k groups are left.
-#[tactic(auto, using(crate::proofs::PlaceLaws::groups_left))]
 fn at_groups(c: Cursor, k: u64) -> Cursor
     ensures { tree result ≡ Layout.groups c.head k }
 {
-    at_outer(c, Place::Members, k, at_days(c, c.head.n))
+    let place = Place::Members;
+    turn(
+        k,
+        |outer| Cursor { place, outer, ..c },
+        at_days(c, c.head.n),
+    )
 }
 
 // Where k nurses are left.
-#[tactic(auto, using(crate::proofs::PlaceLaws::nurses_left))]
 fn at_nurses(c: Cursor, k: u64) -> Cursor
     ensures { tree result ≡ Layout.nurses c.head k }
 {
-    at_outer(c, Place::FirstDuty, k, at_groups(c, c.head.r))
+    let place = Place::FirstDuty;
+    turn(
+        k,
+        |outer| Cursor { place, outer, ..c },
+        at_groups(c, c.head.r),
+    )
 }
 
 // After the first number: a later edition's number where it is 0, else it is m of edition one.

@@ -1,11 +1,8 @@
 -- The letters that patterns make: their number, and each of them.
-use mathlib.Core.Path.{◌≡◌, refl, sym, ap, ap₂, ◌∙◌}
-use mathlib.Core.List.{List, [], ◌∷◌, map}
-use Prim.Native.Nat.{ℕ, zero, suc, ◌+◌, ◌*◌, ◌≤◌, ◌<◌}
-use native.Mathlib.Nat.{mul-le-mul_right, suc-mul, zero-mul}
-use native.Mathlib.Numerals.{one-add}
-use native.Mathlib.Omega.{arith}
-use lib.ListN.{length, get_or, length-map, length-append, get_or-map}
+use Rattle.std.specs.Prelude.{◌≡◌, List, map, ℕ, zero, suc, ◌+◌, ◌*◌, ◌≤◌, ◌<◌, length, get_or}
+use Rattle.std.proofs.Common.{sym, ap, ap₂, ◌∙◌, mul-le-mul_right, suc-mul, zero-mul, one-add, arith, length-append}
+use Rattle.std.proofs.lemmas.List.{length-map, get_or_default}
+use Rattle.std.proofs.Math.ListN.{get_or-map}
 use Rattle.numbers.specs.Range.{up_from}
 use Rattle.numbers.proofs.RangeLaws.{length_range, range_at}
 use Rattle.fields.specs.Fields.{days, block}
@@ -15,9 +12,6 @@ use Rattle.letters.specs.Letters.{letter, row_letters_of, row_letters, letters}
 -- row i of m rows of n letters ends within them
 pub row_fits : (m n i : ℕ) → i < m → i * n + n ≤ m * n
 row_fits m n i h = let most : suc i * n ≤ m * n = mul-le-mul_right n h in omega (arith, rw suc-mul at most)
-
-pub in_row : (m n i d : ℕ) → i < m → d < n → i * n + d < m * n
-in_row m n i d h l = omega (arith, row_fits m n i h)
 
 -- ---- the letters that patterns make
 
@@ -30,14 +24,9 @@ module _ (b : List ℕ) (n p q : ℕ) where
   unfolding row_letters_of
   row_at d h =
       let f : ℕ → ℕ = λ e. letter (duty_on b p q e) in
-      get_or_any (map f (up_from 1 n)) d 0 (f 0) (rw (length-map (up_from 1 n) f, length_range 1 n) h)
+      get_or_default (map f (up_from 1 n)) d 0 (f 0) (rw (length-map (up_from 1 n) f, length_range 1 n) h)
       ∙ get_or-map f (up_from 1 n) d 0
       ∙ ap f (range_at 1 n d h ∙ one-add d)
-    where
-      get_or_any : (l : List ℕ) (j x y : ℕ) → j < length l → get_or l j x ≡ get_or l j y
-      get_or_any [] j x y l = absurd (omega arith)
-      get_or_any (z ∷ l) zero x y h = refl
-      get_or_any (z ∷ l) (suc j) x y h = get_or_any l j x y (omega arith)
 
 module _ (w : List ℕ) (ps qs : ℕ → ℕ) where
   pub letters_length : (k : ℕ) → length (letters w ps qs k) ≡ k * days w

@@ -1,13 +1,8 @@
 -- How a roster is written: a row, and the rows one after the other.
-use mathlib.Core.Path.{◌≡◌, sym, ap, ap₂, ◌∙◌}
-use mathlib.Core.List.{List, ◌++◌}
-use Prim.Native.Nat.{ℕ, suc, ◌+◌, ◌-◌, ◌*◌, ◌≤◌, ◌<◌}
-use native.Mathlib.Nat.{suc-mul, zero-mul, mul-le-mul}
-use native.Mathlib.Numerals.{add-one}
-use native.Mathlib.Omega.{arith}
-use lib.ListN.{length, get_or, take, drop, replicate, length-replicate, replicate-append-replicate}
-use lib.Seq.{paste, get_or-take, length-take-le, take_at, drop_at, take_all, drop-append-add}
-use Rattle.std.proofs.lemmas.List.{ext_get_or, append_assoc, drop-drop}
+use Rattle.std.specs.Prelude.{◌≡◌, List, ◌++◌, ℕ, suc, ◌+◌, ◌-◌, ◌*◌, ◌≤◌, ◌<◌, length, get_or, take, drop, replicate}
+use Rattle.std.proofs.Common.{sym, ap, ap₂, ◌∙◌, suc-mul, zero-mul, mul-le-mul, add-one, arith, get_or-take, length-take-le, take_at, drop_at, take_all}
+use Rattle.std.proofs.lemmas.List.{length-replicate, replicate-append-replicate, ext_get_or, append_assoc, drop-drop}
+use Rattle.std.proofs.Math.Seq.{paste, drop-append-add}
 use Rattle.fields.specs.Sizes.{letter_places}
 use Rattle.fields.specs.Fields.{Accepted, nurses, days, block}
 use Rattle.rows.specs.Rows.{duty_on}

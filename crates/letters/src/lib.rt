@@ -9,7 +9,7 @@ ghost use Rattle.letters.specs.CodeLetters.{found_of};
 
 const LETTERS: [u8; 5] = [b'/', b'-', b'N', b'n', b'+'];
 
-// The letter of a duty.
+// The letter of a duty, which is the file's number.
 #[tactic(auto, unfolding(crate::specs::Letters::letter))]
 pub(crate) fn letter_of(duty: usize) -> u8
     requires { duty < 5 }

@@ -2,13 +2,13 @@
 ghost use Rattle.std.specs.Prelude.{◌≡◌, ℕ, suc, ◌+◌, ◌≤◌, ◌<◌, get_or};
 ghost use Rattle.std.proofs.Math.Seq.{paste};
 ghost use Rattle.numbers.specs.Patterns.{days_of};
-ghost use Rattle.fields.specs.Sizes.{day_places, letter_places};
-ghost use Rattle.fields.specs.Fields.{Accepted, Block};
+ghost use Rattle.fields.specs.Sizes.{letter_places};
 ghost use Rattle.rows.specs.Rows.{duty_on};
 ghost use Rattle.letters.specs.Letters.{letter, row_letters_of};
 ghost use Rattle.letters.specs.CodeRoster.{Written};
 
-use fields::nurse;
+use fields::Body;
+use fields::nurse::Nurse;
 use fields::sizes::{DAYS, LETTERS, NURSES};
 use numbers::{Set, pattern};
 
@@ -21,14 +21,13 @@ pub struct Roster {
 }
 
 // The letters of the row of night pattern p and day pattern q, and 0 after them.
-pub fn row_letters(b: &[u64], n: usize, p: u32, q: u32) -> [u8; DAYS]
-    requires { (n ≤ day_places) × Block b.now n }
-    ensures { (d : ℕ) → d < n → get_or result d 0 ≡ letter (duty_on b.now p q (suc d)) }
+pub fn row_letters(b: &Nurse, p: u32, q: u32) -> [u8; DAYS]
+    ensures { (d : ℕ) → d < b.now.days → get_or result d 0 ≡ letter (duty_on b.now.numbers.now p q (suc d)) }
 {
-    let states = rows::states(b, n, p);
+    let states = rows::states(b.numbers, b.days, p);
     let mut row = [0u8; DAYS];
-    for d in 0..n {
-        let duty = rows::duty_of(nurse::mark(b, d), states[d], q.has(d));
+    for d in 0..b.days {
+        let duty = rows::duty_of(b.mark(d), states[d], q.has(d));
         row[d] = crate::letter_of(duty as usize);
     }
     row
@@ -36,11 +35,12 @@ pub fn row_letters(b: &[u64], n: usize, p: u32, q: u32) -> [u8; DAYS]
 
 impl Roster {
     // One row more, that of night pattern p and day pattern q.
-    fn add_row(&mut self, b: &[u64], n: usize, p: u32, q: u32)
-        requires { (n ≤ day_places) × Block b.now n × (self.old.count + n ≤ letter_places) }
-        ensures { (self.new.letters ≡ paste self.old.letters self.old.count (row_letters_of b.now n p q) n) × (self.new.count ≡ self.old.count + n) }
+    fn add_row(&mut self, b: &Nurse, p: u32, q: u32)
+        requires { self.old.count + b.now.days ≤ letter_places }
+        ensures { (self.new.letters ≡ paste self.old.letters self.old.count (row_letters_of b.now.numbers.now b.now.days p q) b.now.days) × (self.new.count ≡ self.old.count + b.now.days) }
     {
-        let row = row_letters(b, n, p, q);
+        let n = b.days;
+        let row = row_letters(b, p, q);
         let end = self.count + n;
         self.letters[self.count..end].copy_from_slice(&row[..n]);
         self.count = end;
@@ -48,20 +48,17 @@ impl Roster {
 }
 
 // The roster of everyone's night and day pattern. A pair's days are rests where nothing is worked on them.
-pub fn roster_of(w: &[u64], nights: [u64; NURSES], worked: [u64; NURSES]) -> Roster
-    requires { Accepted w.now }
-    ensures { Written w.now (λ i. days_of (get_or nights i 0)) (λ i. days_of (get_or worked i 0)) result }
+pub fn roster_of(w: &Body, nights: [u64; NURSES], worked: [u64; NURSES]) -> Roster
+    ensures { Written w.now.numbers.now (λ i. days_of (get_or nights i 0)) (λ i. days_of (get_or worked i 0)) result }
 {
-    let m = fields::nurses(w);
-    let n = fields::days(w);
     let mut roster = Roster {
         letters: [0; LETTERS],
         count: 0,
     };
-    for i in 0..m {
+    for i in 0..w.nurses() {
         let p = pattern::days_of(nights[i]);
         let q = pattern::days_of(worked[i]);
-        roster.add_row(fields::block(w, i), n, p, q);
+        roster.add_row(&w.nurse(i), p, q);
     }
     roster
 }

@@ -1,30 +1,24 @@
 -- A duty's cost on a day with nurse i on it and without her, from the margins of her conditions; and the loops that add them up.
-use mathlib.Core.Path.{◌≡◌, refl, sym, ap, ◌∙◌, subst, fun_ext}
-use mathlib.Core.Bool.{Bool, true, false, cond, ◌&&◌, false≢true}
-use mathlib.Core.List.{List}
-use Prim.Native.Nat.{ℕ, zero, suc, ◌+◌, ◌-◌, ◌*◌, ◌≤◌, ◌<◌}
-use native.Mathlib.Nat.{zero-mul, add-zero, not-suc-le-zero}
-use native.Mathlib.Omega.{arith}
-use lib.Dec.{eqb, ltb}
-use borrow.Author.Tests.{eqb-true, eqb-false, ltb-true, ltb-false}
-use lib.ListN.{length, get_or, set, length-set, replicate, get_or-eq_default}
-use lib.Seq.{get_or-set_same, get_or-set_other}
-use Rattle.std.specs.Prelude.{count_by}
+use Rattle.std.specs.Prelude.{◌≡◌, refl, Bool, true, false, cond, ◌&&◌, List, ℕ, zero, suc, ◌+◌, ◌-◌, ◌*◌, ◌≤◌, ◌<◌, eqb, ltb, length, get_or, set, replicate, count_by}
+use Rattle.std.proofs.Common.{sym, ap, ◌∙◌, subst, zero-mul, add-zero, not-suc-le-zero, arith, eqb-true, ltb-true, ltb-false, length-set, get_or-set_same, get_or-set_other}
+use Rattle.std.proofs.lemmas.Bool.{false≢true, eqb-false}
 use Rattle.std.proofs.lemmas.List.Recursion.{is_count_by}
+use Rattle.std.proofs.Math.ListN.{get_or-eq_default}
+use Rattle.std.proofs.Math.Path.{fun_ext}
 use Rattle.numbers.specs.Sum.{sum_to, count_to, one_if, Is}
 use Rattle.numbers.specs.Digits.{has, put}
 use Rattle.numbers.proofs.SumLaws.{sum_zero, sum_front, sum_ext, sum_add, sum_le, count_le, loop_start, loop_turn, loop_end}
 use Rattle.numbers.proofs.DigitLaws.{count_put, count_put_all}
 use Rattle.fields.specs.Fields.{Accepted, nurses, days, member_sets, needs, need, low, high}
 use Rattle.fields.proofs.FieldLaws.{length_member_sets}
-use Rattle.penalty.specs.declared.duty.Weights.{Weights}
-use Rattle.penalty.specs.CodeCounts.{Light, DayNeeds, members_in, need_term, low_term, high_term, group_term, duty_cost}
+use Rattle.penalty.specs.Weights.{Weights, Light}
+use Rattle.penalty.specs.CodeCounts.{DayNeeds, members_in, need_term, low_term, high_term, group_term, duty_cost}
 use Rattle.penalty.proofs.DutyLaws.{w_le, u_le, v_le}
 use Rattle.penalty.proofs.ColumnLaws.{zeros}
 use Rattle.penalty.proofs.FieldLaws.{needs_are}
 use Rattle.tables.specs.CodeTables.{Low}
 use Rattle.margins.specs.declared.sides.Side.{Side}
-use Rattle.margins.specs.CodeMargins.{bounds_cost, as_low, Margin, DayMargins, Margins, SomeMargins, Slight, RowAdded, Hers, SideFits, SideOf, side_at, Sides}
+use Rattle.margins.specs.CodeMargins.{bounds_cost, as_low, Margin, DayMargins, MarginsOf, SomeMargins, Slight, RowAdded, Hers, SideFits, SideOf, side_at, SidesOf}
 
 -- ---- one condition, with her among those that count or not
 
@@ -174,14 +168,14 @@ side_off standing more fewer base q = record {
 -- ---- places written in turn
 
 -- the places of the numbers below d hold f: one more is written, and one elsewhere
-pub record Holds (place f : ℕ → ℕ) (d : ℕ) (l : List ℕ) : Type 0 where
+pub record PlacesHold (place f : ℕ → ℕ) (d : ℕ) (l : List ℕ) : Type 0 where
   pub holds : (e : ℕ) → e < d → get_or l (place e) 0 ≡ f e
 
-pub holds_none : (place f : ℕ → ℕ) (l : List ℕ) → Holds place f 0 l
+pub holds_none : (place f : ℕ → ℕ) (l : List ℕ) → PlacesHold place f 0 l
 holds_none place f l = record { holds = λ e q. absurd (not-suc-le-zero q) }
 
-pub holds_more : (place f : ℕ → ℕ) {d : ℕ} {l : List ℕ} {x : ℕ} → Holds place f d l → ((e : ℕ) → place e ≡ place d → e ≡ d) → place d < length l → x ≡ f d
-    → Holds place f (d + 1) (set l (place d) x)
+pub holds_more : (place f : ℕ → ℕ) {d : ℕ} {l : List ℕ} {x : ℕ} → PlacesHold place f d l → ((e : ℕ) → place e ≡ place d → e ≡ d) → place d < length l → x ≡ f d
+    → PlacesHold place f (d + 1) (set l (place d) x)
 holds_more place f {d} {l} {x} h once m v = record { holds = λ e q. go e (eqb e d) refl q }
   where
     go : (e : ℕ) (t : Bool) → eqb e d ≡ t → e < d + 1 → get_or (set l (place d) x) (place e) 0 ≡ f e
@@ -190,7 +184,7 @@ holds_more place f {d} {l} {x} h once m v = record { holds = λ e q. go e (eqb e
         let other = eqb-false e d t in
         get_or-set_other l (place d) (place e) x 0 (λ s. other (once e s)) ∙ h.holds e (omega (arith, other))
 
-pub holds_still : (place f : ℕ → ℕ) {d : ℕ} {l : List ℕ} (p x : ℕ) → Holds place f d l → ((e : ℕ) → e < d → place e ≡ p → ⊥) → Holds place f d (set l p x)
+pub holds_still : (place f : ℕ → ℕ) {d : ℕ} {l : List ℕ} (p x : ℕ) → PlacesHold place f d l → ((e : ℕ) → e < d → place e ≡ p → ⊥) → PlacesHold place f d (set l p x)
 holds_still place f {l = l} p x h apart = record { holds = λ e q. get_or-set_other l p (place e) x 0 (apart e q) ∙ h.holds e q }
 
 -- ---- a row added up
@@ -199,7 +193,7 @@ holds_still place f {l = l} p x h apart = record { holds = λ e q. get_or-set_ot
 pub record RowTo (part : List ℕ) (from : ℕ) (l r : List ℕ) (e : ℕ) : Type 0 where
   pub inside : e ≤ 64
   pub long : length r ≡ 64
-  pub done : Holds (λ j. j) (λ j. get_or l j 0 + get_or part (from + j) 0) e r
+  pub done : PlacesHold (λ j. j) (λ j. get_or l j 0 + get_or part (from + j) 0) e r
   pub left : (j : ℕ) → e ≤ j → get_or r j 0 ≡ get_or l j 0
 
 module _ (part : List ℕ) (from : ℕ) (l : List ℕ) where
@@ -220,8 +214,8 @@ module _ (part : List ℕ) (from : ℕ) (l : List ℕ) where
         left = λ j q. get_or-set_other r e j x 0 (λ s. omega arith) ∙ p.left j (omega arith);
       }
 
-  pub row_end : {r : List ℕ} {e : ℕ} → RowTo part from l r e → 64 ≤ e → RowAdded part from l r
-  row_end p h = record { long = p.long; added = λ j q. p.done.holds j (omega arith) }
+  pub row_end : {r : List ℕ} {e : ℕ} → RowTo part from l r e → 64 ≤ e → from + 64 ≤ 1088 → Slight part → RowAdded part from l r
+  row_end p h m s = record { long = p.long; small = λ j q. s.slight (from + j) (omega arith); added = λ j q. p.done.holds j (omega arith) }
 
 -- ---- the rows of her conditions
 
@@ -241,13 +235,13 @@ pub record HersTo (sets : List ℕ) (i : ℕ) (part : List ℕ) (g : ℕ) (r : L
   pub long : length r ≡ 64
   pub sums : (e : ℕ) → e < 64 → Is (get_or r e 0) (get_or part (1024 + e) 0 + sum_to g (λ j. cond (has (get_or sets j 0) i) (get_or part (64 * j + e) 0) 0)) (200 + 200 * g)
 
-module _ (sets : List ℕ) (i : ℕ) (part : List ℕ) (small : Slight part) where
+module _ (sets : List ℕ) (i : ℕ) (part : List ℕ) where
   pub hers_start : {r : List ℕ} → RowAdded part 1024 (replicate 64 0) r → HersTo sets i part 0 r
   hers_start {r} a = record {
     inside = omega arith;
     long = a.long;
     sums = λ e q. loop_start (get_or part (1024 + e) 0) 200 (λ j. cond (has (get_or sets j 0) i) (get_or part (64 * j + e) 0) 0)
-        (record { is = omega (arith, a.added e q, zeros 64 e); most = omega (arith, a.added e q, zeros 64 e, small.slight (1024 + e) (omega arith)) });
+        (record { is = omega (arith, a.added e q, zeros 64 e); most = omega (arith, a.added e q, zeros 64 e, a.small e q) });
   }
 
   pub hers_low : {g : ℕ} {r : List ℕ} → HersTo sets i part g r → length sets ≤ 16 → Low r 100000
@@ -263,7 +257,7 @@ module _ (sets : List ℕ) (i : ℕ) (part : List ℕ) (small : Slight part) whe
     inside = omega arith;
     long = a.long;
     sums = λ e q. rw (a.added e q) (sum_in (get_or part (1024 + e) 0) 200 200 (λ j. cond (has (get_or sets j 0) i) (get_or part (64 * j + e) 0) 0) g (h.sums e q)
-        (sym (ap (λ (t : Bool). cond t (get_or part (64 * g + e) 0) 0) b)) (small.slight (64 * g + e) (omega arith)));
+        (sym (ap (λ (t : Bool). cond t (get_or part (64 * g + e) 0) 0) b)) (a.small e q));
   }
 
   pub hers_out : {g : ℕ} {l s : List ℕ} → HersTo sets i part g l → g < length sets → has (get_or sets g 0) i ≡ false → s ≡ l → HersTo sets i part (g + 1) s
@@ -309,17 +303,16 @@ pub record SidesTo (w cols : List ℕ) (i : ℕ) (part : List ℕ) (n d : ℕ) (
   pub inside : d ≤ n
   pub long : length r ≡ 64
   pub low : Low r 185600
-  pub done : (wt : Weights) (k : ℕ) → Margins w wt k cols part → Holds (λ e. e) (λ e. side_at w wt k cols i e true) d r × Holds (λ e. 32 + e) (λ e. side_at w wt k cols i e false) d r
+  pub done : (wt : Weights) (k : ℕ) → MarginsOf w wt k cols part → PlacesHold (λ e. e) (λ e. side_at w wt k cols i e true) d r × PlacesHold (λ e. 32 + e) (λ e. side_at w wt k cols i e false) d r
 
 module _ (w cols : List ℕ) (i : ℕ) (part : List ℕ) where
   pub sides_start : (n : ℕ) → SidesTo w cols i part n 0 (replicate 64 0)
   sides_start n = record { inside = omega arith; long = refl; low = blank_low 64 _; done = λ wt k h. (holds_none _ _ _, holds_none _ _ _) }
 
-  pub sides_end : {n d : ℕ} {r : List ℕ} → SidesTo w cols i part n d r → n ≤ d → n ≡ days w → (wt : Weights) (k : ℕ) → Margins w wt k cols part → Sides w wt k cols i r
+  pub sides_end : {n d : ℕ} {r : List ℕ} → SidesTo w cols i part n d r → n ≤ d → n ≡ days w → (wt : Weights) (k : ℕ) → MarginsOf w wt k cols part → SidesOf w wt k cols i r
   sides_end p h e wt k m = record {
     on_is = λ d q. (p.done wt k m).0.holds d (omega arith);
     off_is = λ d q. (p.done wt k m).1.holds d (omega arith);
-    small = p.low;
   }
 
   module _ (a : Accepted w) (l : i < nurses w) (some : SomeMargins w cols part) where
@@ -327,7 +320,7 @@ module _ (w cols : List ℕ) (i : ℕ) (part : List ℕ) where
     small_i = omega (arith, a.nurses_most)
 
     side_most : (d : ℕ) → d < days w → (b : Bool) → side_at w some.weights some.duty cols i d b ≤ 185600
-    side_most d h b = duty_most _ _ _ _ _ some.margins.light (needs_are w a d h)
+    side_most d h b = duty_most _ _ _ _ _ some.light (needs_are w a d h)
 
     -- one day, from what the calls gave
     module _ (sets sums : List ℕ) (count d : ℕ) (on : Bool) (e : sets ≡ member_sets w) (s : Hers sets i part sums) (n : Is count (1 + count_to (length sets) (λ g. has (get_or sets g 0) i)) 17)
@@ -342,7 +335,7 @@ module _ (w cols : List ℕ) (i : ℕ) (part : List ℕ) where
       day_fits = fits _ _ _ _ _ _ d i small_i (some.margins.each d h) o refl (sums_are.sums d (omega (arith, a.days_most))) (sums_are.sums (32 + d) (omega (arith, a.days_most))) base_is
 
       day_told : {x : Side} → SideOf on (get_or part (1088 + d) 0) (get_or sums d 0) (get_or sums (32 + d) 0) (100 * count) x
-          → (wt : Weights) (k : ℕ) → Margins w wt k cols part → (x.on ≡ side_at w wt k cols i d true) × (x.off ≡ side_at w wt k cols i d false)
+          → (wt : Weights) (k : ℕ) → MarginsOf w wt k cols part → (x.on ≡ side_at w wt k cols i d true) × (x.off ≡ side_at w wt k cols i d false)
       day_told t wt k m = told _ _ _ _ _ _ d i small_i (m.each d h) o refl (sums_are.sums d (omega (arith, a.days_most))) (sums_are.sums (32 + d) (omega (arith, a.days_most))) base_is t
 
       pub sides_turn : {m : ℕ} {r : List ℕ} {x : Side} → SidesTo w cols i part m d r → d < m → SideOf on (get_or part (1088 + d) 0) (get_or sums d 0) (get_or sums (32 + d) 0) (100 * count) x

@@ -5,9 +5,9 @@ use Rattle.numbers.specs.Digits.{has, put}
 use Rattle.fields.specs.Fields.{days, member_sets, needs, need, low, high}
 use Rattle.history.specs.declared.Search.{Search}
 use Rattle.history.specs.declared.Search.TheVariants.{Nights, Days}
-use Rattle.penalty.specs.declared.duty.Weights.{Weights}
-use Rattle.penalty.specs.CodeCounts.{weights_of, no_high, Light, members_in, duty_cost}
-use Rattle.tables.specs.CodeTables.{Low, Small, night_on, open_on, none_on}
+use Rattle.penalty.specs.Weights.{Weights, Light}
+use Rattle.penalty.specs.CodeCounts.{weights_of, no_high, members_in, duty_cost}
+use Rattle.tables.specs.CodeTables.{night_on, open_on, none_on}
 use Rattle.margins.specs.declared.sides.Side.{Side}
 
 -- ---- one condition
@@ -35,7 +35,6 @@ pub record Slight (part : List ℕ) : Type 0 where
 pub record MarginPut (l r : List ℕ) (at : ℕ) (cost : ℕ → ℕ) (x : ℕ) : Type 0 where
   pub margin : Margin cost x (get_or r at 0) (get_or r (at + 32) 0)
   pub others : (e : ℕ) → (e ≡ at → ⊥) → (e ≡ at + 32 → ⊥) → get_or r e 0 ≡ get_or l e 0
-  pub slight : Slight r
 
 -- those of group g on the day of index d
 abbrev pub GroupMargin : Weights → List ℕ → List ℕ → ℕ → ℕ → List ℕ → ℕ → ℕ → Type 0
@@ -46,7 +45,6 @@ GroupMargin wt sets needs k column part d g =
 pub record GroupsPut (wt : Weights) (sets needs : List ℕ) (k column d : ℕ) (l r : List ℕ) : Type 0 where
   pub groups : (g : ℕ) → g < length sets → GroupMargin wt sets needs k column r d g
   pub others : (e : ℕ) → (e % 32 ≡ d → ⊥) → get_or r e 0 ≡ get_or l e 0
-  pub slight : Slight r
 
 -- all conditions of the day of index d, and what it costs
 pub record DayMargins (wt : Weights) (sets needs : List ℕ) (k column : ℕ) (part : List ℕ) (d : ℕ) : Type 0 where
@@ -57,33 +55,33 @@ pub record DayMargins (wt : Weights) (sets needs : List ℕ) (k column : ℕ) (p
 pub record DayPut (wt : Weights) (sets needs : List ℕ) (k column d : ℕ) (l r : List ℕ) : Type 0 where
   pub day : DayMargins wt sets needs k column r d
   pub others : (e : ℕ) → (e % 32 ≡ d → ⊥) → get_or r e 0 ≡ get_or l e 0
-  pub slight : Slight r
 
 -- every day of the month
-pub record Margins (w : List ℕ) (wt : Weights) (k : ℕ) (cols part : List ℕ) : Type 0 where
-  pub light : Light wt
+pub record MarginsOf (w : List ℕ) (wt : Weights) (k : ℕ) (cols part : List ℕ) : Type 0 where
   pub each : (d : ℕ) → d < days w → DayMargins wt (member_sets w) (needs w d) k (get_or cols d 0) part d
-  pub slight : Slight part
 
 -- of some duty
 pub record SomeMargins (w cols part : List ℕ) : Type 0 where
   pub weights : Weights
   pub duty : ℕ
-  pub margins : Margins w weights duty cols part
+  pub light : Light weights
+  pub margins : MarginsOf w weights duty cols part
 
 -- by night of both duties, day highs ignored; by day of the day's
 pub record NightMargins (w night day of_night of_day : List ℕ) : Type 0 where
-  pub night_margins : Margins w (weights_of w 0) 0 night of_night
-  pub day_margins : Margins w (no_high (weights_of w 1)) 1 day of_day
+  pub night_margins : MarginsOf w (weights_of w 0) 0 night of_night
+  pub day_margins : MarginsOf w (no_high (weights_of w 1)) 1 day of_day
 
 abbrev pub SearchMargins : Search → List ℕ → List ℕ → List ℕ → List ℕ → List ℕ → Type 0
 SearchMargins Nights w night day of_night of_day = NightMargins w night day of_night of_day
-SearchMargins Days w night day of_night of_day = Margins w (weights_of w 1) 1 day of_day
+SearchMargins Days w night day of_night of_day = MarginsOf w (weights_of w 1) 1 day of_day
 
 -- ---- a nurse's two sides of a duty
 
+-- the row from a place on, whose margins are small, is added
 pub record RowAdded (part : List ℕ) (from : ℕ) (l r : List ℕ) : Type 0 where
   pub long : length r ≡ 64
+  pub small : (e : ℕ) → e < 64 → get_or part (from + e) 0 ≤ 200
   pub added : (e : ℕ) → e < 64 → get_or r e 0 ≡ get_or l e 0 + get_or part (from + e) 0
 
 -- the rows of her conditions added up
@@ -104,10 +102,9 @@ pub record SideOf (on : Bool) (standing more fewer zero : ℕ) (r : Side) : Type
 abbrev pub side_at : List ℕ → Weights → ℕ → List ℕ → ℕ → ℕ → Bool → ℕ
 side_at w wt k cols i d b = duty_cost wt (member_sets w) (needs w d) k (put (has (get_or cols d 0)) i b)
 
-pub record Sides (w : List ℕ) (wt : Weights) (k : ℕ) (cols : List ℕ) (i : ℕ) (r : List ℕ) : Type 0 where
+pub record SidesOf (w : List ℕ) (wt : Weights) (k : ℕ) (cols : List ℕ) (i : ℕ) (r : List ℕ) : Type 0 where
   pub on_is : (d : ℕ) → d < days w → get_or r d 0 ≡ side_at w wt k cols i d true
   pub off_is : (d : ℕ) → d < days w → get_or r (32 + d) 0 ≡ side_at w wt k cols i d false
-  pub small : Low r 185600
 
 -- ---- a nurse's days
 
@@ -116,13 +113,11 @@ pub record NightSummed (n : ℕ) (x y : List ℕ) (workable : ℕ) (c : List ℕ
   pub at_night : (d : ℕ) → d < n → night_on c d ≡ get_or x d 0 + get_or y (32 + d) 0
   pub at_open : (d : ℕ) → d < n → open_on c d ≡ get_or x (32 + d) 0 + cond (has workable d) (get_or y d 0) (get_or y (32 + d) 0)
   pub at_none : (d : ℕ) → d < n → none_on c d ≡ get_or x (32 + d) 0 + get_or y (32 + d) 0
-  pub small : Small c n
 
 pub record DaySummed (n : ℕ) (y c : List ℕ) : Type 0 where
   pub at_night : (d : ℕ) → d < n → night_on c d ≡ get_or y d 0
   pub at_open : (d : ℕ) → d < n → open_on c d ≡ get_or y (32 + d) 0
   pub at_none : (d : ℕ) → d < n → none_on c d ≡ get_or y (32 + d) 0
-  pub small : Small c n
 
 -- a day on its two columns with nurse i at night or not (a), and available or not (b): by night, and by day with her working or not (b)
 unfoldable pub night_with : List ℕ → List ℕ → List ℕ → ℕ → ℕ → Bool → Bool → ℕ

@@ -1,66 +1,66 @@
 // A nurse's days: what each costs in each of her states, all others as they are.
-ghost use Rattle.std.specs.Prelude.{◌≤◌, ◌<◌};
-ghost use Rattle.fields.specs.Fields.{Accepted, nurses, days};
-ghost use Rattle.tables.specs.CodeTables.{Low, Small};
+ghost use Rattle.std.specs.Prelude.{◌≡◌, ◌≤◌, ◌<◌};
+ghost use Rattle.fields.specs.Fields.{nurses, days};
 ghost use Rattle.margins.specs.CodeMargins.{SearchMargins, NightSummed, DaySummed, CostsOf};
 
-use crate::{MARGINS, sides};
-use fields::sizes::DAYS;
+use crate::Margins;
+use crate::sides::Sides;
+use fields::Body;
 use history::Search;
 use numbers::Set;
-use tables::{COSTS, NONE, OPEN};
+use penalty::columns::Columns;
+use tables::costs::{COST_PLACES, Costs, NONE, OPEN};
 
 // By night, from the sides of night and day; `workable` are the days that she may work where they are open.
-fn night_costs(n: usize, x: &[u32; 64], y: &[u32; 64], workable: u32) -> [u32; COSTS]
-    requires { (n ≤ 31) × Low x.now 185600 × Low y.now 185600 }
-    ensures { NightSummed n x.now y.now workable result }
+fn night_costs(n: usize, x: &Sides, y: &Sides, workable: u32) -> Costs
+    requires { n ≤ 31 }
+    ensures { (result.days ≡ n) × NightSummed n x.now.sides y.now.sides workable result.costs }
 {
-    let mut c = [0u32; COSTS];
+    let mut costs = [0u32; COST_PLACES];
     for d in 0..n {
-        let off = x[32 + d];
-        let away = y[32 + d];
-        let free = if workable.has(d) { y[d] } else { away };
-        c[d] = x[d] + away;
-        c[OPEN + d] = off + free;
-        c[NONE + d] = off + away;
+        let off = x.sides[32 + d];
+        let away = y.sides[32 + d];
+        let free = if workable.has(d) { y.sides[d] } else { away };
+        costs[d] = x.sides[d] + away;
+        costs[OPEN + d] = off + free;
+        costs[NONE + d] = off + away;
     }
-    c
+    Costs { costs, days: n }
 }
 
 // By day, where a day that she works stands as one at night.
-fn day_costs(n: usize, y: &[u32; 64]) -> [u32; COSTS]
-    requires { (n ≤ 31) × Low y.now 185600 }
-    ensures { DaySummed n y.now result }
+fn day_costs(n: usize, y: &Sides) -> Costs
+    requires { n ≤ 31 }
+    ensures { (result.days ≡ n) × DaySummed n y.now.sides result.costs }
 {
-    let mut c = [0u32; COSTS];
-    for d in 0..n {
-        let off = y[32 + d];
-        c[d] = y[d];
-        c[OPEN + d] = off;
-        c[NONE + d] = off;
-    }
-    c
+    let on = &y.sides[..n];
+    let off = &y.sides[32..32 + n];
+    let mut costs = [0u32; COST_PLACES];
+    costs[..n].copy_from_slice(on);
+    costs[OPEN..OPEN + n].copy_from_slice(off);
+    costs[NONE..NONE + n].copy_from_slice(off);
+    Costs { costs, days: n }
 }
 
+// What the days of nurse i cost by the margins of these columns.
 pub fn nurse_costs(
-    w: &[u64],
-    night: &[u64; DAYS],
-    day: &[u64; DAYS],
+    w: &Body,
+    cols: &Columns,
     i: usize,
-    nightly: &[u32; MARGINS],
-    daily: &[u32; MARGINS],
+    margins: &Margins,
     workable: u32,
     search: Search,
-) -> [u32; COSTS]
-    requires { Accepted w.now × (i < nurses w.now) × SearchMargins search w.now night.now day.now nightly.now daily.now }
-    ensures small { Small result (days w.now) }
-    ensures costs { CostsOf search w.now night.now day.now i workable result }
+) -> Costs
+    requires { (i < nurses w.now.numbers.now) × SearchMargins search w.now.numbers.now cols.now.night cols.now.day margins.now.nightly margins.now.daily }
+    ensures month { result.days ≡ days w.now.numbers.now }
+    ensures costs { CostsOf search w.now.numbers.now cols.now.night cols.now.day i workable result.costs }
 {
-    let n = fields::days(w);
-    let y = sides::sides(w, day, i, daily);
+    let n = w.days();
+    let y = Sides::of(w, &cols.day, i, &margins.daily);
+    // Each arm is a line or two over the same arguments: a closure for each search would take them all, and the proofs go by the search.
     match search {
         Search::Nights => {
-            let x = sides::sides(w, night, i, nightly);
+            let x = Sides::of(w, &cols.night, i, &margins.nightly);
             night_costs(n, &x, &y, workable)
         }
         Search::Days => day_costs(n, &y),

@@ -4,26 +4,27 @@ ghost use Rattle.fields.specs.Fields.{Accepted, nurses};
 ghost use Rattle.numbers.specs.Sum.{count_to, Is};
 ghost use Rattle.numbers.specs.Digits.{has};
 ghost use Rattle.tables.specs.CodeTables.{Low};
-ghost use Rattle.penalty.specs.declared.duty.Weights.{Weights};
-ghost use Rattle.margins.specs.CodeMargins.{Slight, Margins, SomeMargins, RowAdded, Hers, SideFits, SideOf, Sides};
+ghost use Rattle.penalty.specs.Weights.{Weights};
+ghost use Rattle.margins.specs.CodeMargins.{MarginsOf, SomeMargins, RowAdded, Hers, SideFits, SideOf, SidesOf};
 
-use crate::{EVERYONE, MARGINS, STANDING};
+use crate::part::{EVERYONE, Part, STANDING};
+use fields::Body;
 use fields::sizes::DAYS;
 use numbers::Set;
 
 // The row from `from` on added up.
-fn add_row(part: &[u32; MARGINS], from: usize, sums: &mut [u32; 64])
-    requires { (from + 64 ≤ 1088) × Slight part.now × Low sums.old 100000 × (length sums.old ≡ 64) }
+fn add_row(part: &Part, from: usize, sums: &mut [u32; 64])
+    requires { (from + 64 ≤ 1088) × Low sums.old 100000 × (length sums.old ≡ 64) }
     ensures { RowAdded part.now from sums.old sums.new }
 {
     for e in 0..64 {
-        sums[e] += part[from + e];
+        sums[e] += part.margins[from + e];
     }
 }
 
 // The rows of nurse i's conditions added up.
-fn hers(sets: &[u64], i: usize, part: &[u32; MARGINS]) -> [u32; 64]
-    requires { (length sets.now ≤ 16) × (i < 64) × Slight part.now }
+fn hers(sets: &[u64], i: usize, part: &Part) -> [u32; 64]
+    requires { (length sets.now ≤ 16) × (i < 64) }
     ensures { Hers sets.now i part.now result }
 {
     let mut sums = [0u32; 64];
@@ -69,21 +70,30 @@ fn both(on: bool, standing: u32, more: u32, fewer: u32, zero: u32) -> Side
     }
 }
 
-// By day: with nurse i from 0 on, without her from 32 on.
-pub(crate) fn sides(w: &[u64], cols: &[u64; DAYS], i: usize, part: &[u32; MARGINS]) -> [u32; 64]
-    requires { Accepted w.now × (i < nurses w.now) × SomeMargins w.now cols.now part.now }
-    ensures { (wt : Weights) (k : ℕ) → Margins w.now wt k cols.now part.now → Sides w.now wt k cols.now i result }
-{
-    let n = fields::days(w);
-    let sets = fields::member_sets(w);
-    let sums = hers(sets, i, part);
-    let zero = 100 * conditions(sets, i);
-    let mut r = [0u32; 64];
-    for d in 0..n {
-        let on = cols[d].has(i);
-        let x = both(on, part[STANDING + d], sums[d], sums[32 + d], zero);
-        r[d] = x.on;
-        r[32 + d] = x.off;
+// By day: with nurse i from 0 on, without her from 32 on; small enough to be added.
+#[derive(Clone, Copy)]
+pub(crate) struct Sides {
+    pub(crate) sides: [u32; 64],
+    pub(crate) ghost small: { Low sides 185600 },
+}
+
+impl Sides {
+    // From the margins of these columns.
+    pub(crate) fn of(w: &Body, cols: &[u64; DAYS], i: usize, part: &Part) -> Sides
+        requires { (i < nurses w.now.numbers.now) × SomeMargins w.now.numbers.now cols.now part.now }
+        ensures { (wt : Weights) (k : ℕ) → MarginsOf w.now.numbers.now wt k cols.now part.now → SidesOf w.now.numbers.now wt k cols.now i result.sides }
+    {
+        let n = w.days();
+        let sets = w.member_sets();
+        let sums = hers(sets, i, part);
+        let zero = 100 * conditions(sets, i);
+        let mut sides = [0u32; 64];
+        for d in 0..n {
+            let on = cols[d].has(i);
+            let x = both(on, part.margins[STANDING + d], sums[d], sums[32 + d], zero);
+            sides[d] = x.on;
+            sides[32 + d] = x.off;
+        }
+        Sides { sides }
     }
-    r
 }

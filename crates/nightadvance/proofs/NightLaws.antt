@@ -1,15 +1,9 @@
 -- Laws of the night advance: its questions in order, its list in the buffer, and what it hands back.
-use Prim.Native.Nat.{ℕ, ◌+◌, ◌≤◌, min}
-use mathlib.Core.Bool.{Bool, true, false, cond, ◌&&◌}
-use mathlib.Core.Path.{◌≡◌, refl, sym}
-use mathlib.Core.List.{List, []}
-use mathlib.Core.Option.{Option, none}
-use native.Mathlib.Omega.{arith}
-use lib.Dec.{leb, eqb}
-use lib.ListN.{length}
-use borrow.Author.Tests.{le-leb, lt-leb, leb-true, leb-false}
+use Rattle.std.specs.Prelude.{ℕ, ◌+◌, ◌≤◌, min, Bool, true, false, cond, ◌&&◌, ◌≡◌, refl, List, [], leb, eqb, length}
+use Rattle.std.proofs.Common.{sym, arith, le-leb, leb-true, leb-false}
+use Rattle.std.proofs.lemmas.Bool.{lt-leb, and_parts}
+use Rattle.std.proofs.Math.Option.{Option, none}
 use Rattle.numbers.specs.Range.{up_from}
-use Rattle.numbers.proofs.RangeLaws.{and_parts}
 use Rattle.refusals.specs.declared.Refusal.{Refusal}
 use Rattle.refusals.specs.Refusals.{unless, first}
 use Rattle.refusals.specs.Questions as question

@@ -1,20 +1,12 @@
 -- Laws of the days on which one start more is the last: the list there needs no walk.
-use mathlib.Core.Path.{◌≡◌, refl, sym, ap, ◌∙◌}
-use mathlib.Core.Bool.{Bool, true, false}
-use mathlib.Core.List.{List, [], ◌∷◌, ◌++◌, append-nil, append_assoc}
-use Prim.Native.Nat.{ℕ, zero, suc, ◌+◌, ◌-◌, ◌^◌, ◌≤◌, ◌<◌}
-use native.Mathlib.Nat.{add-zero}
-use native.Mathlib.Numerals.{add-one}
-use native.Mathlib.Omega.{arith}
-use lib.Dec.{leb, eqb}
-use lib.ListN.{length, length-append}
-use lib.Pow.{pow_pos, pow_mono}
-use borrow.Author.Tests.{leb-true, leb-false, eqb-true, eqb-false, le-leb, lt-leb, lt-ltb, eq-eqb, ne_eqb}
+use Rattle.std.specs.Prelude.{◌≡◌, refl, Bool, true, false, List, [], ◌∷◌, ◌++◌, ℕ, zero, suc, ◌+◌, ◌-◌, ◌^◌, ◌≤◌, ◌<◌, leb, eqb, length}
+use Rattle.std.proofs.Common.{sym, ap, ◌∙◌, append-nil, append_assoc, add-zero, add-one, arith, length-append, pow_pos, pow_mono, leb-true, leb-false, eqb-true, le-leb, lt-ltb, eq-eqb, ne_eqb}
+use Rattle.std.proofs.lemmas.Bool.{eqb-false, lt-leb}
+use Rattle.std.specs.declared.option.Option.{Option}
+use Rattle.std.specs.declared.option.Option.TheVariants.{None}
 use Rattle.numbers.proofs.HalfLaws.{pow_twice}
 use Rattle.fields.specs.declared.rules.Rules.{Rules}
 use Rattle.nightlists.specs.declared.State.{State}
-use Rattle.std.specs.declared.option.Option.{Option}
-use Rattle.std.specs.declared.option.Option.TheVariants.{None}
 use Rattle.nightlists.specs.CodeWalk.{closed, here, listed, apart_by, new_days, new_run, last_days, shut_days, lengthened, leaves, Ready}
 use Rattle.nightlists.proofs.WalkLaws.{cond_case, here_only, here_is, more_to}
 use Rattle.nightlists.proofs.OnwardLaws.{Days, known, days_most, new_start, new_far, never_all, apart_three}
@@ -135,7 +127,7 @@ module _ {r : Rules} {left a : ℕ} {s : State} {days begun shut : ℕ} (b : Beg
   pub begun_left : begun ≤ left
   begun_left = omega (arith, b.begun_days, b.days_left)
 
-  pub begun_ready : Ready r left a → a + 2 ^ shut ≤ 2 ^ 32
+  pub begun_ready : Ready left a → a + 2 ^ shut ≤ 2 ^ 32
   begun_ready ready =
       let m : shut ≤ left = omega (arith, b.shut_begun, begun_left) in
       omega (arith, ready.fits, pow_mono {i = shut} {j = left} m)

@@ -1,19 +1,14 @@
 -- Laws of the days that the walk goes on to: on the days below `new_days` a new run begins, one day may lengthen the first run,
 -- and no other day has a pattern.
-use mathlib.Core.Path.{◌≡◌, refl, sym, ap, ap₂, subst, ◌∙◌}
-use mathlib.Core.Bool.{Bool, true, false, cond}
-use mathlib.Core.List.{List, [], ◌++◌, append-nil}
-use mathlib.Core.Logic.{◌⊎◌, inl, inr}
-use Prim.Native.Nat.{ℕ, zero, suc, ◌+◌, ◌-◌, ◌^◌, ◌≤◌, ◌<◌, min}
-use native.Mathlib.Nat.{add-zero}
-use native.Mathlib.Omega.{arith}
-use lib.Dec.{leb, ltb, eqb}
-use borrow.Author.Tests.{leb-false, ltb-true, ltb-false, eqb-true, eqb-false, lt-leb, eq-eqb, ne_eqb, lt-ltb, le-ltb}
+use Rattle.std.specs.Prelude.{◌≡◌, refl, Bool, true, false, cond, List, [], ◌++◌, ◌⊎◌, ℕ, zero, suc, ◌+◌, ◌-◌, ◌^◌, ◌≤◌, ◌<◌, min, leb, ltb, eqb}
+use Rattle.std.proofs.Common.{sym, ap, ap₂, subst, ◌∙◌, append-nil, inl, inr, add-zero, arith, leb-false, ltb-true, ltb-false, eqb-true, eq-eqb, ne_eqb, lt-ltb, le-ltb}
+use Rattle.std.proofs.lemmas.Bool.{eqb-false, lt-leb}
+use Rattle.std.proofs.lemmas.Option.{same_Some, none-some}
+use Rattle.std.specs.declared.option.Option.{Option}
+use Rattle.std.specs.declared.option.Option.TheVariants.{Some, None}
 use Rattle.fields.specs.declared.rules.Rules.{Rules}
 use Rattle.fields.specs.Rules.{gap}
 use Rattle.nightlists.specs.declared.State.{State}
-use Rattle.std.specs.declared.option.Option.{Option}
-use Rattle.std.specs.declared.option.Option.TheVariants.{Some, None}
 use Rattle.nightlists.specs.CodeWalk.{closed, start_at, onward, listed, least_gap, lost, apart_by, new_days, new_run, lengthened}
 use Rattle.nightlists.proofs.WalkLaws.{cond_case, More, listed_more, more_to}
 
@@ -141,12 +136,6 @@ pub record Long (r : Rules) (left : ℕ) (s : State) (t : State) : Type 0 where
   pub day : s.first ≡ t.first - 1 + 3
   pub start : s.count < r.most → start_at r (t.first - 1 + 1) s ≡ Some t
 
-to_is : {t u : State} → Some t ≡ Some u → t ≡ u
-to_is e = cc
-
-pub never_to : {t : State} → None ≡ Some t → ⊥
-never_to e = let z : ◌≡◌ {A = ℕ} 0 1 = cc in omega arith
-
 pub to_never : {t : State} → Some t ≡ None → ⊥
 to_never e = let z : ◌≡◌ {A = ℕ} 0 1 = cc in omega arith
 
@@ -169,11 +158,11 @@ module _ (r : Rules) (left : ℕ) (s : State) where
   pub long_is : (t : State) → lengthened r s left ≡ Some t → Long r left s t
   unfolding lengthened long_state
   long_is t =
-      cond_case (λ (N : Option State). N ≡ Some t → Long r left s t) (leb r.longest s.run) _ _ (λ u e. absurd (never_to e))
-      (λ u. cond_case (λ (N : Option State). N ≡ Some t → Long r left s t) (ltb s.first 3) _ _ (λ v e. absurd (never_to e))
-      (λ v. cond_case (λ (N : Option State). N ≡ Some t → Long r left s t) (ltb (left + 2) s.first) _ _ (λ w e. absurd (never_to e))
-      (λ w. cond_case (λ (N : Option State). N ≡ Some t → Long r left s t) (lost r (s.run + 1) s.dist) _ _ (λ x e. absurd (never_to e))
-      (λ x e. subst (Long r left s) (to_is e) (long_start (leb-false _ _ u) (ltb-false _ _ v) (ltb-false _ _ w))))))
+      cond_case (λ (N : Option State). N ≡ Some t → Long r left s t) (leb r.longest s.run) _ _ (λ u e. absurd (none-some _ e))
+      (λ u. cond_case (λ (N : Option State). N ≡ Some t → Long r left s t) (ltb s.first 3) _ _ (λ v e. absurd (none-some _ e))
+      (λ v. cond_case (λ (N : Option State). N ≡ Some t → Long r left s t) (ltb (left + 2) s.first) _ _ (λ w e. absurd (none-some _ e))
+      (λ w. cond_case (λ (N : Option State). N ≡ Some t → Long r left s t) (lost r (s.run + 1) s.dist) _ _ (λ x e. absurd (none-some _ e))
+      (λ x e. subst (Long r left s) (same_Some _ _ e) (long_start (leb-false _ _ u) (ltb-false _ _ v) (ltb-false _ _ w))))))
 
   -- on that day, where there is no such state
   long_never : (day : ℕ) (f : State → List ℕ) → s.first ≡ day + 3 → day < left → NoneLost r f → lengthened r s left ≡ None → onward (start_at r (day + 1) s) f ≡ []

@@ -1,14 +1,10 @@
 -- Whether a nurse has a pattern: what the walk asks of a night pattern, and what it comes to over the whole month.
-use mathlib.Core.Path.{◌≡◌, refl, sym, ap, ◌∙◌, subst}
-use mathlib.Core.Bool.{Bool, true, false, cond, ◌&&◌}
-use mathlib.Core.List.{List, [], ◌∷◌, ◌++◌}
-use Prim.Native.Nat.{ℕ, zero, suc, ◌+◌, ◌-◌, ◌*◌, ◌/◌, ◌%◌, ◌^◌, ◌≤◌, ◌<◌}
-use native.Mathlib.Nat.{add-mul, one-mul, mul_assoc, mul-mod_left, div-add-mod', div-eq_of_lt-le, not-suc-le-zero}
-use native.Mathlib.Omega.{arith}
-use lib.Bits.{bit_and}
-use lib.Dec.{ltb}
-use lib.ListN.{length, get_or}
-use lib.Pow.{pow-add}
+use Rattle.std.specs.Prelude.{◌≡◌, refl, Bool, true, false, cond, ◌&&◌, List, [], ◌∷◌, ◌++◌, ℕ, zero, suc, ◌+◌, ◌-◌, ◌*◌, ◌/◌, ◌%◌, ◌^◌, ◌≤◌, ◌<◌, bit_and, ltb, length, get_or}
+use Rattle.std.proofs.Common.{sym, ap, ◌∙◌, subst, add-mul, one-mul, mul_assoc, div-add-mod', not-suc-le-zero, arith, pow-add}
+use Rattle.std.proofs.lemmas.Option.{none-some}
+use Rattle.std.proofs.Math.Nat.{mul-mod_left, div-eq_of_lt-le}
+use Rattle.std.specs.declared.option.Option.{Option}
+use Rattle.std.specs.declared.option.Option.TheVariants.{Some, None}
 use Rattle.numbers.specs.Digits.{has}
 use Rattle.numbers.specs.Range.{filter, any_of}
 use Rattle.numbers.proofs.HalfLaws.{pow_twice, high_half}
@@ -25,16 +21,12 @@ use Rattle.nights.specs.Own.{has_pair, pattern_list}
 use Rattle.nights.proofs.ListLaws.{among_common, some_low, some_high}
 use Rattle.nights.proofs.OwnLaws.{own_some}
 use Rattle.nursemasks.specs.declared.masks.Masks.{Masks}
-use Rattle.nursemasks.specs.declared.pairs.Pairs.{Pairs}
 use Rattle.nursemasks.specs.CodeMasks.{masks_of}
-use Rattle.nursemasks.specs.CodePairs.{PairsOf}
 use Rattle.nursemasks.proofs.NearLaws.{out_never}
 use Rattle.nightlists.specs.declared.State.{State}
-use Rattle.std.specs.declared.option.Option.{Option}
-use Rattle.std.specs.declared.option.Option.TheVariants.{Some, None}
 use Rattle.nightlists.specs.CodeWalk.{closed, here, start_at, onward, listed, lengthened, hers_with_pair}
 use Rattle.nightlists.proofs.WalkLaws.{here_is, here_only, More, listed_more, listed_first}
-use Rattle.nightlists.proofs.OnwardLaws.{Days, Long, never_to, to_never, long_is, long_some, long_below, never_all, to_all}
+use Rattle.nightlists.proofs.OnwardLaws.{Days, Long, to_never, long_is, long_some, long_below, never_all, to_all}
 
 -- it is not hers, or her pairs decide
 module _ (w : List ℕ) (i p : ℕ) {hers : Bool} (e : hers ≡ hers_of w i p) where
@@ -111,107 +103,108 @@ in_both x y d p q e =
     omega arith
 
 cond_to : (v : Bool) (N : Option State) (t : State) → cond v None N ≡ Some t → N ≡ Some t
-cond_to true N t e = absurd (never_to e)
+cond_to true N t e = absurd (none-some _ e)
 cond_to false N t e = e
 
--- ---- what the walk says of a list, of whichever nurse the masks and the pairs are
+-- ---- what the walk says of a list, of nurse i, whose masks are m
 
-abbrev pub Says : List ℕ → Masks → Pairs → List ℕ → Bool → Type 0
-Says w m x L h = (i : ℕ) → m ≡ masks_of (rules_of w) (days w) (block w i) → PairsOf w i x → Among (rules_of w) (days w) L
-    → h ≡ ltb 0 (length (filter (hers_with_pair w i) L))
+abbrev pub Says : List ℕ → ℕ → List ℕ → Bool → Type 0
+Says w i L h = Among (rules_of w) (days w) L → h ≡ ltb 0 (length (filter (hers_with_pair w i) L))
 
-module _ (w : List ℕ) (m : Masks) (x : Pairs) where
-  says_first : (L A B : List ℕ) (h : Bool) → L ≡ A ++ B → Says w m x A h → h ≡ true → Says w m x L true
-  says_first L A B h e f y i is of among = some_low (rules_of w) (days w) (hers_with_pair w i) L h A B e (f i is of) y among
+pub says_as : {v w : List ℕ} {i j : ℕ} (L : List ℕ) (h : Bool) → v ≡ w → i ≡ j → Says v i L h → Says w j L h
+says_as {v} {w} {i} {j} L h e f s = subst (λ (x : List ℕ). Says x j L h) e (subst (λ (k : ℕ). Says v k L h) f s)
 
-  says_second : (L A B : List ℕ) (h : Bool) → L ≡ A ++ B → Says w m x A false → Says w m x B h → Says w m x L h
-  says_second L A B h e f g i is of among = some_high (rules_of w) (days w) (hers_with_pair w i) L false A B h e (f i is of) refl (g i is of) among
+-- the loop: none of the patterns of the days below `day`
+pub record NoneAt (w : List ℕ) (i : ℕ) (r : Rules) (left a : ℕ) (s : State) (day : ℕ) : Type 0 where
+  pub day_most : day ≤ left
+  pub none : Says w i (listed r day a s) false
+
+module _ (w : List ℕ) (i : ℕ) where
+  says_first : (L A B : List ℕ) (h : Bool) → L ≡ A ++ B → Says w i A h → h ≡ true → Says w i L true
+  says_first L A B h e f y among = some_low (rules_of w) (days w) (hers_with_pair w i) L h A B e f y among
+
+  says_second : (L A B : List ℕ) (h : Bool) → L ≡ A ++ B → Says w i A false → Says w i B h → Says w i L h
+  says_second L A B h e f g among = some_high (rules_of w) (days w) (hers_with_pair w i) L false A B h e f refl g among
 
   -- none of them is hers where each has a start on a day on which she never starts
-  says_barred : (B : List ℕ) (day : ℕ) → Accepted w → has m.never day ≡ true → Each (λ p. has p day ≡ true) B → Says w m x B false
+  says_barred : {m : Masks} → m ≡ masks_of (rules_of w) (days w) (block w i) → (B : List ℕ) (day : ℕ) → Accepted w → has m.never day ≡ true → Each (λ p. has p day ≡ true) B → Says w i B false
   unfolding Among
-  says_barred B day ok bar each i is of among =
+  says_barred {m} is B day ok bar each among =
       let none : filter (hers_with_pair w i) B ≡ [] = kept_none (hers_with_pair w i) B (λ k l.
       let q = among k l in
       let p = get_or B k 0 in
       sym (one_nights w i p (out_never (rules_of w) (days w) p (block w i) m is q.0 q.1 ok.days_most (in_both p m.never day (each k l) bar)) refl)) in
       sym (ap (λ (l : List ℕ). ltb 0 (length l)) none)
 
-  -- ---- the loop: none of the patterns of the days below `day`
-
-  pub record NoneAt (r : Rules) (left a : ℕ) (s : State) (day : ℕ) : Type 0 where
-    pub day_most : day ≤ left
-    pub none : Says w m x (listed r day a s) false
-
-  module _ (r : Rules) (left a : ℕ) (s : State) {v h : Bool} (e : v ≡ closed r s.run s.dist) (f : Says w m x (here v a) h) where
-    says_here : Says w m x (listed r 0 a s) h
+  module _ (r : Rules) (left a : ℕ) (s : State) {v h : Bool} (e : v ≡ closed r s.run s.dist) (f : Says w i (here v a) h) where
+    says_here : Says w i (listed r 0 a s) h
     says_here = rw (here_is r a s e) f
 
-    pub some_here : h ≡ true → Says w m x (listed r left a s) true
+    pub some_here : h ≡ true → Says w i (listed r left a s) true
     some_here y =
         let q = listed_first r 0 left a s (omega arith) in
         says_first _ _ q.0 h q.1 says_here y
 
-    pub none_only : r.most ≤ s.count → h ≡ false → Says w m x (listed r left a s) false
+    pub none_only : r.most ≤ s.count → h ≡ false → Says w i (listed r left a s) false
     none_only k y = rw (here_only r left a s k, ← y) says_here
 
-    pub none_start : h ≡ false → NoneAt r left a s 0
+    pub none_start : h ≡ false → NoneAt w i r left a s 0
     none_start y = record { day_most = omega arith; none = rw (← y) says_here }
 
-  module _ {r : Rules} {left a : ℕ} {s : State} {day : ℕ} (n : NoneAt r left a s day) where
-    -- on one more day she starts
-    module _ {next last b : ℕ} {t : State} {h : Bool} (more : More r day a s last b t next) (f : Says w m x (listed r last (a + b) t) h) where
-      pub some_more : Says w m x (listed r next a s) h
-      some_more = says_second (listed r next a s) (listed r day a s) (listed r last (a + b) t) h more.whole n.none f
+module _ {w : List ℕ} {i : ℕ} {r : Rules} {left a : ℕ} {s : State} {day : ℕ} (n : NoneAt w i r left a s day) where
+  -- on one more day she starts
+  module _ {next last b : ℕ} {t : State} {h : Bool} (more : More r day a s last b t next) (f : Says w i (listed r last (a + b) t) h) where
+    pub some_more : Says w i (listed r next a s) h
+    some_more = says_second w i (listed r next a s) (listed r day a s) (listed r last (a + b) t) h more.whole n.none f
 
-      pub turn_yes : next ≤ left → h ≡ true → Says w m x (listed r left a s) true
-      turn_yes l y =
-          let first = listed_first r next left a s l in
-          says_first _ _ first.0 h first.1 some_more y
+    pub turn_yes : next ≤ left → h ≡ true → Says w i (listed r left a s) true
+    turn_yes l y =
+        let first = listed_first r next left a s l in
+        says_first w i _ _ first.0 h first.1 some_more y
 
-      pub turn_no : next ≤ left → h ≡ false → NoneAt r left a s next
-      turn_no l y = record { day_most = l; none = rw (← y) some_more }
+    pub turn_no : next ≤ left → h ≡ false → NoneAt w i r left a s next
+    turn_no l y = record { day_most = l; none = rw (← y) some_more }
 
-    -- on the next day she never does
-    pub turn_barred : Accepted w → a % 2 ^ left ≡ 0 → day < left → has m.never day ≡ true → NoneAt r left a s (day + 1)
-    turn_barred ok even l bar = record { day_most = omega arith; none = none }
+  -- on the next day she never does
+  pub turn_barred : {m : Masks} → m ≡ masks_of (rules_of w) (days w) (block w i) → Accepted w → a % 2 ^ left ≡ 0 → day < left → has m.never day ≡ true → NoneAt w i r left a s (day + 1)
+  turn_barred is ok even l bar = record { day_most = omega arith; none = none }
+    where
+      B : List ℕ
+      B = onward (start_at r (day + 1) s) (λ t. listed r day (a + 2 ^ day) t)
+
+      none : Says w i (listed r (day + 1) a s) false
+      none = says_second w i (listed r (day + 1) a s) (listed r day a s) B false (listed_more r day a s) n.none
+          (says_barred w i is B day ok bar
+          (onward_each (λ p. has p day ≡ true) (λ t. listed r day (a + 2 ^ day) t) (start_at r (day + 1) s)
+          (λ t k h. has_start left day a even l _ (listed_within r day (a + 2 ^ day) t k h))))
+
+  -- past the days of new runs, where she does not lengthen the first run
+  module _ {done : Bool} {apart past : ℕ} (k : Days r done apart left s past) (l : day ≤ past) (q : past ≤ day) where
+    pub none_end : {m : Masks} {N : Option State} → m ≡ masks_of (rules_of w) (days w) (block w i) → Accepted w → a % 2 ^ left ≡ 0 → N ≡ cond (has m.never (s.first - 3)) None (lengthened r s left) → N ≡ None → Says w i (listed r left a s) false
+    none_end {m} is ok even c e = go (has m.never (s.first - 3)) refl (lengthened r s left) refl
       where
-        B : List ℕ
-        B = onward (start_at r (day + 1) s) (λ t. listed r day (a + 2 ^ day) t)
+        go : (v : Bool) → has m.never (s.first - 3) ≡ v → (M : Option State) → lengthened r s left ≡ M → Says w i (listed r left a s) false
+        go v bar None f = rw (never_all k l q a (sym f) refl) n.none
+        go false bar (Some t) f = absurd (to_never (rw (bar, f) at (sym c ∙ e)))
+        go true bar (Some t) f =
+            let long : Long r left s t = long_is r left s t f in
+            let last : ℕ = t.first - 1 in
+            let there : s.first - 3 ≡ last = omega (arith, long.day) in
+            let more : More r day a s last (2 ^ last) t left = to_all k l q a (sym f) refl refl refl in
+            says_second w i (listed r left a s) (listed r day a s) (listed r last (a + 2 ^ last) t) false more.whole n.none
+            (says_barred w i is (listed r last (a + 2 ^ last) t) last ok (rw there at bar)
+            (λ i h. has_start left last a even long.below _ (listed_within r last (a + 2 ^ last) t i h)))
 
-        none : Says w m x (listed r (day + 1) a s) false
-        none = says_second (listed r (day + 1) a s) (listed r day a s) B false (listed_more r day a s) n.none
-            (says_barred B day ok bar
-            (onward_each (λ p. has p day ≡ true) (λ t. listed r day (a + 2 ^ day) t) (start_at r (day + 1) s)
-            (λ t k h. has_start left day a even l _ (listed_within r day (a + 2 ^ day) t k h))))
+-- where she lengthens the first run
+module _ {r : Rules} {left : ℕ} {s : State} {done : Bool} {apart past : ℕ} (k : Days r done apart left s past) (never : Bool) {N : Option State} {t : State} (c : N ≡ cond never None (lengthened r s left)) (e : N ≡ Some t) where
+  is_long : lengthened r s left ≡ Some t
+  is_long = cond_to never (lengthened r s left) t (sym c ∙ e)
 
-    -- past the days of new runs, where she does not lengthen the first run
-    module _ {done : Bool} {apart days : ℕ} (k : Days r done apart left s days) (l : day ≤ days) (q : days ≤ day) where
-      pub none_end : {N : Option State} → Accepted w → a % 2 ^ left ≡ 0 → N ≡ cond (has m.never (s.first - 3)) None (lengthened r s left) → N ≡ None → Says w m x (listed r left a s) false
-      none_end ok even c e = go (has m.never (s.first - 3)) refl (lengthened r s left) refl
-        where
-          go : (v : Bool) → has m.never (s.first - 3) ≡ v → (M : Option State) → lengthened r s left ≡ M → Says w m x (listed r left a s) false
-          go v bar None f = rw (never_all k l q a (sym f) refl) n.none
-          go false bar (Some t) f = absurd (to_never (rw (bar, f) at (sym c ∙ e)))
-          go true bar (Some t) f =
-              let long : Long r left s t = long_is r left s t f in
-              let last : ℕ = t.first - 1 in
-              let is : s.first - 3 ≡ last = omega (arith, long.day) in
-              let more : More r day a s last (2 ^ last) t left = to_all k l q a (sym f) refl refl refl in
-              says_second (listed r left a s) (listed r day a s) (listed r last (a + 2 ^ last) t) false more.whole n.none
-              (says_barred (listed r last (a + 2 ^ last) t) last ok (rw is at bar)
-              (λ i h. has_start left last a even long.below _ (listed_within r last (a + 2 ^ last) t i h)))
+  pub her_some : 1 ≤ t.first
+  her_some = long_some k (sym is_long) refl
 
-    -- where she does
-    module _ {done : Bool} {apart days : ℕ} (k : Days r done apart left s days) {N : Option State} {t : State} (c : N ≡ cond (has m.never (s.first - 3)) None (lengthened r s left)) (e : N ≡ Some t) where
-      is_long : lengthened r s left ≡ Some t
-      is_long = cond_to (has m.never (s.first - 3)) (lengthened r s left) t (sym c ∙ e)
+  pub her_below : {last : ℕ} → last ≡ t.first - 1 → last < left
+  her_below z = long_below k (sym is_long) refl z
 
-      pub her_some : 1 ≤ t.first
-      her_some = long_some k (sym is_long) refl
-
-      pub her_below : {last : ℕ} → last ≡ t.first - 1 → last < left
-      her_below z = long_below k (sym is_long) refl z
-
-      pub her_all : {last b : ℕ} → day ≤ days → days ≤ day → last ≡ t.first - 1 → b ≡ 2 ^ last → More r day a s last b t left
-      her_all l q z p = to_all k l q a (sym is_long) refl z p
+  pub her_all : {day last b : ℕ} (a : ℕ) → day ≤ past → past ≤ day → last ≡ t.first - 1 → b ≡ 2 ^ last → More r day a s last b t left
+  her_all a l q z p = to_all k l q a (sym is_long) refl z p

@@ -1,18 +1,10 @@
 -- Laws of the walk over the days: what one more start adds, what no start more leaves, and the loops over the days below.
-use mathlib.Core.Path.{◌≡◌, refl, sym, ap, ◌∙◌}
-use mathlib.Core.Bool.{Bool, true, false, cond}
-use mathlib.Core.List.{List, [], ◌++◌, append-nil, append_assoc}
-use Prim.Native.Nat.{ℕ, zero, suc, ◌+◌, ◌-◌, ◌^◌, ◌≤◌, ◌<◌}
-use lib.ListN.{length, length-append}
-use lib.Pow.{pow_pos, pow_mono}
-use native.Mathlib.Nat.{add-zero}
-use native.Mathlib.Numerals.{add-one}
-use native.Mathlib.Omega.{arith}
-use borrow.Author.Tests.{le-leb}
+use Rattle.std.specs.Prelude.{◌≡◌, refl, Bool, true, false, cond, List, [], ◌++◌, ℕ, zero, suc, ◌+◌, ◌-◌, ◌^◌, ◌≤◌, ◌<◌, length}
+use Rattle.std.proofs.Common.{sym, ap, ◌∙◌, append-nil, append_assoc, length-append, pow_pos, pow_mono, add-zero, add-one, arith, le-leb}
+use Rattle.std.specs.declared.option.Option.TheVariants.{Some}
 use Rattle.numbers.proofs.HalfLaws.{pow_twice}
 use Rattle.fields.specs.declared.rules.Rules.{Rules}
 use Rattle.nightlists.specs.declared.State.{State}
-use Rattle.std.specs.declared.option.Option.TheVariants.{Some}
 use Rattle.nightlists.specs.CodeWalk.{closed, here, start_at, onward, listed, Ready}
 
 -- ---- tests
@@ -72,12 +64,12 @@ listed_most r day left a s h = omega (arith, simp length-append at (ap length (l
 
 -- ---- what the walk asks, with a start on a day below
 
-module _ {r : Rules} {left a day b : ℕ} (ready : Ready r left a) (l : day < left) (e : b ≡ 2 ^ day) where
+module _ {left a day b : ℕ} (ready : Ready left a) (l : day < left) (e : b ≡ 2 ^ day) where
   with_fits : a + b + 2 ^ day ≤ 2 ^ 32
   with_fits = omega (arith, ready.fits, pow_twice day, pow_mono {i = suc day} {j = left} l)
 
-  pub with_ready : Ready r day (a + b)
-  with_ready = record { small = ready.small; few_days = omega (arith, ready.few_days); fits = with_fits }
+  pub with_ready : Ready day (a + b)
+  with_ready = record { few_days = omega (arith, ready.few_days); fits = with_fits }
 
   -- the number with the start is one of 32 bits
   pub with_most : a + b < 2 ^ 32

@@ -1,8 +1,6 @@
 -- What becomes of the patterns that the walk comes to: they are counted, or written.
 use Rattle.std.specs.Prelude.{◌≡◌, List, [], ◌++◌, ℕ, ◌+◌, ◌-◌, ◌≤◌, length, take, drop, refl}
-use Rattle.std.proofs.Common.{sym, ap, ◌∙◌, append_assoc, length-append, arith}
-use mathlib.Core.List.{append-nil}
-use lib.Seq.{drop-drop}
+use Rattle.std.proofs.Common.{sym, ap, ◌∙◌, append_assoc, length-append, arith, append-nil, drop-drop}
 use Rattle.nightlists.specs.declared.listing.Counting.{Counting}
 use Rattle.nightlists.specs.declared.listing.Writing.{Writing}
 
@@ -14,8 +12,8 @@ pub record ListingLaws {L : Type 0} (room : L → List ℕ → Type 0) (added : 
   pub rest : (a b : L) (xs ys : List ℕ) → room a (xs ++ ys) → added a xs b → room b ys
 
 -- counted, while there are any to be counted
-abbrev pub counted : Counting → List ℕ → Counting → Type 0
-counted a xs b = b.left ≡ a.left - length xs
+abbrev pub counted_down : Counting → List ℕ → Counting → Type 0
+counted_down a xs b = b.left ≡ a.left - length xs
 
 abbrev pub any_room : Counting → List ℕ → Type 0
 any_room a xs = Unit {0}
@@ -36,7 +34,7 @@ room_behind a xs = a.found + length xs ≤ length a.buf.now
 
 -- ---- their laws
 
-pub counting_laws : ListingLaws any_room counted
+pub counting_laws : ListingLaws any_room counted_down
 counting_laws = record {
   none = λ a. omega arith;
   both = λ a b c xs ys p q. simp length-append (omega arith);

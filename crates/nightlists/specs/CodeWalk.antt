@@ -6,7 +6,6 @@ use Rattle.nightlists.specs.declared.State.{State}
 use Rattle.std.specs.declared.option.Option.{Option}
 use Rattle.std.specs.declared.option.Option.TheVariants.{Some, None}
 use Rattle.fields.specs.Rules.{gap}
-use Rattle.fields.specs.CodeRules.{SmallRules}
 use Rattle.nights.specs.Hers.{hers_of}
 use Rattle.nights.specs.Own.{has_pair}
 
@@ -91,8 +90,7 @@ lengthened r s left =
     (cond (lost r (s.run + 1) s.dist) None (Some (record { first = s.first - 2; run = s.run + 1; dist = s.dist; count = s.count + 1 })))))
 
 -- what the walk asks where `left` days are undecided and the others make the number a
-pub record Ready (r : Rules) (left a : ℕ) : Type 0 where
-  pub small : SmallRules r
+pub record Ready (left a : ℕ) : Type 0 where
   pub few_days : left ≤ day_places
   pub fits : a + 2 ^ left ≤ 2 ^ 32
 

@@ -7,15 +7,13 @@ mod listing;
 pub mod onward;
 pub mod some;
 
-ghost use Rattle.std.specs.Prelude.{◌≡◌, ◌++◌, ℕ, ◌+◌, ◌^◌, ◌≤◌, ◌<◌, min, length, drop};
+ghost use Rattle.std.specs.Prelude.{◌≡◌, ◌++◌, ◌+◌, ◌≤◌, min, length, drop};
 ghost use Rattle.fields.specs.Sizes.{day_places};
-ghost use Rattle.fields.specs.CodeRules.{SmallRules};
 ghost use Rattle.nights.specs.Nights.{common};
-ghost use Rattle.nightlists.specs.CodeWalk.{closed, here, leaves, apart_by, none_yet, listed, Ready};
+ghost use Rattle.nightlists.specs.CodeWalk.{listed, Ready};
 
 use crate::listing::{Counting, Listing, Writing};
 use crate::onward::Walk;
-use fields::rules::Rules;
 
 // What the walk knows of the days that are decided: their first start (0: none), the length of the run that begins there, the
 // distance from that run's end to the start after it (0: none), and the count of starts.
@@ -28,21 +26,8 @@ pub struct State {
     pub count: u64,
 }
 
-pub(crate) fn is_closed(r: Rules, s: State) -> bool
-    requires { SmallRules r }
-    ensures { result ≡ closed r s.run s.dist }
-{
-    if s.dist == 0 {
-        return true;
-    }
-    let g = fields::rules::gap_after(r, s.run);
-    2 + g <= s.dist
-}
-
-// The patterns below.
 fn walk<L: Listing>(k: &Walk, left: u64, from: u32, s: State, list: &mut L)
-    requires ready { Ready k.now.rules left from }
-    requires apart_value { k.now.apart ≡ apart_by k.now.rules }
+    requires ready { Ready left from }
     requires next { s.first ≤ left + 1 }
     requires room { L.room list.old (listed k.now.rules left from s) }
     ensures { L.added list.old (listed k.now.rules left from s) list.new }
@@ -50,49 +35,47 @@ fn walk<L: Listing>(k: &Walk, left: u64, from: u32, s: State, list: &mut L)
     if list.is_full() {
         return;
     }
-    let done = is_closed(k.rules, s);
+    let done = k.is_closed(s);
     list.add_here(done, from);
     if k.rules.most <= s.count {
         return;
     }
-    let days = onward::new_days(done, k.apart, s, left);
-    let begun = onward::last_days(k.rules, k.apart, s, days);
-    let shut = onward::shut_days(k.rules, s, begun);
+    let days = k.new_days(done, s, left);
+    let begun = k.last_days(s, days);
+    let shut = k.shut_days(s, begun);
     list.add_leaves(from, shut);
     for day in begun..days {
         let t = onward::new_run(s, day);
         let with = from + numbers::bit(day);
         walk(k, day, with, t, list);
     }
-    if let Some(t) = onward::lengthened(k.rules, s, left) {
+    if let Some(t) = k.lengthened(s, left) {
         let last = t.first - 1;
         let long = from + numbers::bit(last);
         walk(k, last, long, t, list);
     }
 }
 
-// How many numbers the common list has, but no more than cap.
-pub fn common_count(r: Rules, n: u64, cap: usize) -> usize
-    requires small_rules { SmallRules r }
-    requires n_le_day_places { n ≤ day_places }
-    ensures { result ≡ min cap (length (common r n)) }
-{
-    let k = onward::walk_by(r);
-    let mut list = Counting { left: cap };
-    walk(&k, n, 0, State::default(), &mut list);
-    cap - list.left
-}
+impl Walk {
+    // How many numbers the common list has, but no more than cap.
+    pub fn count(&self, n: u64, cap: usize) -> usize
+        requires { n ≤ day_places }
+        ensures { result ≡ min cap (length (common self.now.rules n)) }
+    {
+        let mut list = Counting { left: cap };
+        walk(self, n, 0, State::default(), &mut list);
+        cap - list.left
+    }
 
-// Writes the common list, by ascending number, from the buffer's start, which has the room.
-pub fn common_fill(r: Rules, n: u64, buf: &mut [u32]) -> usize
-    requires small_rules { SmallRules r }
-    requires n_le_day_places { n ≤ day_places }
-    requires n_in_bounds { length (common r n) ≤ length buf.old }
-    ensures value { result ≡ length (common r n) }
-    ensures buf_after { buf.new ≡ common r n ++ drop (length (common r n)) buf.old }
-{
-    let k = onward::walk_by(r);
-    let mut list = Writing { buf, found: 0 };
-    walk(&k, n, 0, State::default(), &mut list);
-    list.found
+    // Writes the common list, by ascending number, from the buffer's start, which has the room.
+    pub fn fill(&self, n: u64, buf: &mut [u32]) -> usize
+        requires n_le_day_places { n ≤ day_places }
+        requires n_in_bounds { length (common self.now.rules n) ≤ length buf.old }
+        ensures value { result ≡ length (common self.now.rules n) }
+        ensures buf_after { buf.new ≡ common self.now.rules n ++ drop (length (common self.now.rules n)) buf.old }
+    {
+        let mut list = Writing { buf, found: 0 };
+        walk(self, n, 0, State::default(), &mut list);
+        list.found
+    }
 }

@@ -2,7 +2,7 @@
 ghost use Rattle.std.specs.Prelude.{IsTrue, List, ℕ, ◌+◌, ◌^◌, ◌≤◌};
 ghost use Rattle.fields.specs.Sizes.{day_places};
 ghost use Rattle.nightlists.specs.CodeWalk.{here, leaves};
-ghost use Rattle.nightlists.specs.CodeListing.{ListingLaws, counted, any_room, counting_laws, WrittenTo, room_behind, writing_laws};
+ghost use Rattle.nightlists.specs.CodeListing.{ListingLaws, counted_down, any_room, counting_laws, WrittenTo, room_behind, writing_laws};
 
 pub(crate) trait Listing {
     // Whether there is room for these patterns.
@@ -39,7 +39,7 @@ pub(crate) struct Counting {
 impl Listing for Counting {
     ghost room = { any_room };
 
-    ghost added = { counted };
+    ghost added = { counted_down };
 
     ghost laws = { counting_laws };
 
@@ -47,11 +47,11 @@ impl Listing for Counting {
         self.left == 0
     }
 
-    fn add_here(&mut self, done: bool, from: u32) {
+    fn add_here(&mut self, done: bool, _from: u32) {
         self.left = self.left.saturating_sub(usize::from(done));
     }
 
-    fn add_leaves(&mut self, from: u32, shut: u64) {
+    fn add_leaves(&mut self, _from: u32, shut: u64) {
         self.left = self.left.saturating_sub(shut as usize);
     }
 }

@@ -1,15 +1,10 @@
 -- The common list and a nurse's list: their order, what is in them, and hers as a part of the common one.
-use mathlib.Core.Path.{◌≡◌, refl, sym, ap, ◌∙◌, subst}
-use mathlib.Core.Bool.{Bool, true, false, cond, ◌||◌, ◌&&◌}
-use mathlib.Core.List.{List, [], ◌∷◌, ◌++◌}
-use Prim.Native.Nat.{ℕ, ◌+◌, ◌^◌, ◌<◌}
-use native.Mathlib.Omega.{arith}
-use lib.Dec.{ltb}
-use lib.ListN.{length, get_or, length-append, get_or-append}
-use lib.Seq.{get_or-append-add}
-use borrow.Author.Tests.{ltb-true, lt-ltb}
+use Rattle.std.specs.Prelude.{◌≡◌, refl, Bool, true, false, cond, ◌||◌, ◌&&◌, List, [], ◌∷◌, ◌++◌, ℕ, ◌+◌, ◌^◌, ◌<◌, ltb, length, get_or}
+use Rattle.std.proofs.Common.{sym, ap, ◌∙◌, subst, arith, length-append, get_or-append-add, ltb-true, lt-ltb}
+use Rattle.std.proofs.lemmas.Bool.{and_parts}
+use Rattle.std.proofs.Math.ListN.{get_or-append}
 use Rattle.numbers.specs.Range.{up_from, filter, Exactly}
-use Rattle.numbers.proofs.RangeLaws.{filter_append, filter_passes, filtered_below, filtered_exactly, and_parts}
+use Rattle.numbers.proofs.RangeLaws.{filter_append, filter_passes, filtered_below, filtered_exactly}
 use Rattle.fields.specs.Fields.{days, block}
 use Rattle.fields.specs.declared.rules.Rules.{Rules}
 use Rattle.fields.specs.Rules.{rules_of}

@@ -1,16 +1,11 @@
 -- A nurse's own patterns: her list has exactly these, in order; it is what of the common list, with the ward's pairs, is hers.
-use mathlib.Core.Path.{◌≡◌, refl, sym, ap, ap₂, ◌∙◌, subst}
-use mathlib.Core.Bool.{Bool, true, false, cond, ◌&&◌, ◌||◌, and-true}
-use mathlib.Core.List.{List, [], ◌∷◌, ◌++◌, map, append-nil, append_assoc}
-use Prim.Native.Nat.{ℕ, zero, suc, ◌^◌, ◌≤◌, ◌<◌, suc-le-suc}
-use native.Mathlib.Nat.{not-suc-le-zero, le_of_suc-le-suc}
-use native.Mathlib.Omega.{arith}
-use lib.Dec.{ltb, eqb}
-use lib.ListN.{length, get_or}
-use borrow.Author.Tests.{eqb-true, eqb-false, eq-eqb}
+use Rattle.std.specs.Prelude.{◌≡◌, refl, Bool, true, false, cond, ◌&&◌, ◌||◌, List, [], ◌∷◌, ◌++◌, map, ℕ, zero, suc, ◌^◌, ◌≤◌, ◌<◌, ltb, eqb, length, get_or}
+use Rattle.std.proofs.Common.{sym, ap, ap₂, ◌∙◌, subst, append-nil, append_assoc, suc-le-suc, not-suc-le-zero, le_of_suc-le-suc, arith, eqb-true, eq-eqb}
+use Rattle.std.proofs.lemmas.Bool.{eqb-false, and_parts}
+use Rattle.std.proofs.Math.Bool.{and-true}
 use Rattle.numbers.specs.Range.{up_from, filter, any_of, Ascending, At, Exactly}
 use Rattle.numbers.specs.Patterns.{pattern, days_of, pair_of}
-use Rattle.numbers.proofs.RangeLaws.{range_below, filter_append, filter_each, filter_same, and_parts, ascending_nil, ascending_cons}
+use Rattle.numbers.proofs.RangeLaws.{range_below, filter_append, filter_each, filter_same, ascending_nil, ascending_cons}
 use Rattle.numbers.proofs.MemberLaws.{Each, each_append, each_map, at_first, at_second, at_map, at_range, ascending_range, ascending_head, ascending_tail, ascending_append, ascending_map, kept_exactly, kept_none, kept_map, some_kept, any_append, any_map, any_each, any_both}
 use Rattle.numbers.proofs.PatternLaws.{days_of_pattern, pair_of_pattern, back, fewer_days, lower_pair}
 use Rattle.fields.specs.Fields.{days, block, pair_count}

@@ -1,14 +1,8 @@
 -- The test of a nurse's own pattern is the rule in the words of documents 01 and 02.
-use mathlib.Core.Path.{◌≡◌, refl, sym, ap, ◌∙◌}
-use mathlib.Core.Bool.{Bool, true, false, ◌||◌, false≢true}
-use mathlib.Core.List.{List}
-use mathlib.Core.Logic.{◌⊎◌, inl, inr, ⊎_elim, ◌↔◌}
-use Prim.Native.Nat.{ℕ, zero, suc, ◌≤◌}
-use native.Mathlib.Omega.{arith}
-use lib.Dec.{eqb}
-use borrow.Author.Tests.{eqb-true, eq-eqb}
+use Rattle.std.specs.Prelude.{◌≡◌, refl, Bool, true, false, ◌||◌, List, ◌⊎◌, ◌↔◌, ℕ, zero, suc, ◌≤◌, eqb}
+use Rattle.std.proofs.Common.{sym, ap, ◌∙◌, inl, inr, ⊎_elim, arith, eqb-true, eq-eqb}
+use Rattle.std.proofs.lemmas.Bool.{false≢true, and_parts, and_from}
 use Rattle.numbers.specs.Patterns.{days_of, pair_of}
-use Rattle.numbers.proofs.RangeLaws.{and_parts, both_true}
 use Rattle.fields.specs.Fields.{block, longest_run, mark_on, pair_count, pair_day}
 use Rattle.rows.specs.Rows.{row_state}
 use Rattle.rows.specs.Pairs.{rest_mark, at_rest, at_rest_on, pair_fits}
@@ -34,7 +28,7 @@ rest_when mark state =
     either (eqb mark 0) (eqb mark 1 || (eqb mark 5 || eqb mark 6)) (is mark 0)
     (either (eqb mark 1) (eqb mark 5 || eqb mark 6) (is mark 1) (either (eqb mark 5) (eqb mark 6) (is mark 5) (is mark 6))) in (
       λ e. (let a = and_parts (eqb state 0 || eqb state 3) (rest_mark mark) e in record { open_or_owed = states.0 a.0; marked = marks.0 a.1 }),
-      λ o. both_true (eqb state 0 || eqb state 3) (rest_mark mark) (states.1 o.open_or_owed) (marks.1 o.marked),
+      λ o. and_from (eqb state 0 || eqb state 3) (rest_mark mark) (states.1 o.open_or_owed) (marks.1 o.marked),
     )
 
 at_rest_on_lem : (b : List ℕ) (p d : ℕ) → (at_rest_on b p d ≡ true) ↔ RestDay b p d
@@ -57,7 +51,7 @@ pair_complete w i p k (without_pairs e q) = ap (pair_fits w i p) q ∙ fits_none
 pair_complete w i p k (both_days l h x y) =
     let b = block w i in
     let d = pair_day w k in
-    fits_pair w i p k l h ∙ both_true (at_rest_on b p d) (at_rest_on b p (suc d)) ((at_rest_on_lem b p d).1 x) ((at_rest_on_lem b p (suc d)).1 y)
+    fits_pair w i p k l h ∙ and_from (at_rest_on b p d) (at_rest_on b p (suc d)) ((at_rest_on_lem b p d).1 x) ((at_rest_on_lem b p (suc d)).1 y)
 
 pub pair_when : (w : List ℕ) (i p k : ℕ) → (pair_fits w i p k ≡ true) ↔ PairHers w i p k
 pair_when w i p k = (pair_sound w i p k, pair_complete w i p k)
@@ -70,5 +64,5 @@ pattern_rule w i c some =
     let nights = hers_when w (days_of c) some i in
     let pair = pair_when w i (days_of c) (pair_of c) in (
       λ e. (let a = and_parts (hers_of w i (days_of c)) (pair_fits w i (days_of c) (pair_of c)) e in record { nights = nights.0 a.0; pair = pair.0 a.1 }),
-      λ o. both_true (hers_of w i (days_of c)) (pair_fits w i (days_of c) (pair_of c)) (nights.1 o.nights) (pair.1 o.pair),
+      λ o. and_from (hers_of w i (days_of c)) (pair_fits w i (days_of c) (pair_of c)) (nights.1 o.nights) (pair.1 o.pair),
     )

@@ -1,10 +1,6 @@
 -- The number of starts of a pattern is the count of its ones.
-use mathlib.Core.Path.{◌≡◌, sym, ap, ap₂, ◌∙◌}
-use mathlib.Core.Bool.{Bool}
-use Prim.Native.Nat.{ℕ, zero, suc, ◌+◌, ◌<◌, suc-le-suc}
-use native.Mathlib.Nat.{add-zero}
-use native.Mathlib.Omega.{arith}
-use lib.ListN.{length}
+use Rattle.std.specs.Prelude.{◌≡◌, Bool, ℕ, zero, suc, ◌+◌, ◌<◌, length}
+use Rattle.std.proofs.Common.{sym, ap, ap₂, ◌∙◌, suc-le-suc, add-zero, arith, one-add}
 use Rattle.numbers.specs.Range.{up_from, filter}
 use Rattle.numbers.specs.Sum.{count_to, one_if}
 use Rattle.numbers.specs.Digits.{has}
@@ -28,7 +24,4 @@ count_filtered t u a (suc n) h =
 
 pub count_starts : (n p : ℕ) → length (starts n p) ≡ count_to n (has p)
 unfolding starts
-count_starts n p = count_filtered (started p) (has p) 1 n (λ i l. ap (started p) (on i))
-  where
-    on : (i : ℕ) → 1 + i ≡ suc i
-    on i = omega arith
+count_starts n p = count_filtered (started p) (has p) 1 n (λ i l. ap (started p) (one-add i))

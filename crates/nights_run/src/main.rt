@@ -1,13 +1,14 @@
-// Prints the common list of document 01's case of 30 days, that of the ward on standard input, and how many patterns of it
-// each nurse has, by the fast test and by the plain one.
+// Prints how long the common list is, its first and last pattern and that nothing is written past it, in document 01's case of 30 days and for the
+// ward on standard input; and how many patterns of it each nurse of the ward has by the fast test, and of how many the plain one says otherwise.
 #![tactic(auto)]
 
 ghost use Rattle.std.specs.Prelude.{◌<◌, ◌≤◌};
 ghost use Rattle.fields.specs.Sizes.{day_places};
-ghost use Rattle.fields.specs.Fields.{Accepted, nurses};
-ghost use Rattle.fields.specs.CodeRules.{SmallRules};
+ghost use Rattle.fields.specs.Fields.{nurses};
 
+use fields::Body;
 use fields::rules::Rules;
+use nightlists::onward::Walk;
 use std::io;
 use std::io::{Read, Write};
 
@@ -16,25 +17,23 @@ const INPUT_MOST: u64 = 4096;
 
 // Writes the common list where the buffer holds it, and answers how many numbers it has; where the buffer is too short, one
 // more than its places.
-fn list(r: Rules, n: u64, buf: &mut [u32]) -> usize
-    requires small_rules { SmallRules r }
-    requires n_le_day_places { n ≤ day_places }
+fn list(k: &Walk, n: u64, buf: &mut [u32]) -> usize
+    requires { n ≤ day_places }
 {
     let cap = buf.len();
-    let found = nightlists::common_count(r, n, cap + 1);
+    let found = k.count(n, cap + 1);
     if found <= cap {
-        return nightlists::common_fill(r, n, buf);
+        return k.fill(n, buf);
     }
     found
 }
 
 // Prints what `list` answers, the list's first and last number, and how many places still hold a 7, which no pattern is: it has
 // starts on days 1 and 2.
-fn show_list<W: Write>(out: &mut W, r: Rules, n: u64, buf: &mut [u32]) -> io::Result<usize>
-    requires small_rules { SmallRules r }
-    requires n_le_day_places { n ≤ day_places }
+fn show_list<W: Write>(out: &mut W, k: &Walk, n: u64, buf: &mut [u32]) -> io::Result<usize>
+    requires { n ≤ day_places }
 {
-    let found = list(r, n, buf);
+    let found = list(k, n, buf);
     let first = buf.first().copied().unwrap_or(0);
     let last = buf.iter().copied().filter(|x| *x != 7).last().unwrap_or(0);
     let kept = buf.iter().filter(|x| **x == 7).count();
@@ -43,25 +42,23 @@ fn show_list<W: Write>(out: &mut W, r: Rules, n: u64, buf: &mut [u32]) -> io::Re
 }
 
 // Days 30, V 5, L 1, g1 3.
-fn thirty() -> Rules
-    ensures { SmallRules result }
-{
-    Rules {
+fn thirty() -> Walk {
+    Walk::of(Rules {
         most: 5,
         longest: 1,
         g1: 3,
         g2: 1,
         g3: 1,
-    }
+    })
 }
 
 fn show_thirty<W: Write>(out: &mut W) -> io::Result<()> {
     let mut room = [7u32; 6960];
     write!(out, "thirty days")?;
-    show_list(out, thirty(), 30, &mut room)?;
+    show_list(out, &thirty(), 30, &mut room)?;
     let mut short = [7u32; 6957];
     write!(out, "a place too few")?;
-    show_list(out, thirty(), 30, &mut short)?;
+    show_list(out, &thirty(), 30, &mut short)?;
     Ok(())
 }
 
@@ -72,14 +69,13 @@ pub struct Own {
     pub differ: u64,
 }
 
-fn compare(w: &[u64], i: usize, list: &[u32]) -> Own
-    requires accepted { Accepted w.now }
-    requires i_bound { i < nurses w.now }
+fn compare(w: &Body, i: usize, list: &[u32]) -> Own
+    requires i_bound { i < nurses w.now.numbers.now }
 {
-    let m = nursemasks::masks::masks_of(w, i);
+    let m = nursemasks::masks::masks_of(&*w, i);
     let mut own = Own::default();
     for p in list {
-        let fast = nursemasks::masks::passes(w, m, *p);
+        let fast = m.passes(*p);
         let differs = fast != nights::is_hers(w, i, *p);
         own.count = own.count.wrapping_add(u64::from(fast));
         own.differ = own.differ.wrapping_add(u64::from(differs));
@@ -87,9 +83,8 @@ fn compare(w: &[u64], i: usize, list: &[u32]) -> Own
     own
 }
 
-fn show_nurse<W: Write>(out: &mut W, w: &[u64], i: usize, list: &[u32]) -> io::Result<()>
-    requires accepted { Accepted w.now }
-    requires i_bound { i < nurses w.now }
+fn show_nurse<W: Write>(out: &mut W, w: &Body, i: usize, list: &[u32]) -> io::Result<()>
+    requires i_bound { i < nurses w.now.numbers.now }
 {
     let own = compare(w, i, list);
     write!(out, "nurse {} {} {}", i + 1, own.count, own.differ)?;
@@ -99,31 +94,28 @@ fn show_nurse<W: Write>(out: &mut W, w: &[u64], i: usize, list: &[u32]) -> io::R
     writeln!(out)
 }
 
-fn show_nurses<W: Write>(out: &mut W, w: &[u64], list: &[u32]) -> io::Result<()>
-    requires { Accepted w.now }
-{
-    for i in 0..fields::nurses(w) {
+fn show_nurses<W: Write>(out: &mut W, w: &Body, list: &[u32]) -> io::Result<()> {
+    for i in 0..w.nurses() {
         show_nurse(out, w, i, list)?;
     }
     Ok(())
 }
 
-fn show_ward<W: Write>(out: &mut W, w: &[u64]) -> io::Result<()>
-    requires { Accepted w.now }
-{
+#[tactic(auto, using(fields::proofs::RuleLaws::small_rules))]
+fn show_ward<W: Write>(out: &mut W, w: &Body) -> io::Result<()> {
     let mut buf = [7u32; 16384];
     write!(out, "ward")?;
-    let n = fields::days(w) as u64;
-    let k = show_list(out, fields::rules::rules_of(w), n, &mut buf)?;
-    if k <= 16384 {
-        show_nurses(out, w, &buf[..k])?;
+    let n = w.days() as u64;
+    let found = show_list(out, &Walk::of(w.rules()), n, &mut buf)?;
+    if found <= 16384 {
+        show_nurses(out, w, &buf[..found])?;
     }
     Ok(())
 }
 
 fn show_file<W: Write>(out: &mut W, file: &[u8]) -> io::Result<()> {
     match ward::read(file) {
-        Ok(ward) => show_ward(out, fields::body(&ward.numbers[..ward.count])),
+        Ok(ward) => show_ward(out, &Body::of(&ward.numbers[..ward.count])),
         Err(refusal) => write!(out, " {}", refusal.question()),
     }
 }

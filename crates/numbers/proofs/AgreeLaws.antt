@@ -1,13 +1,8 @@
 -- Tests and functions that agree on a range, and numbers that agree in some of their digits.
-use mathlib.Core.Path.{◌≡◌, refl, sym, ap, ◌∙◌}
-use mathlib.Core.Bool.{Bool, true, false, cond, or-true}
-use mathlib.Core.List.{List, [], ◌∷◌, map}
-use Prim.Native.Nat.{ℕ, zero, suc, ◌+◌, ◌-◌, ◌*◌, ◌/◌, ◌%◌, ◌^◌, ◌≤◌, ◌<◌}
-use native.Mathlib.Omega.{arith}
-use lib.Dec.{eqb}
-use lib.ListN.{length, get_or}
-use lib.Bits.{bit_or}
-use lib.Pow.{shr-shr, shl-shr}
+use Rattle.std.specs.Prelude.{◌≡◌, refl, Bool, true, false, cond, List, [], ◌∷◌, map, ℕ, zero, suc, ◌+◌, ◌-◌, ◌*◌, ◌/◌, ◌%◌, ◌^◌, ◌≤◌, ◌<◌, eqb, length, get_or, bit_or}
+use Rattle.std.proofs.Common.{sym, ap, ◌∙◌, arith, shr-shr}
+use Rattle.std.proofs.lemmas.Nat.{shl-shr}
+use Rattle.std.proofs.Math.Bool.{or-true}
 use Rattle.numbers.specs.Range.{up_from, filter, all}
 use Rattle.numbers.specs.Digits.{has}
 use Rattle.numbers.proofs.RangeLaws.{range_below, filter_each}

@@ -1,10 +1,9 @@
 -- A test of all the numbers below n: its turns as a loop, and what it says of each of them.
-use mathlib.Core.Path.{◌≡◌, refl, sym, ap, ap₂, ◌∙◌}
-use mathlib.Core.Bool.{Bool, true, false, ◌&&◌, false≢true, and_assoc, and-true}
-use mathlib.Core.List.{List, [], ◌∷◌, ◌++◌}
-use Prim.Native.Nat.{ℕ, zero, suc, ◌+◌, ◌<◌}
-use native.Mathlib.Nat.{zero-add, le-suc, le_trans, lt-suc_self}
-use native.Mathlib.Numerals.{add-one}
+use Rattle.std.specs.Prelude.{◌≡◌, refl, Bool, true, false, ◌&&◌, List, [], ◌∷◌, ◌++◌, ℕ, zero, suc, ◌+◌, ◌<◌}
+use Rattle.std.proofs.Common.{sym, ap, ap₂, ◌∙◌, zero-add, le_trans, lt-suc_self, add-one}
+use Rattle.std.proofs.lemmas.Bool.{false≢true}
+use Rattle.std.proofs.Math.Bool.{and_assoc, and-true}
+use Rattle.std.proofs.Math.Nat.{le-suc}
 use Rattle.numbers.specs.Range.{up_from, all}
 use Rattle.numbers.proofs.RangeLaws.{range_add, range_at, length_range, all_at}
 

@@ -1,12 +1,8 @@
 -- A buffer with one list written at its start and another in the part after it, as a lent rest of the buffer comes back.
-use mathlib.Core.Path.{◌≡◌, sym, ap, ◌∙◌, subst}
-use mathlib.Core.List.{List, [], ◌∷◌, ◌++◌, append-nil, append_assoc}
-use Prim.Native.Nat.{ℕ, ◌+◌, ◌-◌, ◌≤◌, ◌<◌}
-use native.Mathlib.Nat.{not-suc-le-zero}
-use native.Mathlib.Omega.{arith}
-use native.Mathlib.Decide.{dec_lt}
-use lib.ListN.{length, get_or, set, take, drop, length-append, length-drop, drop_of_length-le}
-use lib.Seq.{get_or-set_same, get_or-set_other, take_all, take-append_seam, drop-append_seam, drop-drop}
+use Rattle.std.specs.Prelude.{◌≡◌, List, [], ◌∷◌, ◌++◌, ℕ, ◌+◌, ◌-◌, ◌≤◌, ◌<◌, length, get_or, set, take, drop}
+use Rattle.std.proofs.Common.{sym, ap, ◌∙◌, subst, append-nil, append_assoc, not-suc-le-zero, arith, length-append, length-drop, drop_of_length-le, get_or-set_same, get_or-set_other, take_all, drop-drop}
+use Rattle.std.proofs.Math.Decide.{dec_lt}
+use Rattle.std.proofs.Math.Seq.{take-append_seam, drop-append_seam}
 
 module _ (A buf xs : List ℕ) (low : ℕ) (len : low ≡ length A) (first : xs ≡ A ++ drop (length A) buf) (room : length A ≤ length buf) where
   part_is : take (length xs - low) (drop low xs) ≡ drop (length A) buf
@@ -61,13 +57,18 @@ module _ {L A B buf xs : List ℕ} {low : ℕ} (h : Halves L A B buf) (len : low
     pub halves_length : length (take low xs ++ (ys ++ drop (length xs - low) (drop low xs))) ≡ length buf
     halves_length = as_long L buf _ halves_written h.room
 
--- one more place set: the places below it hold f, and then it too
-pub place_turn : (f : ℕ → ℕ) (row : List ℕ) (i v : ℕ) → i < length row → ((t : ℕ) → t < i → get_or row t 0 ≡ f t) → v ≡ f i
-    → (t : ℕ) → t < i + 1 → get_or (set row i v) t 0 ≡ f t
-place_turn f row i v h below e t l = go (dec_lt t i)
+-- one more place set: the places below it are seen as f says, and then it too
+pub seen_turn : {A : Type 0} (seen : A → ℕ) (past : A) (f : ℕ → ℕ) (row : List A) (i : ℕ) (v : A) → i < length row → ((t : ℕ) → t < i → seen (get_or row t past) ≡ f t) → seen v ≡ f i
+    → (t : ℕ) → t < i + 1 → seen (get_or (set row i v) t past) ≡ f t
+seen_turn seen past f row i v h below e t l = go (dec_lt t i)
   where
-    go : Dec (t < i) → get_or (set row i v) t 0 ≡ f t
-    go (yes q) = get_or-set_other row i t v 0 (λ s. absurd (omega arith)) ∙ below t q
+    go : Dec (t < i) → seen (get_or (set row i v) t past) ≡ f t
+    go (yes q) = ap seen (get_or-set_other row i t v past (λ s. absurd (omega arith))) ∙ below t q
     go (no q) =
         let s : t ≡ i = omega arith in
-        subst (λ (x : ℕ). get_or (set row i v) x 0 ≡ f x) (sym s) (get_or-set_same row i v 0 h ∙ e)
+        subst (λ (x : ℕ). seen (get_or (set row i v) x past) ≡ f x) (sym s) (ap seen (get_or-set_same row i v past h) ∙ e)
+
+-- the same of numbers, seen as they are
+pub place_turn : (f : ℕ → ℕ) (row : List ℕ) (i v : ℕ) → i < length row → ((t : ℕ) → t < i → get_or row t 0 ≡ f t) → v ≡ f i
+    → (t : ℕ) → t < i + 1 → get_or (set row i v) t 0 ≡ f t
+place_turn f row i v = seen_turn (λ x. x) 0 f row i v

@@ -1,12 +1,8 @@
 -- A loop that writes the elements of a list over what stands in an array, from a place on or from its start.
-use Prim.Native.Nat.{ℕ, ◌+◌, ◌≤◌, ◌<◌}
-use mathlib.Core.Path.{◌≡◌, sym, ap, ◌∙◌}
-use mathlib.Core.List.{List, ◌++◌, append-nil}
-use native.Mathlib.Nat.{zero-add}
-use native.Mathlib.Numerals.{add-one}
-use native.Mathlib.Omega.{arith}
-use lib.ListN.{length, get_or, take, drop, set, drop_of_length-le}
-use lib.Seq.{paste, paste-zero, paste-suc, length-paste, take_all}
+use Rattle.std.specs.Prelude.{ℕ, ◌+◌, ◌≤◌, ◌<◌, ◌≡◌, List, ◌++◌, length, get_or, take, drop, set}
+use Rattle.std.proofs.Common.{sym, ap, ◌∙◌, append-nil, zero-add, add-one, arith, drop_of_length-le, take_all}
+use Rattle.std.proofs.lemmas.List.Edits.{length-paste}
+use Rattle.std.proofs.Math.Seq.{paste, paste-zero, paste-suc}
 
 -- the first i elements of s stand in xs from `at` on; the rest are still as in d
 pub record Pasted {A : Type 0} (d : List A) (at : ℕ) (s : List A) (n : ℕ) (xs : List A) (i : ℕ) : Type 0 where

@@ -1,17 +1,14 @@
 -- The binary digits of a number: what masks, counts of ones and shifts are in terms of them.
-use mathlib.Core.Path.{◌≡◌, refl, sym, ap, ap₂, ◌∙◌, subst}
-use mathlib.Core.Bool.{Bool, true, false, cond, ◌&&◌}
-use Prim.Native.Nat.{ℕ, zero, suc, ◌+◌, ◌-◌, ◌*◌, ◌/◌, ◌%◌, ◌^◌, ◌≤◌, ◌<◌, min, max}
-use native.Mathlib.Nat.{div-one, mod-lt, lt_of_le_of_lt, zero-lt-suc, zero-mod, zero-div, not-suc-le-zero, le_of_suc-le-suc, one-mul, zero-mul, mod-eq_of_lt, zero-min, pow-suc, zero-add}
-use native.Mathlib.Numerals.{add-one, one-add}
-use native.Mathlib.Omega.{arith}
-use lib.Bits.{bit_and, bit_or, and_step, or_step, and_shr, or_shr, and_le_r}
-use lib.Count.{ones, ones_step, ones-le}
-use lib.Pow.{shr-shr, shr_lt, pow-lt, high, low, field, mod-mod-pow}
-use lib.Dec.{eqb, eqb-zero-suc, eqb-suc-zero, eqb-suc-suc}
-use native.Mathlib.Decide.{dec_lt}
-use lib.Arith.{lt-one, digits_mod}
-use borrow.Author.Tests.{ne_eqb, eq-eqb}
+use Rattle.std.specs.Prelude.{◌≡◌, refl, Bool, true, false, cond, ◌&&◌, ℕ, zero, suc, ◌+◌, ◌-◌, ◌*◌, ◌/◌, ◌%◌, ◌^◌, ◌≤◌, ◌<◌, min, max, bit_and, bit_or, eqb}
+use Rattle.std.proofs.Common.{sym, ap, ap₂, ◌∙◌, subst, div-one, mod-lt, lt_of_le_of_lt, zero-lt-suc, not-suc-le-zero, le_of_suc-le-suc, one-mul, zero-mul, pow-suc, zero-add, add-one, one-add, arith, shr-shr, shr_lt, ne_eqb, eq-eqb}
+use Rattle.std.proofs.lemmas.Nat.{and_shr, or_shr, and_le_r, ones-le, one_shl}
+use Rattle.std.proofs.Math.Arith.{lt-one, digits_mod}
+use Rattle.std.proofs.Math.Dec.{eqb-zero-suc, eqb-suc-zero, eqb-suc-suc}
+use Rattle.std.proofs.Math.Decide.{dec_lt}
+use Rattle.std.proofs.Math.Nat.{zero-mod, zero-div, zero-min}
+use Rattle.std.proofs.Math.Pow.{pow-lt, high, low, field, mod-mod-pow}
+use Rattle.std.specs.Int.Bits.{and_step, or_step}
+use Rattle.std.specs.Int.Count.{ones, ones_step}
 use Rattle.numbers.specs.Sum.{sum_to, count_to, one_if}
 use Rattle.numbers.specs.Digits.{bit, has, put, number_of}
 use Rattle.numbers.proofs.SumLaws.{sum_front, sum_ext, sum_zero, sum_change}
@@ -109,21 +106,17 @@ min_clear (suc zero) true h = refl
 min_clear (suc zero) false h = refl
 min_clear (suc (suc a)) t h = absurd (not-suc-le-zero (le_of_suc-le-suc (le_of_suc-le-suc h)))
 
--- `1 << i` as the machine has it
-one_shl : (k i : ℕ) → i < k → (1 * 2 ^ i) % 2 ^ k ≡ 2 ^ i
-one_shl k i l = ap (λ (y : ℕ). y % 2 ^ k) (one-mul (2 ^ i)) ∙ mod-eq_of_lt (pow-lt l)
-
 -- `x | (1 << i)`
 pub has_set : (k x i : ℕ) → i < k → (j : ℕ) → has (bit_or x ((1 * 2 ^ i) % 2 ^ k)) j ≡ put (has x) i true j
 has_set k x i l j =
-    ap (λ (y : ℕ). has (bit_or x y) j) (one_shl k i l)
+    ap (λ (y : ℕ). has (bit_or x y) j) (one_shl i k l)
     ∙ ap (λ (y : ℕ). eqb y 1) (bit_of_or x (2 ^ i) j ∙ ap (λ (y : ℕ). max (bit x j) y) (bit_pow i j))
     ∙ max_set (bit x j) (eqb j i) (bit_lt x j)
 
 -- `x & !(1 << i)`
 pub has_clear : (k x i : ℕ) → x < 2 ^ k → i < k → (j : ℕ) → has (bit_and x ((2 ^ k - 1) - (1 * 2 ^ i) % 2 ^ k)) j ≡ put (has x) i false j
 has_clear k x i h l j =
-    ap (λ (y : ℕ). has (bit_and x ((2 ^ k - 1) - y)) j) (one_shl k i l)
+    ap (λ (y : ℕ). has (bit_and x ((2 ^ k - 1) - y)) j) (one_shl i k l)
     ∙ ap (λ (y : ℕ). eqb y 1) (bit_of_and x ((2 ^ k - 1) - 2 ^ i) j)
     ∙ elim (dec_lt j k) [ yes q ↦ low q | no q ↦ high (le_of_not_lt q) ]
   where
@@ -159,7 +152,7 @@ masked_le k x g h = ones-le k (bit_and x g) (lt_of_le_of_lt (and_le_r x g) h)
 
 -- ---- the number of a set
 
-cond_lt : (b : Bool) (x m : ℕ) → x < m → x + cond b m 0 < m + m
+pub cond_lt : (b : Bool) (x m : ℕ) → x < m → x + cond b m 0 < m + m
 cond_lt true x m h = omega arith
 cond_lt false x m h = omega arith
 
@@ -170,7 +163,7 @@ number_lt t (suc d) =
     let twice : 2 ^ suc d ≡ 2 ^ d + 2 ^ d = rw (pow-suc 2 d) (omega arith) in
     rw twice (cond_lt (t d) (number_of t d) (2 ^ d) (number_lt t d))
 
-bit_place : (b : Bool) (q m : ℕ) → q + cond b m 0 ≡ one_if b * m + q
+pub bit_place : (b : Bool) (q m : ℕ) → q + cond b m 0 ≡ one_if b * m + q
 bit_place true q m = omega (arith, one-mul m)
 bit_place false q m = omega (arith, zero-mul m)
 

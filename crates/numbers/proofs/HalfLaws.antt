@@ -1,11 +1,6 @@
 -- The numbers below a power of two in two halves, as a walk over the digits from the highest takes them.
-use mathlib.Core.Path.{◌≡◌, refl, sym, ap, ◌∙◌}
-use mathlib.Core.Bool.{Bool}
-use mathlib.Core.List.{◌++◌}
-use Prim.Native.Nat.{ℕ, zero, suc, ◌+◌, ◌-◌, ◌*◌, ◌^◌}
-use native.Mathlib.Nat.{pow-suc, mul_comm, mul_assoc, add-mul, one-mul}
-use native.Mathlib.Numerals.{sub-one}
-use native.Mathlib.Omega.{arith}
+use Rattle.std.specs.Prelude.{◌≡◌, refl, Bool, ◌++◌, ℕ, zero, suc, ◌+◌, ◌-◌, ◌*◌, ◌^◌}
+use Rattle.std.proofs.Common.{sym, ap, ◌∙◌, pow-suc, mul_comm, mul_assoc, add-mul, one-mul, sub-one, arith}
 use Rattle.numbers.specs.Range.{up_from, filter}
 use Rattle.numbers.proofs.RangeLaws.{range_add, filter_append}
 

@@ -10,3 +10,4 @@ pub mod CopyLaws
 pub mod PatternLaws
 pub mod MemberLaws
 pub mod IterLaws
+pub mod MadeLaws

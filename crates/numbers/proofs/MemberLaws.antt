@@ -1,14 +1,9 @@
 -- Lists of numbers that are put together, taken each to another, or of which a test keeps some: what each has, what is in, the order, and whether one passes.
-use mathlib.Core.Path.{◌≡◌, refl, sym, ap, ap₂, ◌∙◌, subst}
-use mathlib.Core.Bool.{Bool, true, false, cond, ◌&&◌, ◌||◌, or_assoc}
-use mathlib.Core.List.{List, [], ◌∷◌, ◌++◌, map}
-use Prim.Native.Nat.{ℕ, zero, suc, ◌+◌, ◌-◌, ◌≤◌, ◌<◌, suc-le-suc}
-use native.Mathlib.Nat.{not-suc-le-zero, le_of_suc-le-suc}
-use native.Mathlib.Omega.{arith}
-use lib.Dec.{ltb}
-use lib.ListN.{length, get_or, length-append, length-map, get_or-append}
-use lib.Seq.{get_or-append-add}
-use borrow.Author.Tests.{lt-ltb}
+use Rattle.std.specs.Prelude.{◌≡◌, refl, Bool, true, false, cond, ◌&&◌, ◌||◌, List, [], ◌∷◌, ◌++◌, map, ℕ, zero, suc, ◌+◌, ◌-◌, ◌≤◌, ◌<◌, ltb, length, get_or}
+use Rattle.std.proofs.Common.{sym, ap, ap₂, ◌∙◌, subst, suc-le-suc, not-suc-le-zero, le_of_suc-le-suc, arith, length-append, get_or-append-add, lt-ltb}
+use Rattle.std.proofs.lemmas.List.{length-map}
+use Rattle.std.proofs.Math.Bool.{or_assoc}
+use Rattle.std.proofs.Math.ListN.{get_or-append}
 use Rattle.numbers.specs.Range.{up_from, filter, any_of, Ascending, At, Exactly}
 use Rattle.numbers.proofs.RangeLaws.{length_range, range_at, ascending_nil, ascending_cons, ascending_once, filtered_ascending, at_here, at_front, filter_all, filter_passes}
 
@@ -27,12 +22,6 @@ pub each_map : (P : ℕ → Type 0) (f : ℕ → ℕ) (xs : List ℕ) → Each (
 each_map P f [] g k h = absurd (not-suc-le-zero h)
 each_map P f (x ∷ xs) g zero h = g 0 (omega arith)
 each_map P f (x ∷ xs) g (suc k) h = each_map P f xs (λ j l. g (suc j) (suc-le-suc l)) k (le_of_suc-le-suc h)
-
--- the place of what each was taken to
-pub get_or_map : {A B : Type 0} (f : A → B) (d : A) (e : B) (xs : List A) (j : ℕ) → j < length xs → get_or (map f xs) j e ≡ f (get_or xs j d)
-get_or_map f d e [] j l = absurd (not-suc-le-zero l)
-get_or_map f d e (x ∷ xs) zero l = refl
-get_or_map f d e (x ∷ xs) (suc j) l = get_or_map f d e xs j (le_of_suc-le-suc l)
 
 -- ---- what is in
 

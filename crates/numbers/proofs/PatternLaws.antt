@@ -1,7 +1,6 @@
 -- A pattern's two parts, and its order: the days first, then the pair.
-use mathlib.Core.Path.{◌≡◌}
-use Prim.Native.Nat.{ℕ, ◌^◌, ◌<◌}
-use native.Mathlib.Omega.{arith}
+use Rattle.std.specs.Prelude.{◌≡◌, ℕ, ◌^◌, ◌<◌}
+use Rattle.std.proofs.Common.{arith}
 use Rattle.numbers.specs.Patterns.{pattern, days_of, pair_of}
 
 pub days_of_pattern : (p k : ℕ) → k < 2 ^ 32 → days_of (pattern p k) ≡ p

@@ -1,13 +1,9 @@
 -- Laws of ascending ranges and of what a test keeps of them: what is in, in which order, and that it is there once.
-use mathlib.Core.Path.{◌≡◌, refl, sym, ap, ◌∙◌, subst}
-use mathlib.Core.Bool.{Bool, true, false, cond, ◌&&◌}
-use mathlib.Core.List.{List, [], ◌∷◌, ◌++◌}
-use Prim.Native.Nat.{ℕ, zero, suc, ◌+◌, ◌-◌, ◌≤◌, ◌<◌, suc-le-suc}
-use native.Mathlib.Nat.{not-suc-le-zero, le_of_suc-le-suc, eq-or-lt_of_le, suc-add, zero-add, add-zero, sub-zero}
-use native.Mathlib.Omega.{arith}
-use native.Mathlib.Decide.{dec_lt}
-use mathlib.Core.Logic.{◌⊎◌, inl, inr}
-use lib.ListN.{length, get_or}
+use Rattle.std.specs.Prelude.{◌≡◌, refl, Bool, true, false, cond, ◌&&◌, List, [], ◌∷◌, ◌++◌, ℕ, zero, suc, ◌+◌, ◌-◌, ◌≤◌, ◌<◌, ◌⊎◌, length, get_or}
+use Rattle.std.proofs.Common.{sym, ap, ◌∙◌, subst, suc-le-suc, not-suc-le-zero, le_of_suc-le-suc, eq-or-lt_of_le, suc-add, zero-add, add-zero, arith, inl, inr}
+use Rattle.std.proofs.lemmas.Bool.{and_parts}
+use Rattle.std.proofs.Math.Decide.{dec_lt}
+use Rattle.std.proofs.Math.Nat.{sub-zero}
 use Rattle.numbers.specs.Range.{up_from, filter, all, Ascending, At, Exactly}
 use Rattle.numbers.specs.Sum.{one_if}
 
@@ -175,13 +171,6 @@ filtered_exactly rule t n f g = record {
 }
 
 -- ---- all
-
-pub and_parts : (a b : Bool) → (a && b) ≡ true → (a ≡ true) × (b ≡ true)
-and_parts true b e = (refl, e)
-and_parts false b e = (e, let z : ◌≡◌ {A = ℕ} 0 1 = cc in absurd (omega arith))
-
-pub both_true : (a b : Bool) → a ≡ true → b ≡ true → (a && b) ≡ true
-both_true a b e f = rw (e, f)
 
 -- two tests that pass alike
 pub tests_alike : (a b : Bool) → (a ≡ true → b ≡ true) → (b ≡ true → a ≡ true) → a ≡ b

@@ -1,20 +1,16 @@
 -- Sets as numbers: the members of an intersection, a union, a complement, a set moved one on; and the empty set.
-use mathlib.Core.Path.{◌≡◌, refl, sym, ap, ◌∙◌}
-use mathlib.Core.Bool.{Bool, true, false, not, ◌&&◌, ◌||◌}
-use Prim.Native.Nat.{ℕ, zero, suc, ◌+◌, ◌-◌, ◌*◌, ◌/◌, ◌%◌, ◌^◌, ◌≤◌, ◌<◌, min, max, suc-le-suc}
-use native.Mathlib.Nat.{lt_of_le_of_lt}
-use native.Mathlib.Numerals.{add-one}
-use native.Mathlib.Omega.{arith}
-use lib.Arith.{lt-one}
-use lib.Bits.{bit_and, bit_or, and_le_r}
-use lib.Count.{ones}
-use lib.Dec.{eqb}
-use lib.Pow.{shr_lt}
-use borrow.Author.Tests.{eqb-true, eqb-false}
+use Rattle.std.specs.Prelude.{◌≡◌, refl, Bool, true, false, cond, not, ◌&&◌, ◌||◌, ℕ, zero, suc, ◌+◌, ◌-◌, ◌*◌, ◌/◌, ◌%◌, ◌^◌, ◌≤◌, ◌<◌, min, max, bit_and, bit_or, eqb}
+use Rattle.std.proofs.Common.{sym, ap, ◌∙◌, suc-le-suc, lt_of_le_of_lt, one-mul, zero-mul, mod-eq_of_lt, pow-suc, add-one, arith, shr_lt, eqb-true}
+use Rattle.std.proofs.lemmas.Bool.{eqb-false}
+use Rattle.std.proofs.lemmas.Nat.{and_le_r}
+use Rattle.std.proofs.Math.Arith.{lt-one}
+use Rattle.std.proofs.Math.Pow.{pow-lt}
+use Rattle.std.specs.Int.Bits.{or_shifted_r}
+use Rattle.std.specs.Int.Count.{ones}
 use Rattle.numbers.specs.Sum.{count_to, one_if}
 use Rattle.numbers.specs.Digits.{bit, has, number_of}
 use Rattle.numbers.proofs.SumLaws.{sum_ext}
-use Rattle.numbers.proofs.DigitLaws.{bit_lt, bit_zero, bit_suc, bit_of_and, bit_of_or, bit_not, bit_above, ones_count, number_lt, number_has}
+use Rattle.numbers.proofs.DigitLaws.{bit_lt, bit_zero, bit_suc, bit_of_and, bit_of_or, bit_not, bit_above, ones_count, bit_place, cond_lt, number_lt, number_has}
 
 min_one : (a b : ℕ) → a < 2 → b < 2 → eqb (min a b) 1 ≡ (eqb a 1 && eqb b 1)
 min_one zero zero h k = refl
@@ -113,3 +109,16 @@ members_same (suc k) x y h l e =
 -- the number of the set of those that pass a test
 pub number_is : (t : ℕ → Bool) (n x : ℕ) → x < 2 ^ n → ((j : ℕ) → j < n → has x j ≡ t j) → x ≡ number_of t n
 number_is t n x h e = members_same n x (number_of t n) h (number_lt t n) (λ j l. e j l ∙ sym (number_has t n j l))
+
+-- a set whose members are all below d, with d put in or not, and how large it is then
+digit_lt : (k : ℕ) (b : Bool) (d : ℕ) → d < k → one_if b * 2 ^ d < 2 ^ k
+digit_lt k true d l = omega (arith, one-mul (2 ^ d), pow-lt l)
+digit_lt k false d l = omega (arith, zero-mul (2 ^ d), pow-lt l)
+
+pub or_next : (k : ℕ) (b : Bool) (v x d : ℕ) → v ≡ one_if b → d < k → x < 2 ^ d → bit_or x ((v * 2 ^ d) % 2 ^ k) ≡ x + cond b (2 ^ d) 0
+or_next k b v x d e l h = rw e (ap (bit_or x) (mod-eq_of_lt (digit_lt k b d l)) ∙ or_shifted_r (one_if b) d x h ∙ sym (bit_place b x (2 ^ d)))
+
+pub next_below : (b : Bool) (x d : ℕ) → x < 2 ^ d → x + cond b (2 ^ d) 0 < 2 ^ (d + 1)
+next_below b x d h =
+    let twice : 2 ^ (d + 1) ≡ 2 ^ d + 2 ^ d = rw (add-one d, pow-suc 2 d) (omega arith) in
+    rw twice (cond_lt b x (2 ^ d) h)

@@ -1,11 +1,7 @@
 -- Laws of sums and counts over the numbers below n, and the three turns of a loop that adds them up.
-use mathlib.Core.Path.{◌≡◌, refl, sym, ap, ap₂, ◌∙◌, subst}
-use mathlib.Core.Logic.{⊎_elim}
-use mathlib.Core.Bool.{Bool, true, false}
-use Prim.Native.Nat.{ℕ, zero, suc, ◌+◌, ◌*◌, ◌≤◌, ◌<◌, zero-le}
-use native.Mathlib.Nat.{add-zero, add-suc, zero-add, add_assoc, le-suc, le_trans, lt-suc_self, le_of_eq, add-le-add, suc-mul, le_refl, eq-or-lt_of_le, le_of_suc-le-suc, not-suc-le-zero}
-use native.Mathlib.Omega.{arith}
-use native.Mathlib.Numerals.{add-one}
+use Rattle.std.specs.Prelude.{◌≡◌, refl, Bool, true, false, ℕ, zero, suc, ◌+◌, ◌*◌, ◌≤◌, ◌<◌}
+use Rattle.std.proofs.Common.{sym, ap, ap₂, ◌∙◌, subst, ⊎_elim, zero-le, add-zero, add-suc, zero-add, add_assoc, le_trans, lt-suc_self, le_of_eq, add-le-add, suc-mul, le_refl, eq-or-lt_of_le, le_of_suc-le-suc, not-suc-le-zero, arith, add-one}
+use Rattle.std.proofs.Math.Nat.{le-suc}
 use Rattle.numbers.specs.Sum.{sum_to, count_to, one_if, Is}
 
 pub sum_zero : (f : ℕ → ℕ) → sum_to 0 f ≡ 0

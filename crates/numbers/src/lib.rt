@@ -69,15 +69,6 @@ pub fn bit(i: u64) -> u32
     1u32 << i
 }
 
-// The set with i put in or not, where all others are below i.
-fn with_next(set: u64, i: usize, on: bool) -> u64
-    requires { (i < 63) × (set < 2 ^ i) }
-    ensures is { result ≡ set + cond on (2 ^ i) 0 }
-    ensures below { result < 2 ^ (i + 1) }
-{
-    if on { set + (1u64 << i) } else { set }
-}
-
 // The set of the numbers below n that pass the test.
 pub fn set_of<F: Fn(usize) -> bool>(n: usize, test: F) -> u64
     requires few { n ≤ 63 }
@@ -87,7 +78,7 @@ pub fn set_of<F: Fn(usize) -> bool>(n: usize, test: F) -> u64
 {
     let mut set: u64 = 0;
     for i in 0..n {
-        set = with_next(set, i, test(i));
+        set |= u64::from(test(i)) << i;
     }
     set
 }

@@ -1,4 +1,5 @@
-// A pattern as one number: a set of days, and the number of a pair of days off, 0 where there is none.
+// A pattern as one number: a set of days, and the number of a pair of days off, 0 where there is none. Not a struct of both: patterns are compared and
+// kept as numbers (document 01).
 ghost use Rattle.std.specs.Prelude.{◌≡◌};
 ghost use Rattle.numbers.specs.Patterns.{pattern, days_of, pair_of};
 

@@ -1,17 +1,10 @@
 -- The masks' meaning: which days bar a row, which are available under it, and when last month's run does not matter.
-use mathlib.Core.Path.{◌≡◌, refl, sym, ap, ap₂, ◌∙◌, subst}
-use mathlib.Core.Bool.{Bool, true, false, cond, not, ◌&&◌, ◌||◌, and-false, or-false, and_comm}
-use mathlib.Core.List.{List}
-use Prim.Native.Nat.{ℕ, zero, suc, ◌+◌, ◌-◌, ◌*◌, ◌/◌, ◌^◌, ◌≤◌, ◌<◌, suc-le-suc}
-use native.Mathlib.Nat.{add-zero, lt_of_le_of_lt}
-use native.Mathlib.Numerals.{add-one, one-add}
-use native.Mathlib.Omega.{arith}
-use native.Mathlib.Decide.{dec_lt}
-use lib.Bits.{bit_and, bit_or, and_le_l, and_le_r, or_lt}
-use lib.Dec.{eqb}
-use lib.ListN.{get_or}
-use lib.Pow.{pow_mono, shr_lt}
-use borrow.Author.Tests.{eqb-true, eqb-false, not-false}
+use Rattle.std.specs.Prelude.{◌≡◌, refl, Bool, true, false, cond, not, ◌&&◌, ◌||◌, List, ℕ, zero, suc, ◌+◌, ◌-◌, ◌*◌, ◌/◌, ◌^◌, ◌≤◌, ◌<◌, bit_and, bit_or, eqb, get_or}
+use Rattle.std.proofs.Common.{sym, ap, ap₂, ◌∙◌, subst, suc-le-suc, add-zero, lt_of_le_of_lt, add-one, one-add, arith, pow_mono, shr_lt, eqb-true}
+use Rattle.std.proofs.lemmas.Bool.{eqb-false, not-false}
+use Rattle.std.proofs.lemmas.Nat.{and_le_l, and_le_r, or_lt}
+use Rattle.std.proofs.Math.Bool.{and-false, or-false, and_comm}
+use Rattle.std.proofs.Math.Decide.{dec_lt}
 use Rattle.fields.specs.Sizes.{day_places}
 use Rattle.numbers.specs.Range.{up_from}
 use Rattle.numbers.specs.Sum.{one_if}
@@ -403,6 +396,10 @@ module _ (r : Rules) (n p : ℕ) (b : List ℕ) (m : Masks) (is : m ≡ masks_of
   masks_available small x ok = rw (ap (λ (k : Masks). k.workable) is) (available_by_sets b n p x ok small)
 
 -- ---- a nurse's masks, made of their parts
+
+-- whether a duty is k, by what the code reads of it
+pub one_where : (k : ℕ) {x y n : ℕ} → n ≡ one_if (eqb x k) → x ≡ y → n ≡ one_if (eqb y k)
+one_where k e f = e ∙ ap (λ (v : ℕ). one_if (eqb v k)) f
 
 module _ (table : List (List ℕ)) (r : Rules) (n : ℕ) (b : List ℕ) (bs : Bars) (wk ni se ne lo hi : ℕ) (la : Run)
     (e1 : bs ≡ bars_of table n b) (e2 : wk ≡ number_of (workable b) (suc n)) (e3 : ni ≡ one_if (eqb (duty b 6) 2)) (e4 : se ≡ one_if (eqb (duty b 6) 3)) (e8 : lo ≡ least_nights_of b) (e9 : hi ≡ most_nights_of b) where

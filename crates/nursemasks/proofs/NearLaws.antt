@@ -1,20 +1,14 @@
 -- Where last month's run does not matter: a pattern with no start on the days near to it keeps the rule after it does alone.
-use mathlib.Core.Path.{◌≡◌, refl, sym, ap, ap₂, ◌∙◌}
-use mathlib.Core.Bool.{Bool, true, false, cond, not, ◌&&◌, and-true, and-false}
-use mathlib.Core.List.{List, [], ◌∷◌}
-use Prim.Native.Nat.{ℕ, zero, suc, ◌+◌, ◌-◌, ◌^◌, ◌≤◌, ◌<◌}
-use native.Mathlib.Omega.{arith}
-use native.Mathlib.Decide.{dec_lt}
-use lib.Bits.{bit_and}
-use lib.Dec.{leb, eqb}
-use lib.ListN.{length, get_or}
-use lib.Pow.{pow_pos}
-use borrow.Author.Tests.{eqb-true, eqb-false, eq-eqb, ne_eqb, le-leb, lt-leb, lt-ltb}
+use Rattle.std.specs.Prelude.{◌≡◌, refl, Bool, true, false, cond, not, ◌&&◌, List, [], ◌∷◌, ℕ, zero, suc, ◌+◌, ◌-◌, ◌^◌, ◌≤◌, ◌<◌, bit_and, leb, eqb, length, get_or}
+use Rattle.std.proofs.Common.{sym, ap, ap₂, ◌∙◌, arith, pow_pos, eqb-true, eq-eqb, ne_eqb, le-leb, lt-ltb}
+use Rattle.std.proofs.lemmas.Bool.{eqb-false, lt-leb, and_parts}
+use Rattle.std.proofs.Math.Bool.{and-true, and-false}
+use Rattle.std.proofs.Math.Decide.{dec_lt}
 use Rattle.fields.specs.Sizes.{day_places}
 use Rattle.numbers.specs.Range.{up_from, filter}
 use Rattle.numbers.specs.Sum.{count_to}
 use Rattle.numbers.specs.Digits.{has}
-use Rattle.numbers.proofs.RangeLaws.{filter_passes, and_parts, tests_alike}
+use Rattle.numbers.proofs.RangeLaws.{filter_passes, tests_alike}
 use Rattle.numbers.proofs.SetLaws.{has_and, has_not, has_above}
 use Rattle.rows.specs.Rows.{started, allow_table, marks_allow}
 use Rattle.fields.specs.Fields.{least_nights_of, most_nights_of}
@@ -173,8 +167,3 @@ module _ (r : Rules) (n p : ℕ) (b : List ℕ) (m : Masks) (is : m ≡ masks_of
       let apart : bit_and p (2 ^ near r (last_run b).0 (last_run b).1 - 1) ≡ 0 = ap (λ (x : Masks). bit_and p x.near) (sym is) ∙ e in
       sym (ap₂ (λ (u v : ℕ). follow r u v (shifted 7 (starts n p))) (ap (λ (x : Masks). x.last.prev) is) (ap (λ (x : Masks). x.last.run) is)
       ∙ far_alone r (last_run b).0 (last_run b).1 n p apart ∙ common_follows r n p known)
-
-  -- the code's test of the run, by the rules and the days that it has read
-  pub by_test : {v : Bool} {r' : Rules} {n' : ℕ} → v ≡ follow r' m.last.prev m.last.run (shifted 7 (starts n' p)) → r' ≡ r → n' ≡ n
-      → v ≡ follow r m.last.prev m.last.run (shifted 7 (starts n p))
-  by_test e q d = e ∙ ap₂ (λ (u : Rules) (k : ℕ). follow u m.last.prev m.last.run (shifted 7 (starts k p))) q d

@@ -1,5 +1,6 @@
 -- The ward's pairs for one nurse as sets of days, day d of the month being member d - 1.
 use Rattle.std.specs.Prelude.{◌≡◌, Bool, ◌&&◌, ◌||◌, List, ℕ, suc, ◌≤◌, ◌<◌, eqb, get_or}
+use Rattle.std.proofs.Props.{props}
 use Rattle.numbers.specs.Digits.{has}
 use Rattle.fields.specs.Sizes.{pair_most}
 use Rattle.fields.specs.Fields.{block, mark_on, pair_count, pair_day}
@@ -24,3 +25,8 @@ pub record PairsOf (w : List ℕ) (i : ℕ) (x : Pairs) : Type 0 where
 -- the N and n days of the row of p, as far as a month goes
 unfoldable pub BusyDays : List ℕ → ℕ → ℕ → Type 0
 BusyDays b p busy = (d : ℕ) → d < 31 → has busy d ≡ (eqb (row_state b p (suc d)) 1 || eqb (row_state b p (suc d)) 2)
+
+-- a fact with one proof at most, so that a struct may carry it
+pub pairs_of_prop : (w : List ℕ) (i : ℕ) (x : Pairs) → IsProp (PairsOf w i x)
+unfolding PairDays
+pairs_of_prop w i x = Prim.hlevel props

@@ -1,23 +1,24 @@
 // A fast test of a pattern of the common list for one nurse: her marks, bounds and last days as sets of days.
 // In these sets day d of the month is bit d, and day 0 is bit 0.
-ghost use Rattle.std.specs.Prelude.{◌≡◌, true, cond, List, ℕ, suc, ◌+◌, ◌^◌, ◌≤◌, ◌<◌, eqb};
-ghost use Rattle.fields.specs.Sizes.{day_places};
-ghost use Rattle.numbers.specs.Digits.{number_of};
+ghost use Rattle.std.specs.Prelude.{◌≡◌, true, List, ℕ, suc, ◌^◌, ◌≤◌, ◌<◌, eqb};
 ghost use Rattle.numbers.specs.Sum.{one_if};
-ghost use Rattle.fields.specs.Fields.{Accepted, Block, nurses, days, block, duty};
-ghost use Rattle.rows.specs.Rows.{allow_table, marks_allow};
+ghost use Rattle.fields.specs.Sizes.{day_places};
+ghost use Rattle.fields.specs.declared.rules.Rules.{Rules};
+ghost use Rattle.numbers.specs.Digits.{number_of};
+ghost use Rattle.fields.specs.Fields.{nurses, days, block, duty};
 ghost use Rattle.fields.specs.Rules.{rules_of};
-ghost use Rattle.fields.specs.CodeRules.{SmallRules};
+ghost use Rattle.rows.specs.States.{code};
+ghost use Rattle.rows.specs.Rows.{allow_table, marks_allow};
 ghost use Rattle.nights.specs.Nights.{in_common};
 ghost use Rattle.nights.specs.Hers.{hers_of};
-ghost use Rattle.fields.specs.declared.rules.Rules.{Rules};
 ghost use Rattle.nursemasks.specs.CodePairs.{BusyDays};
 ghost use Rattle.nursemasks.specs.CodeMasks.{barred, workable, near, bars_of, masks_by, masks_of, Masked, RowOf, AvailableDays};
 
-use fields::nurse;
-use fields::rules::Rules;
+use fields::Body;
+use fields::nurse::Nurse;
 use nights::Run;
 use numbers::Set;
+use rows::State;
 
 // The days whose marks bar O, N, n and R.
 #[derive(Clone, Copy)]
@@ -46,91 +47,93 @@ pub struct Masks {
     pub most: u64,
 }
 
+// Nurse i's masks in her ward.
+#[derive(Clone, Copy)]
+pub struct NurseMasks<'a> {
+    pub ward: &'a Body<'a>,
+    pub nurse: usize,
+    pub masks: Masks,
+    pub ghost in_ward: { nurse < nurses ward.now.numbers.now },
+    pub ghost hers: { masks ≡ masks_of (rules_of ward.now.numbers.now) (days ward.now.numbers.now) (block ward.now.numbers.now nurse) },
+    pub ghost small: { Masked masks },
+}
+
 // The days of the month whose marks bar a state.
-fn barred_days(table: &[[u8; 4]; 7], b: &[u64], n: usize, state: usize) -> u64
-    requires n_le_day_places { n ≤ day_places }
-    requires block { Block b.now n }
-    requires state_bound { state < 4 }
-    ensures { result ≡ number_of (barred table.now b.now state) (suc n) }
+fn barred_days(table: &[[u8; 4]; 7], b: &Nurse, state: State) -> u64
+    ensures { result ≡ number_of (barred table.now b.now.numbers.now (code state)) (suc b.now.days) }
 {
-    numbers::set_of(n + 1, |day| {
-        day > 0 && !rows::mark_allows(table, nurse::mark(b, day - 1) as usize, state)
+    numbers::set_of(b.days + 1, |day| {
+        day > 0 && !rows::mark_allows(table, b.mark(day - 1) as usize, state)
     })
 }
 
 // The days of the month whose marks let her work them where they are open.
-fn workable_days(b: &[u64], n: usize) -> u64
-    requires n_le_day_places { n ≤ day_places }
-    requires block { Block b.now n }
-    ensures { result ≡ number_of (workable b.now) (suc n) }
+fn workable_days(b: &Nurse) -> u64
+    ensures { result ≡ number_of (workable b.now.numbers.now) (suc b.now.days) }
 {
     numbers::set_of(
-        n + 1,
-        |day| day > 0 && rows::is_available(nurse::mark(b, day - 1), 0),
+        b.days + 1,
+        |day| day > 0 && rows::is_available(b.mark(day - 1), State::Open),
     )
 }
 
-fn bars_of(table: &[[u8; 4]; 7], b: &[u64], n: usize) -> Bars
-    requires n_le_day_places { n ≤ day_places }
-    requires block { Block b.now n }
-    ensures { result ≡ bars_of table.now n b.now }
+fn bars_of(table: &[[u8; 4]; 7], b: &Nurse) -> Bars
+    ensures { result ≡ bars_of table.now b.now.days b.now.numbers.now }
 {
     Bars {
-        opened: barred_days(table, b, n, 0),
-        night: barred_days(table, b, n, 1),
-        second: barred_days(table, b, n, 2),
-        rest: barred_days(table, b, n, 3),
+        opened: barred_days(table, b, State::Open),
+        night: barred_days(table, b, State::Night),
+        second: barred_days(table, b, State::Second),
+        rest: barred_days(table, b, State::Rest),
     }
 }
 
 // How many of the month's first days are near to last month's run.
-fn near_days(r: Rules, prev: u64, run: u64) -> u64
-    requires small_rules { SmallRules r }
-    requires prev_bound { prev ≤ 7 }
-    ensures is { result ≡ near r prev run }
+#[tactic(auto, using(fields::proofs::RuleLaws::small_rules))]
+fn near_days(w: &Body, last: Run) -> u64
+    requires { last.prev ≤ 7 }
+    ensures is { result ≡ near (rules_of w.now.numbers.now) last.prev last.run }
     ensures few { result ≤ 7 }
 {
-    if run == 0 {
+    if last.run == 0 {
         return 0;
     }
-    (prev + fields::rules::gap_after(r, run)).saturating_sub(5)
+    (last.prev + w.rules().gap_after(last.run)).saturating_sub(5)
 }
 
-// The masks of the nurse with block b.
-fn masks_by(table: &[[u8; 4]; 7], r: Rules, n: usize, b: &[u64]) -> Masks
-    requires small_rules { SmallRules r }
-    requires n_le_day_places { n ≤ day_places }
-    requires block { Block b.now n }
-    ensures is { result ≡ masks_by table.now r n b.now }
+// The masks of the nurse with these numbers, by such a table.
+fn masks_by(table: &[[u8; 4]; 7], w: &Body, b: &Nurse) -> Masks
+    ensures is { result ≡ masks_by table.now (rules_of w.now.numbers.now) b.now.days b.now.numbers.now }
     ensures small { Masked result }
 {
-    let bars = bars_of(table, b, n);
-    let last = nights::last_run(b);
-    let near = numbers::bit(near_days(r, last.prev, last.run)) - 1;
+    let bars = bars_of(table, b);
+    let last = nights::last_run(b.numbers);
+    let near = numbers::bit(near_days(w, last)) - 1;
     let never = ((bars.night / 2) | (bars.second / 4)) as u32;
     Masks {
         bars,
         never,
-        workable: workable_days(b, n),
-        night: numbers::one_if(nurse::last_duty(b) == 2),
-        second: numbers::one_if(nurse::last_duty(b) == 3),
+        workable: workable_days(b),
+        night: numbers::one_if(b.last_duty() == 2),
+        second: numbers::one_if(b.last_duty() == 3),
         near,
         last,
-        least: nurse::least_nights(b),
-        most: nurse::most_nights(b),
+        least: b.least_nights(),
+        most: b.most_nights(),
     }
 }
 
-// Nurse i's masks.
-pub fn masks_of(w: &[u64], i: usize) -> Masks
-    requires accepted { Accepted w.now }
-    requires i_bound { i < nurses w.now }
-    ensures is { result ≡ masks_of (rules_of w.now) (days w.now) (block w.now i) }
-    ensures small { Masked result }
+pub fn masks_of<'a>(w: &'a Body<'a>, i: usize) -> NurseMasks<'a>
+    requires { i < nurses w.now.numbers.now }
+    ensures { (result.ward.now ≡ w.now) × (result.nurse ≡ i) }
 {
     let table = rows::allow_table();
-    let rules = fields::rules::rules_of(w);
-    masks_by(&table, rules, fields::days(w), fields::block(w, i))
+    let masks = masks_by(&table, w, &w.nurse(i));
+    NurseMasks {
+        ward: w,
+        nurse: i,
+        masks,
+    }
 }
 
 // The days of a row, day 0 with them: N, n and R.
@@ -141,83 +144,106 @@ pub struct Row {
     pub rest: u64,
 }
 
-// The row of p.
-fn row_of(m: Masks, p: u32) -> Row
-    requires { Masked m }
-    ensures { (b : List ℕ) → m.night ≡ one_if (eqb (duty b 6) 2) → m.second ≡ one_if (eqb (duty b 6) 3) → RowOf b p result }
-{
-    let night = u64::from(p) * 2 + m.night;
-    let second = (night * 2 + m.second) & !night;
-    let rest = (second * 2) & !night;
-    Row {
-        night,
-        second,
-        rest,
+// By masks alone, which may be those of any numbers; `NurseMasks` has whose they are.
+impl Masks {
+    // The row of p.
+    fn row_of(&self, p: u32) -> Row
+        requires { Masked self.now }
+        ensures { (b : List ℕ) → self.now.night ≡ one_if (eqb (duty b 6) 2) → self.now.second ≡ one_if (eqb (duty b 6) 3) → RowOf b p result }
+    {
+        let night = u64::from(p) * 2 + self.night;
+        let second = (night * 2 + self.second) & !night;
+        let rest = (second * 2) & !night;
+        Row {
+            night,
+            second,
+            rest,
+        }
+    }
+
+    // Whether her marks allow the row of p.
+    fn marks_pass(&self, p: u32) -> bool
+        requires { Masked self.now }
+        ensures { (r : Rules) (n : ℕ) (b : List ℕ) → n ≤ day_places → self.now ≡ masks_of r n b → result ≡ marks_allow allow_table b n p }
+    {
+        let row = self.row_of(p);
+        let bars = self.bars;
+        let open = !(row.night | row.second | row.rest);
+        (open & bars.opened)
+            | (row.night & bars.night)
+            | (row.second & bars.second)
+            | (row.rest & bars.rest)
+            == 0
+    }
+
+    // The days on which she is available under p, as a pattern.
+    pub fn available_days(&self, p: u32) -> u32
+        requires { Masked self.now }
+        ensures { (r : Rules) (n : ℕ) (b : List ℕ) → n ≤ day_places → self.now ≡ masks_of r n b → AvailableDays b n p result }
+    {
+        let row = self.row_of(p);
+        let available = self.workable & !(row.night | row.second | row.rest);
+        (available / 2) as u32
+    }
+
+    // The N and n days under p, as a pattern.
+    pub fn busy_days(&self, p: u32) -> u32
+        requires { Masked self.now }
+        ensures { (r : Rules) (n : ℕ) (b : List ℕ) → n ≤ day_places → self.now ≡ masks_of r n b → BusyDays b p result }
+    {
+        let row = self.row_of(p);
+        // The second day of a night on the 32nd, which no month has, would not fit.
+        ((row.night | row.second) / 2 % 4294967296) as u32
+    }
+
+    // Whether p of the common list is in the list of the nurse with these masks.
+    pub fn passes(&self, w: &Body, p: u32) -> bool
+        requires { Masked self.now }
+        ensures { (i : ℕ) → self.now ≡ masks_of (rules_of w.now.numbers.now) (days w.now.numbers.now) (block w.now.numbers.now i) → p < 2 ^ days w.now.numbers.now → in_common (rules_of w.now.numbers.now) (days w.now.numbers.now) p ≡ true → result ≡ hers_of w.now.numbers.now i p }
+    {
+        // Nearly all patterns that are not hers fail here.
+        if p & self.never != 0 {
+            return false;
+        }
+        if !self.marks_pass(p) {
+            return false;
+        }
+        let k = p.ones();
+        if k < self.least {
+            return false;
+        }
+        if self.most < k {
+            return false;
+        }
+        if p & self.near == 0 {
+            return true;
+        }
+        nights::keeps(w.rules(), self.last, 7, w.days(), p)
     }
 }
 
-// Whether her marks allow the row of p.
-fn marks_pass(m: Masks, p: u32) -> bool
-    requires { Masked m }
-    ensures { (r : Rules) (n : ℕ) (b : List ℕ) → n ≤ day_places → m ≡ masks_of r n b → result ≡ marks_allow allow_table b n p }
-{
-    let row = row_of(m, p);
-    let open = !(row.night | row.second | row.rest);
-    (open & m.bars.opened)
-        | (row.night & m.bars.night)
-        | (row.second & m.bars.second)
-        | (row.rest & m.bars.rest)
-        == 0
-}
+impl NurseMasks<'_> {
+    // The days on which she is available under p, as a pattern.
+    #[inline(always)]
+    pub fn available_days(&self, p: u32) -> u32
+        ensures { AvailableDays (block self.now.ward.now.numbers.now self.now.nurse) (days self.now.ward.now.numbers.now) p result }
+    {
+        self.masks.available_days(p)
+    }
 
-// The days on which she is available under p, as a pattern.
-pub fn available_days(m: Masks, p: u32) -> u32
-    requires { Masked m }
-    ensures { (r : Rules) (n : ℕ) (b : List ℕ) → n ≤ day_places → m ≡ masks_of r n b → AvailableDays b n p result }
-{
-    let row = row_of(m, p);
-    let available = m.workable & !(row.night | row.second | row.rest);
-    (available / 2) as u32
-}
+    // The N and n days under p, as a pattern.
+    #[inline(always)]
+    pub fn busy_days(&self, p: u32) -> u32
+        ensures { BusyDays (block self.now.ward.now.numbers.now self.now.nurse) p result }
+    {
+        self.masks.busy_days(p)
+    }
 
-// The N and n days under p, as a pattern.
-pub fn busy_days(m: Masks, p: u32) -> u32
-    requires { Masked m }
-    ensures { (r : Rules) (n : ℕ) (b : List ℕ) → n ≤ day_places → m ≡ masks_of r n b → BusyDays b p result }
-{
-    let row = row_of(m, p);
-    // The second day of a night on the 32nd, which no month has, would not fit.
-    ((row.night | row.second) / 2 % 4294967296) as u32
-}
-
-// Whether p of the common list is in the list of the nurse with these masks.
-pub fn passes(w: &[u64], m: Masks, p: u32) -> bool
-    requires accepted { Accepted w.now }
-    requires masked { Masked m }
-    ensures { (i : ℕ) → m ≡ masks_of (rules_of w.now) (days w.now) (block w.now i) → p < 2 ^ days w.now → in_common (rules_of w.now) (days w.now) p ≡ true → result ≡ hers_of w.now i p }
-{
-    // Nearly all patterns that are not hers fail here.
-    if p & m.never != 0 {
-        return false;
+    // Whether p of the common list is in her list.
+    #[inline(always)]
+    pub fn passes(&self, p: u32) -> bool
+        ensures { p < 2 ^ days self.now.ward.now.numbers.now → in_common (rules_of self.now.ward.now.numbers.now) (days self.now.ward.now.numbers.now) p ≡ true → result ≡ hers_of self.now.ward.now.numbers.now self.now.nurse p }
+    {
+        self.masks.passes(self.ward, p)
     }
-    if !marks_pass(m, p) {
-        return false;
-    }
-    let k = p.ones();
-    if k < m.least {
-        return false;
-    }
-    if m.most < k {
-        return false;
-    }
-    if p & m.near == 0 {
-        return true;
-    }
-    nights::keeps(
-        fields::rules::rules_of(w),
-        m.last,
-        7,
-        fields::days(w) as u64,
-        p,
-    )
 }

@@ -6,7 +6,7 @@ ghost use Rattle.fields.specs.Fields.{Accepted, nurses, pair_count, block};
 ghost use Rattle.rows.specs.Pairs.{pair_numbers, pair_fits};
 ghost use Rattle.nursemasks.specs.CodePairs.{PairDays, PairsOf, BusyDays};
 
-use fields::nurse;
+use fields::Body;
 use fields::sizes::PAIRS;
 
 // How many there are, and the days of each, from 1: none where her marks rule the pair out. An array, since there is no heap.
@@ -17,14 +17,14 @@ pub struct Pairs {
 }
 
 // The days of pair k, or none where nurse i's marks rule it out.
-fn days_of(w: &[u64], i: usize, k: usize) -> u32
-    requires { Accepted w.now × (i < nurses w.now) × (1 ≤ k) × (k ≤ pair_count w.now) }
-    ensures { PairDays w.now i k result }
+fn days_of(w: &Body, i: usize, k: usize) -> u32
+    requires { (i < nurses w.now.numbers.now) × (1 ≤ k) × (k ≤ pair_count w.now.numbers.now) }
+    ensures { PairDays w.now.numbers.now i k result }
 {
-    let b = fields::block(w, i);
-    let second = fields::pair_day(w, k) as usize;
-    if rows::pairs::is_rest_mark(nurse::mark(b, second - 1)) {
-        if rows::pairs::is_rest_mark(nurse::mark(b, second)) {
+    let b = w.nurse(i);
+    let second = w.pair_day(k) as usize;
+    if rows::pairs::is_rest_mark(b.mark(second - 1)) {
+        if rows::pairs::is_rest_mark(b.mark(second)) {
             return rows::pairs::pair_days(w, k);
         }
     }
@@ -32,11 +32,11 @@ fn days_of(w: &[u64], i: usize, k: usize) -> u32
 }
 
 // Nurse i's pairs.
-pub fn pairs_of(w: &[u64], i: usize) -> Pairs
-    requires { Accepted w.now × (i < nurses w.now) }
-    ensures { PairsOf w.now i result }
+pub fn pairs_of(w: &Body, i: usize) -> Pairs
+    requires { i < nurses w.now.numbers.now }
+    ensures { PairsOf w.now.numbers.now i result }
 {
-    let count = fields::pair_count(w);
+    let count = w.pair_count();
     let mut days = [0u32; PAIRS];
     for k in 1..=count {
         days[k] = days_of(w, i, k);

@@ -1,12 +1,9 @@
 -- What an advance hands back and leaves, by whether a question refuses it.
-use Prim.Native.Nat.{ℕ, ◌+◌, ◌≤◌}
-use mathlib.Core.Path.{◌≡◌, refl, sym, ap, ap₂, ◌∙◌}
-use mathlib.Core.Bool.{Bool}
-use mathlib.Core.List.{List, ◌++◌}
-use mathlib.Core.Option.{none, some}
-use native.Mathlib.Omega.{arith}
-use lib.ListN.{length, take, drop, length-append}
-use lib.Seq.{take_at}
+use Rattle.std.specs.Prelude.{ℕ, ◌+◌, ◌≤◌, ◌≡◌, refl, Bool, List, ◌++◌, length, take, drop}
+use Rattle.std.proofs.Common.{sym, ap, ap₂, ◌∙◌, arith, length-append, take_at}
+use Rattle.std.proofs.Math.Option.{none, some}
+use Rattle.std.specs.declared.result.Result.{Result}
+use Rattle.std.specs.declared.result.Result.TheVariants.{Ok, Err}
 use Rattle.search.specs.declared.Record.{Record as Stored}
 use Rattle.search.specs.declared.Advanced.{Advanced}
 use Rattle.history.specs.Phase.{Phase, Call, Answer, refused}
@@ -17,8 +14,6 @@ use Rattle.search.proofs.AdvanceLaws.{stored_refused, stored_goes}
 use Rattle.search.specs.declared.Ending.{Ending}
 use Rattle.search.specs.declared.Ending.TheVariants.{Zero, Asked, None}
 use Rattle.letters.specs.declared.written.Roster.{Roster}
-use Rattle.std.specs.declared.result.Result.{Result}
-use Rattle.std.specs.declared.result.Result.TheVariants.{Ok, Err}
 use Rattle.outcomes.specs.declared.Advance.{Advance}
 use Rattle.outcomes.specs.Outcomes.{ending_of, roster_of, letters_of, advance_of, left_by, call_of}
 

@@ -28,6 +28,7 @@ pub enum Verdict {
     Broken,
 }
 
+#[tactic(auto, unfolding(crate::specs::Outcomes::roster_of))]
 pub fn no_roster() -> Roster
     ensures { result ≡ roster_of [] }
 {

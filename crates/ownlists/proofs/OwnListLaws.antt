@@ -1,15 +1,9 @@
 -- A nurse's own patterns of the common list, written one after the other; and everyone's stretches, of which each begins where the last one ends.
-use mathlib.Core.Path.{◌≡◌, refl, sym, ap, ◌∙◌, subst}
-use mathlib.Core.Bool.{Bool, true, false, cond, false≢true}
-use mathlib.Core.List.{List, [], ◌∷◌, ◌++◌, append-nil, append_assoc}
-use Prim.Native.Nat.{ℕ, zero, suc, ◌+◌, ◌-◌, ◌*◌, ◌/◌, ◌≤◌, ◌<◌}
-use native.Mathlib.Numerals.{add-one}
-use native.Mathlib.Omega.{arith}
-use native.Mathlib.Decide.{dec_lt}
-use borrow.Author.Tests.{eqb-true}
-use lib.Dec.{eqb}
-use lib.ListN.{length, get_or, set, take, drop, replicate, length-append, length-set, length-drop, take-append-drop}
-use lib.Seq.{take-suc, take_all, take_at, drop_at, drop-cons, append_snoc, set-append_seam, take-append-le, drop-append-le, length-take-le, set-get_or, get_or-set_same, get_or-set_other}
+use Rattle.std.specs.Prelude.{◌≡◌, refl, Bool, true, false, cond, List, [], ◌∷◌, ◌++◌, ℕ, suc, ◌+◌, ◌-◌, ◌*◌, ◌/◌, ◌≤◌, ◌<◌, eqb, length, get_or, set, take, drop}
+use Rattle.std.proofs.Common.{sym, ap, ◌∙◌, subst, append-nil, append_assoc, add-one, arith, eqb-true, length-append, length-set, length-drop, take-append-drop, take-suc, take_all, take_at, drop_at, drop-cons, length-take-le, get_or-set_same, get_or-set_other}
+use Rattle.std.proofs.lemmas.List.{take-append-le, drop-append-le}
+use Rattle.std.proofs.Math.Decide.{dec_lt}
+use Rattle.std.proofs.Math.Seq.{append_snoc, set-append_seam}
 use Rattle.numbers.specs.Digits.{has, number_of}
 use Rattle.numbers.specs.Sum.{one_if}
 use Rattle.numbers.specs.Range.{filter}
@@ -23,7 +17,10 @@ use Rattle.nights.specs.Hers.{hers_of}
 use Rattle.nursemasks.specs.declared.masks.Masks.{Masks}
 use Rattle.nursemasks.specs.CodeMasks.{workable, masks_by, masks_of}
 use Rattle.trials.specs.CodeTrials.{before_of, WorkableDays}
-use Rattle.ownlists.specs.declared.Own.{Own}
+use Rattle.ownlists.specs.declared.Source.{Source}
+use Rattle.ownlists.specs.declared.Source.TheVariants.{Kept, Whole, Among}
+use Rattle.ownlists.specs.declared.OwnList.{OwnList}
+use Rattle.ownlists.specs.CodeOwn.{stretch_from, SourceAt, OwnAt, OwnLists, no_list}
 
 -- ---- what a test keeps of a list, written from a buffer's start
 
@@ -49,20 +46,20 @@ pub record KeptTo (t : ℕ → Bool) (list before : List ℕ) (at k : ℕ) (buf 
   pub counted : at ≡ length (filter t (take k list))
   pub written : at ≤ length before → buf ≡ filter t (take k list) ++ drop at before
 
--- for the nurse with these masks
-pub record FillTo (w list : List ℕ) (masks : Masks) (before : List ℕ) (at k : ℕ) (buf : List ℕ) : Type 0 where
+-- within the list and the buffer
+pub record FillTo (t : ℕ → Bool) (list before : List ℕ) (at k : ℕ) (buf : List ℕ) : Type 0 where
   pub inside : k ≤ length list
   pub most : at ≤ k
   pub long : length buf ≡ length before
-  pub each : (i : ℕ) → masks ≡ masks_of (rules_of w) (days w) (block w i) → KeptTo (hers_of w i) list before at k buf
+  pub kept : KeptTo t list before at k buf
 
-pub own_start : (w list : List ℕ) (masks : Masks) (before : List ℕ) → FillTo w list masks before 0 0 before
+pub own_start : (t : ℕ → Bool) (list before : List ℕ) → FillTo t list before 0 0 before
 unfolding filter
-own_start w list masks before = record {
+own_start t list before = record {
   inside = omega arith;
   most = omega arith;
   long = refl;
-  each = λ i e. record { counted = refl; written = λ l. refl };
+  kept = record { counted = refl; written = λ l. refl };
 }
 
 module _ {t : ℕ → Bool} {list before : List ℕ} {at k : ℕ} {buf : List ℕ} (h : KeptTo t list before at k buf) (l : k < length list) where
@@ -85,39 +82,38 @@ module _ {t : ℕ → Bool} {list before : List ℕ} {at k : ℕ} {buf : List �
   }
 
 -- one pattern more: `hers` is the test's answer, `next` and `more` what is then in the buffer, and how many
-module _ {w list : List ℕ} {masks : Masks} {before : List ℕ} {at k : ℕ} {buf : List ℕ} (f : FillTo w list masks before at k buf) (l : k < length list) {hers : Bool}
-    (is : (i : ℕ) → masks ≡ masks_of (rules_of w) (days w) (block w i) → hers ≡ hers_of w i (get_or list k 0)) {next : List ℕ} {more : ℕ} where
-  pub own_stored : hers ≡ true → at < length buf → next ≡ set buf at (get_or list k 0) → more ≡ at + 1 → FillTo w list masks before more (k + 1) next
+module _ {t : ℕ → Bool} {list before : List ℕ} {at k : ℕ} {buf : List ℕ} (f : FillTo t list before at k buf) (l : k < length list) {hers : Bool} (is : hers ≡ t (get_or list k 0))
+    {next : List ℕ} {more : ℕ} where
+  pub own_stored : hers ≡ true → at < length buf → next ≡ set buf at (get_or list k 0) → more ≡ at + 1 → FillTo t list before more (k + 1) next
   own_stored e room q r = rw (q, r) record {
     inside = omega arith;
     most = omega (arith, f.most);
     long = length-set buf at (get_or list k 0) ∙ f.long;
-    each = λ i m. kept_stored (f.each i m) l (sym (is i m) ∙ e) (omega (arith, f.long));
+    kept = kept_stored f.kept l (sym is ∙ e) (omega (arith, f.long));
   }
 
-  pub own_full : hers ≡ true → length buf ≤ at → next ≡ buf → more ≡ at + 1 → FillTo w list masks before more (k + 1) next
+  pub own_full : hers ≡ true → length buf ≤ at → next ≡ buf → more ≡ at + 1 → FillTo t list before more (k + 1) next
   own_full e full q r = rw (q, r) record {
     inside = omega arith;
     most = omega (arith, f.most);
     long = f.long;
-    each = λ i m. kept_full (f.each i m) l (sym (is i m) ∙ e) (omega (arith, f.long));
+    kept = kept_full f.kept l (sym is ∙ e) (omega (arith, f.long));
   }
 
-  pub own_passed : hers ≡ false → next ≡ buf → more ≡ at → FillTo w list masks before more (k + 1) next
+  pub own_passed : hers ≡ false → next ≡ buf → more ≡ at → FillTo t list before more (k + 1) next
   own_passed e q r = rw (q, r) record {
     inside = omega arith;
     most = omega (arith, f.most);
     long = f.long;
-    each = λ i m. kept_passed (f.each i m) l (sym (is i m) ∙ e);
+    kept = kept_passed f.kept l (sym is ∙ e);
   }
 
-module _ {w list : List ℕ} {masks : Masks} {before : List ℕ} {at k : ℕ} {buf : List ℕ} (f : FillTo w list masks before at k buf) (l : length list ≤ k)
-    (i : ℕ) (m : masks ≡ masks_of (rules_of w) (days w) (block w i)) where
-  pub own_counted : at ≡ length (filter (hers_of w i) list)
-  own_counted = (f.each i m).counted ∙ ap (λ (xs : List ℕ). length (filter (hers_of w i) xs)) (take_all k list l)
+module _ {t : ℕ → Bool} {list before : List ℕ} {at k : ℕ} {buf : List ℕ} (f : FillTo t list before at k buf) (l : length list ≤ k) where
+  pub own_counted : at ≡ length (filter t list)
+  own_counted = f.kept.counted ∙ ap (λ (xs : List ℕ). length (filter t xs)) (take_all k list l)
 
-  pub own_written : at ≤ length before → buf ≡ filter (hers_of w i) list ++ drop at before
-  own_written room = (f.each i m).written room ∙ ap (λ (xs : List ℕ). filter (hers_of w i) xs ++ drop at before) (take_all k list l)
+  pub own_written : at ≤ length before → buf ≡ filter t list ++ drop at before
+  own_written room = f.kept.written room ∙ ap (λ (xs : List ℕ). filter t xs ++ drop at before) (take_all k list l)
 
 -- ---- what else is kept of a nurse
 
@@ -173,179 +169,107 @@ stretch_next xs F ys rest at count l c =
 
 -- ---- everyone's
 
--- what nurse i's stretch from b to e is, with what else is kept of her, where at is the end of what is written
-pub record Stretch (w list own : List ℕ) (at i b e : ℕ) (kept whole : Bool) (work before : ℕ) : Type 0 where
-  pub begins : b ≤ e
-  pub finishes : e ≤ at
-  pub stretch : kept ≡ true → take (e - b) (drop b own) ≡ filter (hers_of w i) list
-  pub all_hers : whole ≡ true → filter (hers_of w i) list ≡ list
-  pub workable_are : WorkableDays w i work
-  pub before_is : before ≡ before_of (block w i)
-
-pub record Sized (r : Own) : Type 0 where
-  pub begins_long : length r.begins ≡ nurse_places
-  pub ends_long : length r.ends ≡ nurse_places
-  pub kept_long : length r.kept ≡ nurse_places
-  pub whole_long : length r.whole ≡ nurse_places
-  pub workable_long : length r.workable ≡ nurse_places
-  pub before_long : length r.before ≡ nurse_places
-
--- the first i have theirs, up to at
-pub record OwnTo (w list before : List ℕ) (at i : ℕ) (own : List ℕ) (r : Own) : Type 0 where
+-- the first i have theirs, kept up to `at`
+pub record OwnTo (w list before : List ℕ) (at i : ℕ) (own : List ℕ) (r : List OwnList) : Type 0 where
   pub i_most : i ≤ nurses w
   pub at_most : at ≤ length own
   pub long : length own ≡ length before
-  pub sized : Sized r
-  pub unset : (j : ℕ) → i ≤ j → get_or r.kept j false ≡ false
-  pub each : (j : ℕ) → j < i
-      → Stretch w list own at j (get_or r.begins j 0) (get_or r.ends j 0) (get_or r.kept j false) (get_or r.whole j false) (get_or r.workable j 0) (get_or r.before j 0)
+  pub sized : length r ≡ nurse_places
+  pub each : (j : ℕ) → j < i → OwnAt w list own at j (get_or r j no_list)
 
-pub begin : (w list before : List ℕ) (r : Own) → Sized r → ((j : ℕ) → get_or r.kept j false ≡ false) → OwnTo w list before 0 0 before r
-begin w list before r sized none_kept = record {
+pub begin : (w list before : List ℕ) (r : List OwnList) → length r ≡ nurse_places → OwnTo w list before 0 0 before r
+begin w list before r sized = record {
   i_most = omega arith;
   at_most = omega arith;
   long = refl;
   sized = sized;
-  unset = λ j l. none_kept j;
   each = λ j l. absurd (omega arith);
 }
 
-pub all_unset : (n j : ℕ) → get_or (replicate n false) j false ≡ false
-all_unset zero j = refl
-all_unset (suc n) zero = refl
-all_unset (suc n) (suc j) = all_unset n j
+pub everyone : {w list before : List ℕ} {at i : ℕ} {own : List ℕ} {r : List OwnList} → OwnTo w list before at i own r → nurses w ≤ i → OwnLists w list own r
+everyone {w} {list} {before} {at} {i} {own} {r} z l = record { each = λ j h. go j (get_or r j no_list) (z.each j (omega arith)) }
+  where
+    within : (j : ℕ) (s : Source) → SourceAt w list own at j s → SourceAt w list own (length own) j s
+    within j (Kept b e) k = record { begins = k.begins; finishes = omega (arith, k.finishes, z.at_most); stretch = k.stretch }
+    within j Whole k = k
+    within j Among k = k
 
--- what is kept of nurse i, stored
-abbrev stored : Own → ℕ → ℕ → ℕ → Bool → Bool → ℕ → ℕ → Own
-stored r i b e kept whole work before = record {
-  begins = set r.begins i b;
-  ends = set r.ends i e;
-  kept = set r.kept i kept;
-  whole = set r.whole i whole;
-  workable = set r.workable i work;
-  before = set r.before i before;
-}
+    go : (j : ℕ) (x : OwnList) → OwnAt w list own at j x → OwnAt w list own (length own) j x
+    go j x a = record { source_is = within j x.source a.source_is; workable_are = a.workable_are; before_is = a.before_is }
 
 -- the buffer's part behind `at`, lent and given back
-abbrev behind : ℕ → List ℕ → List ℕ
+abbrev pub behind : ℕ → List ℕ → List ℕ
 behind at own = take (length own - at) (drop at own)
+
+-- what is then in it, and how many, for nurse i with these masks
+pub record Filled (w list : List ℕ) (i : ℕ) (masks : Masks) (before after : List ℕ) (count : ℕ) : Type 0 where
+  pub hers : masks ≡ masks_of (rules_of w) (days w) (block w i)
+  pub counted : count ≡ length (filter (hers_of w i) list)
+  pub written : count ≤ length before → after ≡ filter (hers_of w i) list ++ drop count before
+
+pub filled_as : {v w list : List ℕ} {j i : ℕ} {masks : Masks} {before after : List ℕ} {count : ℕ} → v ≡ w → j ≡ i → Filled v list j masks before after count → Filled w list i masks before after count
+filled_as {v} {w} {list} {j} {i} {masks} {before} {after} {count} e f h =
+    subst (λ (x : List ℕ). Filled x list i masks before after count) e (subst (λ (k : ℕ). Filled v list k masks before after count) f h)
 
 pub record Back (at : ℕ) (own ys own' : List ℕ) : Type 0 where
   pub back_is : own' ≡ take at own ++ (ys ++ drop (length own - at) (drop at own))
   pub same : length own' ≡ length own
 
 -- one nurse more
-module _ {w list before : List ℕ} {at i : ℕ} {own : List ℕ} {r : Own} (z : OwnTo w list before at i own r) {ys own' : List ℕ} (back : Back at own ys own') where
+module _ {w list before : List ℕ} {at i : ℕ} {own : List ℕ} {r : List OwnList} (z : OwnTo w list before at i own r) {ys own' : List ℕ} (back : Back at own ys own') where
   front_long : length (take at own) ≡ at
   front_long = length-take-le at own z.at_most
 
   -- those before her keep theirs
-  front_same : (b e : ℕ) → b ≤ e → e ≤ at → take (e - b) (drop b own') ≡ take (e - b) (drop b own)
+  front_same : (b e : ℕ) → b ≤ e → e ≤ at → stretch_from own' b e ≡ stretch_from own b e
   front_same b e l h =
       let inside : e ≤ length (take at own) = rw front_long h in
-      ap (λ (xs : List ℕ). take (e - b) (drop b xs)) back.back_is
+      ap (λ (xs : List ℕ). stretch_from xs b e) back.back_is
       ∙ stretch_front b e (take at own) (ys ++ drop (length own - at) (drop at own)) l inside
       ∙ sym (stretch_front b e (take at own) (drop at own) l inside)
-      ∙ ap (λ (xs : List ℕ). take (e - b) (drop b xs)) (take-append-drop at own)
+      ∙ ap (λ (xs : List ℕ). stretch_from xs b e) (take-append-drop at own)
 
-  stays : {next j b e : ℕ} {kept whole : Bool} {work nights : ℕ} → at ≤ next → Stretch w list own at j b e kept whole work nights → Stretch w list own' next j b e kept whole work nights
-  stays {b = b} {e = e} l x = record {
-    begins = x.begins;
-    finishes = omega (arith, x.finishes);
-    stretch = λ k. front_same b e x.begins x.finishes ∙ x.stretch k;
-    all_hers = x.all_hers;
-    workable_are = x.workable_are;
-    before_is = x.before_is;
-  }
+  stays : {next : ℕ} (j : ℕ) (s : Source) → at ≤ next → SourceAt w list own at j s → SourceAt w list own' next j s
+  stays j (Kept b e) l k = record { begins = k.begins; finishes = omega (arith, k.finishes); stretch = front_same b e k.begins k.finishes ∙ k.stretch }
+  stays j Whole l k = k
+  stays j Among l k = k
 
-  module _ (l : i < nurses w) (few : nurses w ≤ nurse_places) {next : ℕ} {kept whole : Bool} {work nights : ℕ} (ahead : at ≤ next) (fits : next ≤ length own)
-      (x : Stretch w list own' next i at next kept whole work nights) where
-    one_nurse : OwnTo w list before next (i + 1) own' (stored r i at next kept whole work nights)
+  module _ (l : i < nurses w) (few : nurses w ≤ nurse_places) {next : ℕ} {x : OwnList} (ahead : at ≤ next) (fits : next ≤ length own) (hers : OwnAt w list own' next i x) where
+    one_nurse : OwnTo w list before next (i + 1) own' (set r i x)
     one_nurse = record {
       i_most = omega arith;
       at_most = omega (arith, back.same);
       long = back.same ∙ z.long;
-      sized = record {
-        begins_long = length-set r.begins i at ∙ z.sized.begins_long;
-        ends_long = length-set r.ends i next ∙ z.sized.ends_long;
-        kept_long = length-set r.kept i kept ∙ z.sized.kept_long;
-        whole_long = length-set r.whole i whole ∙ z.sized.whole_long;
-        workable_long = length-set r.workable i work ∙ z.sized.workable_long;
-        before_long = length-set r.before i nights ∙ z.sized.before_long;
-      };
-      unset = λ j m. get_or-set_other r.kept i j kept false (λ s. absurd (omega arith)) ∙ z.unset j (omega arith);
+      sized = length-set r i x ∙ z.sized;
       each = λ j m. go j m (dec_lt j i);
     }
       where
-        go : (j : ℕ) → j < i + 1 → Dec (j < i)
-            → Stretch w list own' next j (get_or (set r.begins i at) j 0) (get_or (set r.ends i next) j 0) (get_or (set r.kept i kept) j false)
-            (get_or (set r.whole i whole) j false) (get_or (set r.workable i work) j 0) (get_or (set r.before i nights) j 0)
+        go : (j : ℕ) → j < i + 1 → Dec (j < i) → OwnAt w list own' next j (get_or (set r i x) j no_list)
         go j m (yes q) =
-            let other : j ≡ i → ⊥ = λ s. omega arith in
-            rw (
-              get_or-set_other r.begins i j at 0 other,
-              get_or-set_other r.ends i j next 0 other,
-              get_or-set_other r.kept i j kept false other,
-              get_or-set_other r.whole i j whole false other,
-              get_or-set_other r.workable i j work 0 other,
-              get_or-set_other r.before i j nights 0 other,
-            ) (stays ahead (z.each j q))
+            let a = z.each j q in
+            rw (get_or-set_other r i j x no_list (λ s. omega arith)) (record { source_is = stays j (get_or r j no_list).source ahead a.source_is; workable_are = a.workable_are; before_is = a.before_is })
         go j m (no q) =
             let s : j ≡ i = omega arith in
-            rw (
-              s,
-              get_or-set_same r.begins i at 0 (omega (arith, z.sized.begins_long)),
-              get_or-set_same r.ends i next 0 (omega (arith, z.sized.ends_long)),
-              get_or-set_same r.kept i kept false (omega (arith, z.sized.kept_long)),
-              get_or-set_same r.whole i whole false (omega (arith, z.sized.whole_long)),
-              get_or-set_same r.workable i work 0 (omega (arith, z.sized.workable_long)),
-              get_or-set_same r.before i nights 0 (omega (arith, z.sized.before_long)),
-            ) x
+            rw (s, get_or-set_same r i x no_list (omega (arith, z.sized))) hers
 
-  -- as the code stores it: her end last, and that hers is kept where it fits
-  module _ {masks : Masks} (m : masks ≡ masks_of (rules_of w) (days w) (block w i)) (l : i < nurses w) (few : nurses w ≤ nurse_places) {count : ℕ}
-      (counted : count ≡ length (filter (hers_of w i) list)) (written : count ≤ length (behind at own) → ys ≡ filter (hers_of w i) list ++ drop count (behind at own)) where
-    abbrev begun : List Bool → Own
-    begun kept = record {
-      begins = set r.begins i at;
-      ends = r.ends;
-      kept = kept;
-      whole = set r.whole i (eqb count (length list));
-      workable = set r.workable i (masks.workable / 2);
-      before = set r.before i (2 * masks.night + masks.second);
-    }
+  -- as the code stores it
+  module _ {masks : Masks} {count : ℕ} (filled : Filled w list i masks (behind at own) ys count) (l : i < nurses w) (few : nurses w ≤ nurse_places) where
+    abbrev listed : Source → OwnList
+    listed s = record { source = s; workable = masks.workable / 2; before = 2 * masks.night + masks.second }
 
-    abbrev ended : Own → ℕ → Own
-    ended q next = record {
-      begins = q.begins;
-      ends = set q.ends i next;
-      kept = q.kept;
-      whole = q.whole;
-      workable = q.workable;
-      before = q.before;
-    }
+    hers : {next : ℕ} {s : Source} → SourceAt w list own' next i s → OwnAt w list own' next i (listed s)
+    hers is = record { source_is = is; workable_are = work_are w i filled.hers; before_is = before_are w i filled.hers }
 
-    hers : (next : ℕ) (kept : Bool) → at ≤ next → (kept ≡ true → take (next - at) (drop at own') ≡ filter (hers_of w i) list)
-        → Stretch w list own' next i at next kept (eqb count (length list)) (masks.workable / 2) (2 * masks.night + masks.second)
-    hers next kept ahead is = record {
-      begins = ahead;
-      finishes = omega arith;
-      stretch = is;
-      all_hers = λ t. filter_whole (hers_of w i) list (sym counted ∙ eqb-true count (length list) t);
-      workable_are = work_are w i m;
-      before_is = before_are w i m;
-    }
-
-    pub nurse_kept : {q : Own} {next : ℕ} → q ≡ begun (set r.kept i true) → next ≡ at + count → count ≤ length own - at → OwnTo w list before next (i + 1) own' (ended q next)
-    nurse_kept {q} {next} e n room =
+    pub nurse_kept : {s : Source} {next : ℕ} → s ≡ Kept at (at + count) → next ≡ at + count → count ≤ length own - at → OwnTo w list before next (i + 1) own' (set r i (listed s))
+    nurse_kept {s} {next} e n room =
         let long : length (behind at own) ≡ length own - at = length-take-le (length own - at) (drop at own) (simp length-drop (omega arith)) in
-        let is : take (at + count - at) (drop at own') ≡ filter (hers_of w i) list = rw (back.back_is, written (omega arith))
-        (stretch_next (take at own) (filter (hers_of w i) list) (drop count (behind at own)) (drop (length own - at) (drop at own)) at count front_long (sym counted)) in
-        subst (λ (x : Own). OwnTo w list before next (i + 1) own' (ended x next)) (sym e)
-        (one_nurse l few (omega arith) (omega (arith, z.at_most)) (hers next true (omega arith) (λ k. rw n is)))
+        let is : stretch_from own' at (at + count) ≡ filter (hers_of w i) list = rw (back.back_is, filled.written (omega arith))
+        (stretch_next (take at own) (filter (hers_of w i) list) (drop count (behind at own)) (drop (length own - at) (drop at own)) at count front_long (sym filled.counted)) in
+        rw (e, n) (one_nurse l few (omega arith) (omega (arith, z.at_most)) (hers (record { begins = omega arith; finishes = omega arith; stretch = is })))
 
-    pub nurse_over : {q : Own} {next : ℕ} → q ≡ begun r.kept → next ≡ at → OwnTo w list before next (i + 1) own' (ended q next)
-    nurse_over {q} {next} e n =
-        let off : set r.kept i false ≡ r.kept = ap (set r.kept i) (sym (z.unset i (omega arith))) ∙ set-get_or r.kept i false in
-        subst (λ (x : Own). OwnTo w list before next (i + 1) own' (ended x next)) (sym (e ∙ ap begun (sym off)))
-        (one_nurse l few (omega arith) (omega (arith, z.at_most)) (hers next false (omega arith) (λ k. absurd (false≢true k))))
+    unkept_is : (b : Bool) → eqb count (length list) ≡ b → SourceAt w list own' at i (cond b Whole Among)
+    unkept_is true e = filter_whole (hers_of w i) list (sym filled.counted ∙ eqb-true count (length list) e)
+    unkept_is false e = tt
+
+    pub nurse_over : {s : Source} {next : ℕ} → s ≡ cond (eqb count (length list)) Whole Among → next ≡ at → OwnTo w list before next (i + 1) own' (set r i (listed s))
+    nurse_over {s} {next} e n = rw (e, n) (one_nurse l few (omega arith) z.at_most (hers (unkept_is (eqb count (length list)) refl)))

@@ -1,40 +1,45 @@
 // Everyone's own night patterns of the common list, once an advance: as stretches of a lent array, as far as they fit.
 #![tactic(auto)]
 
-ghost use Rattle.std.specs.Prelude.{◌≡◌, ◌++◌, ℕ, ◌≤◌, length, drop};
+ghost use Rattle.std.specs.Prelude.{◌≡◌, ◌++◌, cond, eqb, ◌≤◌, length, drop};
 ghost use Rattle.numbers.specs.Range.{filter};
-ghost use Rattle.fields.specs.Fields.{Accepted, days, block};
-ghost use Rattle.fields.specs.Rules.{rules_of};
 ghost use Rattle.nights.specs.Nights.{common_of};
 ghost use Rattle.nights.specs.Hers.{hers_of};
-ghost use Rattle.nursemasks.specs.CodeMasks.{masks_of, Masked};
+ghost use Rattle.ownlists.specs.declared.Source.TheVariants.{Whole, Among};
 ghost use Rattle.ownlists.specs.CodeOwn.{OwnLists};
 
+use fields::Body;
 use fields::sizes::NURSES;
-use nursemasks::masks::Masks;
+use nursemasks::masks::NurseMasks;
 
-// Where each nurse's stretch begins and ends, and whether it holds her list; whether the common list is all hers; the days that she may work where they
-// are open; and the starts of the two days before the month.
+// Where a nurse's own patterns stand. Three cases, so no Option.
 #[derive(Clone, Copy)]
-pub struct Own {
-    pub begins: [usize; NURSES],
-    pub ends: [usize; NURSES],
-    pub kept: [bool; NURSES],
-    pub whole: [bool; NURSES],
-    pub workable: [u32; NURSES],
-    pub before: [u64; NURSES],
+pub enum Source {
+    // In the lent array, from one place to another.
+    Kept { begin: usize, end: usize },
+    // They are all of the common list.
+    Whole,
+    // Among the common list.
+    Among,
+}
+
+// That, the days that she may work where they are open, and the starts of the two days before the month.
+#[derive(Clone, Copy)]
+pub struct OwnList {
+    pub source: Source,
+    pub workable: u32,
+    pub before: u64,
 }
 
 // How many of the common list are hers; they are written from the array's start where they fit.
-fn own_fill(w: &[u64], list: &[u32], masks: Masks, own: &mut [u32]) -> usize
-    requires { Accepted w.now × Masked masks × (list.now ≡ common_of w.now) }
-    ensures counted { (i : ℕ) → masks ≡ masks_of (rules_of w.now) (days w.now) (block w.now i) → result ≡ length (filter (hers_of w.now i) list.now) }
-    ensures written { (i : ℕ) → masks ≡ masks_of (rules_of w.now) (days w.now) (block w.now i) → result ≤ length own.old →
-        own.new ≡ filter (hers_of w.now i) list.now ++ drop result own.old }
+fn own_fill(her: &NurseMasks, list: &[u32], own: &mut [u32]) -> usize
+    requires { list.now ≡ common_of her.now.ward.now.numbers.now }
+    ensures counted { result ≡ length (filter (hers_of her.now.ward.now.numbers.now her.now.nurse) list.now) }
+    ensures written { result ≤ length own.old → own.new ≡ filter (hers_of her.now.ward.now.numbers.now her.now.nurse) list.now ++ drop result own.old }
 {
     let mut at: usize = 0;
     for p in list {
-        if nursemasks::masks::passes(w, masks, *p) {
+        if her.passes(*p) {
             if at < own.len() {
                 own[at] = *p;
             }
@@ -44,34 +49,48 @@ fn own_fill(w: &[u64], list: &[u32], masks: Masks, own: &mut [u32]) -> usize
     at
 }
 
-// Everyone's.
-pub fn own_lists(w: &[u64], list: &[u32], own: &mut [u32]) -> Own
-    requires { Accepted w.now × (list.now ≡ common_of w.now) }
-    ensures { OwnLists w.now list.now own.new result }
+// Where `count` patterns stand that are not kept, of `all` in the common list.
+fn unkept(count: usize, all: usize) -> Source
+    ensures { result ≡ cond (eqb count all) Whole Among }
 {
-    let m = fields::nurses(w);
-    let mut r = Own {
-        begins: [0; NURSES],
-        ends: [0; NURSES],
-        kept: [false; NURSES],
-        whole: [false; NURSES],
-        workable: [0; NURSES],
-        before: [0; NURSES],
-    };
-    let mut at: usize = 0;
-    for i in 0..m {
-        let masks = nursemasks::masks::masks_of(w, i);
-        let room = own.len() - at;
-        let count = own_fill(w, list, masks, &mut own[at..]);
-        r.workable[i] = (masks.workable / 2) as u32;
-        r.before[i] = 2 * masks.night + masks.second;
-        r.begins[i] = at;
-        r.whole[i] = count == list.len();
-        if count <= room {
-            at = at + count;
-            r.kept[i] = true;
-        }
-        r.ends[i] = at;
+    if count == all {
+        Source::Whole
+    } else {
+        Source::Among
     }
-    r
+}
+
+// Everyone's.
+pub fn own_lists(w: &Body, list: &[u32], own: &mut [u32]) -> [OwnList; NURSES]
+    requires { list.now ≡ common_of w.now.numbers.now }
+    ensures { OwnLists w.now.numbers.now list.now own.new result }
+{
+    let mut lists = [OwnList {
+        source: Source::Among,
+        workable: 0,
+        before: 0,
+    }; NURSES];
+    let mut at: usize = 0;
+    for i in 0..w.nurses() {
+        // `&*w`, not `w`: the masks borrow the ward for a shorter time.
+        let her = nursemasks::masks::masks_of(&*w, i);
+        let room = own.len() - at;
+        let count = own_fill(&her, list, &mut own[at..]);
+        let workable = (her.masks.workable / 2) as u32;
+        let before = 2 * her.masks.night + her.masks.second;
+        let mut source = unkept(count, list.len());
+        if count <= room {
+            source = Source::Kept {
+                begin: at,
+                end: at + count,
+            };
+            at += count;
+        }
+        lists[i] = OwnList {
+            source,
+            workable,
+            before,
+        };
+    }
+    lists
 }

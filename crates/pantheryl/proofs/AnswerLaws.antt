@@ -1,12 +1,7 @@
 -- The words that are written are those of the planner's answers.
-use Prim.Native.Nat.{ℕ, ◌-◌}
-use mathlib.Core.Path.{◌≡◌, refl, sym, ap, subst}
-use mathlib.Core.Bool.{Bool, true, false, cond}
-use mathlib.Core.Option.{Option, none, some}
-use mathlib.Core.List.{List, ◌++◌}
-use native.Mathlib.Omega.{arith}
-use lib.ListN.{length, drop, replicate, length-append}
-use lib.Seq.{take_at}
+use Rattle.std.specs.Prelude.{ℕ, ◌-◌, ◌≡◌, refl, Bool, true, false, cond, List, ◌++◌, length, drop, replicate}
+use Rattle.std.proofs.Common.{sym, ap, subst, arith, length-append, take_at}
+use Rattle.std.proofs.Math.Option.{Option, none, some}
 use Rattle.std.specs.declared.result.Result.{Result}
 use Rattle.std.specs.declared.result.Result.TheVariants.{Ok, Err}
 use Rattle.fields.specs.Sizes.{letter_places}

@@ -1,8 +1,7 @@
 -- Words that are kept come back saying the same record, and every list of advances goes alike from words that say the same record.
-use mathlib.Core.Path.{◌≡◌, refl, sym, ap, ap₂, ◌∙◌}
-use mathlib.Core.List.{List, [], ◌∷◌}
-use mathlib.Core.Option.{none}
-use Prim.Native.Nat.{ℕ}
+use Rattle.std.specs.Prelude.{◌≡◌, refl, List, [], ◌∷◌, ℕ}
+use Rattle.std.proofs.Common.{sym, ap, ap₂, ◌∙◌}
+use Rattle.std.proofs.Math.Option.{none}
 use Rattle.history.specs.Phase.{Call, Answer, refused, ended}
 use Rattle.search.specs.Stored.{Sized}
 use Rattle.search.specs.declared.Record.{Record as Stored}
@@ -10,7 +9,7 @@ use Rattle.keeping.specs.Storage.{may_return, kept_in, record_at, return_no, ret
 use Rattle.keeping.specs.Assurance.{kept_all}
 use Rattle.keeping.proofs.AssuranceLaws.{assurance}
 use Rattle.refusals.proofs.OrderLaws.{unless_none}
-use Rattle.keeping.proofs.EntryLaws.{answered_none}
+use Rattle.keeping.proofs.EntryLaws.{answered_none, returned_is}
 use Rattle.planner.specs.Advances.{advance_nights, advance_days}
 use Rattle.recordwords.specs.Words.{record_of_words, words_of_record}
 use Rattle.recordwords.proofs.BackLaws.{read_back}
@@ -44,10 +43,10 @@ module _ (advance : Call → Stored → Answer × Stored) where
 
 back_says : (storage : List ℕ) (n : ℕ) (in_hand : List ℕ) (r : Stored) → Sized r → return_no storage n ≡ none → returned_to storage n (record_of_words in_hand) ≡ r
     → record_of_words (returned_words storage n in_hand) ≡ r
-unfolding returned_words return_no returned_to
+unfolding returned_words return_no
 back_says storage n in_hand r z unrefused e =
     let may = unless_none (may_return storage n) _ 0 unrefused in
-    let q : record_at storage n ≡ r = sym (rw may) ∙ e in
+    let q : record_at storage n ≡ r = sym (returned_is storage n (record_of_words in_hand) may).1 ∙ e in
     rw may (ap (λ (x : Stored). record_of_words (words_of_record x)) q ∙ read_back.same r z)
 
 pub words_assured : WordsAssured

@@ -1,14 +1,11 @@
 -- Demand 1 through the C interface: the words of a refusal, and the memory that it leaves, are those of the planner's refusal.
-use Prim.Native.Nat.{ℕ}
-use mathlib.Core.Path.{◌≡◌, refl, sym, ap}
-use mathlib.Core.Bool.{Bool, true, false, cond}
-use mathlib.Core.Option.{none, some, none-ne-some}
-use lib.Dec.{eqb}
-use lib.ListN.{length}
-use Rattle.ward.specs.Answers.{read_ward, reading_of, counted, check_ward, writing_of}
-use Rattle.refusals.specs.declared.Refusal.{Refusal}
+use Rattle.std.specs.Prelude.{ℕ, ◌≡◌, refl, Bool, true, false, cond, eqb, length}
+use Rattle.std.proofs.Common.{sym, ap}
+use Rattle.std.proofs.Math.Option.{none, some, none-ne-some}
 use Rattle.std.specs.declared.result.Result.{Result}
 use Rattle.std.specs.declared.result.Result.TheVariants.{Ok, Err}
+use Rattle.ward.specs.Answers.{read_ward, reading_of, counted, check_ward, writing_of}
+use Rattle.refusals.specs.declared.Refusal.{Refusal}
 use Rattle.ward.specs.declared.Ward.{Ward}
 use Rattle.refusals.specs.Refusals.{numbered, answer_by}
 use Rattle.keeping.specs.Storage.{keep_no, return_no, returned_of}
@@ -24,8 +21,7 @@ use Rattle.planner.specs.Left.{list_of, lists_of, night_left, day_left}
 use Rattle.planner.specs.Demand1.{no_in_result}
 use Rattle.planner.proofs.Demand1Laws.{no_in, nights_answer, days_answer, demand1}
 use Rattle.recordwords.specs.Words.{flag_of, record_of_words, patterns_of_words}
-use Rattle.answerwords.specs.AnswerWords.{count_words, advance_words, check_words}
-use Rattle.answerwords.specs.CodeAnswers.{counted_words}
+use Rattle.answerwords.specs.AnswerWords.{counted_words, count_words, advance_words, check_words}
 use Rattle.pantheryl.specs.Answers.{read_words, numbers_left, ward_of, write_words, words_left, nights_from, days_from, roster_left}
 use Rattle.recordwords.proofs.WordLaws.{words_sized}
 use Rattle.pantheryl.specs.Demand1.{no_in_words, WordsDemand1}

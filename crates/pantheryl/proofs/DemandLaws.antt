@@ -1,10 +1,7 @@
 -- Demand 3 holds through the C interface: a record kept as words goes alike.
-use Prim.Native.Nat.{ℕ}
-use mathlib.Core.Path.{◌≡◌, refl, sym, ap, ◌∙◌, subst}
-use mathlib.Core.Bool.{Bool, true, false, cond}
-use mathlib.Core.List.{List}
-use mathlib.Core.Option.{Option, none, some}
-use lib.ListN.{replicate}
+use Rattle.std.specs.Prelude.{ℕ, ◌≡◌, refl, Bool, true, false, cond, List, replicate}
+use Rattle.std.proofs.Common.{sym, ap, ◌∙◌, subst}
+use Rattle.std.proofs.Math.Option.{Option, none, some}
 use Rattle.numbers.specs.Patterns.{days_of, pair_of}
 use Rattle.fields.specs.Fields.{body_of}
 use Rattle.layout.specs.Grammar.{Read, good, bad}
@@ -19,7 +16,8 @@ use Rattle.search.specs.Stored.{all_zero, refusal_stored, reply_stored, advance_
 use Rattle.search.specs.declared.Record.{Record as Stored}
 use Rattle.search.proofs.AdvanceLaws.{stored_refused, stored_goes}
 use Rattle.search.proofs.SizedLaws.{fresh_sized}
-use Rattle.keeping.specs.Storage.{may_return, kept_in, record_at, return_no, keep_no, returned_to}
+use Rattle.keeping.specs.Storage.{may_return, kept_in, record_at, return_no, keep_no}
+use Rattle.keeping.proofs.EntryLaws.{returned_as}
 use Rattle.keeping.specs.Operations.{perform}
 use Rattle.keeping.proofs.AssuranceLaws.{return_sized}
 use Rattle.phases.specs.Phases.{night_phase, day_phase, night_of}
@@ -72,10 +70,10 @@ module _ (phase : List ℕ → Phase) (file : List ℕ) (sized : (c : Call) (r :
   InHandSized m = Sized m.0
 
   one : (o : Operation) (m : Stored × List ℕ) → InHandSized m → perform_words adv o (as_words m) ≡ ((perform adv o m).0, as_words (perform adv o m).1)
-  unfolding perform_words perform returned_words returned_to
+  unfolding perform_words perform returned_words
   one (operation_advance c) (r, storage) z = ap (λ (x : Answer × List ℕ). (advanced x.0, (x.1, storage))) (by_advance c r z)
   one (operation_keep n) (r, storage) z = ap (λ (x : Stored). (stored (keep_no storage n), (words_of_record r, kept_in storage n x))) (read_back.same r z)
-  one (operation_return n) (r, storage) z = ap (λ (l : List ℕ). (stored (return_no storage n), (l, storage))) (cond_words (may_return storage n) (record_at storage n) r)
+  one (operation_return n) (r, storage) z = ap (λ (l : List ℕ). (stored (return_no storage n), (l, storage))) (cond_words (may_return storage n) (record_at storage n) r ∙ ap words_of_record (sym (returned_as storage n r)))
 
   keeps : (o : Operation) (m : Stored × List ℕ) → InHandSized m → InHandSized (perform adv o m).1
   unfolding perform

@@ -11,7 +11,7 @@ use Rattle.planner.specs.Advances.{advance_nights, advance_days}
 use Rattle.outcomes.specs.Outcomes.{letters_of, call_of}
 use Rattle.recordwords.specs.Words.{patterns_of_words, flag_of, record_of_words, words_of_record}
 use Rattle.keeping.specs.Storage.{may_return, record_at}
-use Rattle.answerwords.specs.CodeAnswers.{counted_words}
+use Rattle.answerwords.specs.AnswerWords.{counted_words}
 
 -- ---- the ward
 

@@ -55,6 +55,7 @@ pub extern "C" fn pantheryl_read(file: &[u8], numbers: &mut [u64; NUMBERS], answ
     match planner::read(file) {
         Ok(ward) => {
             *answer = answerwords::count_words(Ok(ward.count as u64));
+            // By a variable: the proof does not close where an array field is stored straight.
             let filled = ward.numbers;
             *numbers = filled;
         }
@@ -78,10 +79,8 @@ pub extern "C" fn pantheryl_write(
         numbers,
         count: count as usize,
     };
-    match planner::write(ward, buffer) {
-        Ok(bytes) => *answer = answerwords::count_words(Ok(bytes as u64)),
-        Err(n) => *answer = answerwords::count_words(Err(n)),
-    }
+    let written = planner::write(ward, buffer);
+    *answer = answerwords::count_words(written.map(|bytes| bytes as u64));
 }
 
 // Advances the night search whose record is in words by up to k steps, past zero where `past` is not 0.
@@ -106,7 +105,7 @@ pub extern "C" fn pantheryl_advance_nights(
     put_record(words, &done);
 }
 
-// Advances the day search over these nights whose record is in words by up to k steps, past zero where `past` is not 0.
+// Advances the day search over these nights whose record is in words by up to k steps, past zero where `past` is not 0. Eight parameters, as C has them.
 #[unsafe(no_mangle)]
 pub extern "C" fn pantheryl_advance_days(
     file: &[u8],
@@ -154,10 +153,8 @@ pub extern "C" fn pantheryl_keep(
 {
     let before = *words;
     let rec = recordwords::record_of(before);
-    match planner::keep(rec, number, storage) {
-        Ok(()) => *answer = answerwords::count_words(Ok(0)),
-        Err(n) => *answer = answerwords::count_words(Err(n)),
-    }
+    let kept = planner::keep(rec, number, storage);
+    *answer = answerwords::count_words(kept.map(|()| 0));
 }
 
 // Brings back the record that is kept under the number in storage.

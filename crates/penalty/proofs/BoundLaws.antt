@@ -1,12 +1,7 @@
 -- How large a penalty can be, and what it is made of.
-use mathlib.Core.Path.{◌≡◌, sym, ap, ◌∙◌}
-use mathlib.Core.Bool.{Bool, ◌&&◌}
-use mathlib.Core.List.{List}
-use Prim.Native.Nat.{ℕ, ◌+◌, ◌-◌, ◌*◌, ◌≤◌, ◌<◌}
-use native.Mathlib.Nat.{mul-le-mul, le_trans}
-use native.Mathlib.Omega.{arith}
-use native.Mathlib.Decide.{dec_lt}
-use lib.ListN.{get_or}
+use Rattle.std.specs.Prelude.{◌≡◌, Bool, ◌&&◌, List, ℕ, ◌+◌, ◌-◌, ◌*◌, ◌≤◌, ◌<◌, get_or}
+use Rattle.std.proofs.Common.{sym, ap, ◌∙◌, mul-le-mul, le_trans, arith}
+use Rattle.std.proofs.Math.Decide.{dec_lt}
 use Rattle.fields.specs.Sizes.{nurse_places}
 use Rattle.numbers.specs.Sum.{one_if}
 use Rattle.numbers.specs.Digits.{has}

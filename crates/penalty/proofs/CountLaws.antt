@@ -1,17 +1,12 @@
 -- What is counted on columns is what the ward says: sums over 64 places are counts over the nurses.
-use mathlib.Core.Path.{◌≡◌, refl, sym, ap, ap₂, ◌∙◌}
-use mathlib.Core.Bool.{Bool, true, false}
-use mathlib.Core.List.{List}
-use Prim.Native.Nat.{ℕ, ◌+◌, ◌-◌, ◌*◌, ◌≤◌, ◌<◌}
-use native.Mathlib.Nat.{zero-mul, le_refl, add-le-add, mul-le-mul}
-use native.Mathlib.Omega.{arith}
-use lib.ListN.{length, get_or}
+use Rattle.std.specs.Prelude.{◌≡◌, refl, Bool, true, false, List, ℕ, ◌+◌, ◌-◌, ◌*◌, ◌≤◌, ◌<◌, length, get_or}
+use Rattle.std.proofs.Common.{sym, ap, ap₂, ◌∙◌, zero-mul, le_refl, add-le-add, mul-le-mul, arith}
 use Rattle.numbers.specs.Sum.{sum_to}
 use Rattle.numbers.specs.Digits.{has, put}
 use Rattle.numbers.proofs.SumLaws.{sum_zero, sum_suc, sum_ext, sum_mono, sum_add, sum_none}
 use Rattle.numbers.proofs.DigitLaws.{count_put, count_put_all}
 use Rattle.fields.specs.Fields.{Accepted, nurses, days, groups, weight, member_sets, needs, need, low, high}
-use Rattle.penalty.specs.declared.duty.Weights.{Weights}
+use Rattle.penalty.specs.Weights.{Weights}
 use Rattle.penalty.specs.declared.duty.Duty.{Duty}
 use Rattle.penalty.specs.declared.Penalty.{Penalty}
 use Rattle.history.specs.declared.Search.{Search}

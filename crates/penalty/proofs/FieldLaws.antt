@@ -1,12 +1,10 @@
 -- What an accepted ward says of the numbers that the penalty reads: how many they are, and how large.
-use mathlib.Core.Path.{◌≡◌}
-use mathlib.Core.List.{List}
-use Prim.Native.Nat.{ℕ, ◌+◌, ◌*◌, ◌<◌}
-use native.Mathlib.Omega.{arith}
+use Rattle.std.specs.Prelude.{◌≡◌, List, ℕ, ◌+◌, ◌*◌, ◌<◌}
+use Rattle.std.proofs.Common.{arith}
 use Rattle.fields.specs.Fields.{Accepted, days, member_sets, needs}
 use Rattle.fields.proofs.FieldLaws.{length_member_sets, length_needs}
-use Rattle.penalty.specs.declared.duty.Weights.{Weights}
-use Rattle.penalty.specs.CodeCounts.{weights_of, no_high, Light, DayNeeds}
+use Rattle.penalty.specs.Weights.{Weights, Light}
+use Rattle.penalty.specs.CodeCounts.{weights_of, no_high, DayNeeds}
 
 module _ (w : List ℕ) (a : Accepted w) where
   pub needs_are : (d : ℕ) → d < days w → DayNeeds (member_sets w) (needs w d)

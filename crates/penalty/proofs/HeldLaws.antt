@@ -1,10 +1,6 @@
 -- A penalty of zero means that nothing is broken, and nothing broken means a penalty of zero.
-use mathlib.Core.Path.{◌≡◌, refl, ap, ◌∙◌}
-use mathlib.Core.Bool.{Bool, true, false}
-use mathlib.Core.List.{List}
-use Prim.Native.Nat.{ℕ, ◌+◌, ◌-◌, ◌*◌, ◌≤◌, ◌<◌}
-use native.Mathlib.Nat.{mul-le-mul, le_refl, mul-zero}
-use native.Mathlib.Omega.{arith}
+use Rattle.std.specs.Prelude.{◌≡◌, refl, Bool, true, false, List, ℕ, ◌+◌, ◌-◌, ◌*◌, ◌≤◌, ◌<◌}
+use Rattle.std.proofs.Common.{ap, ◌∙◌, mul-le-mul, le_refl, mul-zero, arith}
 use Rattle.numbers.specs.Sum.{sum_to, one_if}
 use Rattle.numbers.proofs.SumLaws.{sum_none, sum_none_at}
 use Rattle.fields.specs.Fields.{Accepted, nurses, days, groups, weight, needs, need, low, high}

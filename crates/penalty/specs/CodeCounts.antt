@@ -6,7 +6,7 @@ use Rattle.history.specs.declared.Search.TheVariants.{Nights, Days}
 use Rattle.numbers.specs.Sum.{sum_to, count_to, Is}
 use Rattle.numbers.specs.Digits.{has}
 use Rattle.fields.specs.Fields.{weight, member_sets, needs, need, low, high}
-use Rattle.penalty.specs.declared.duty.Weights.{Weights}
+use Rattle.penalty.specs.Weights.{Weights}
 use Rattle.penalty.specs.declared.duty.Duty.{Duty}
 use Rattle.penalty.specs.declared.Penalty.{Penalty}
 
@@ -16,11 +16,6 @@ weights_of w k = record { w = weight w (3 * k); u = weight w (3 * k + 1); v = we
 
 abbrev pub no_high : Weights → Weights
 no_high wt = record { w = wt.w; u = wt.u; v = 0 }
-
-pub record Light (wt : Weights) : Type 0 where
-  pub light_w : wt.w ≤ 100
-  pub light_u : wt.u ≤ 100
-  pub light_v : wt.v ≤ 100
 
 -- what an accepted ward says of its groups and a day's numbers
 pub record DayNeeds (sets needs : List ℕ) : Type 0 where
@@ -57,7 +52,7 @@ abbrev pub duty_cost : Weights → List ℕ → List ℕ → ℕ → (ℕ → Bo
 duty_cost wt sets needs k f = need_term wt needs k f + sum_to (length sets) (group_term wt sets needs k f)
 
 -- what a duty's two results are, and their bounds
-pub record Counts (r : Duty) (s b o c : ℕ) : Type 0 where
+pub record DutyIs (r : Duty) (s b o c : ℕ) : Type 0 where
   pub short_is : Is r.short s b
   pub over_is : Is r.over o c
 
@@ -79,7 +74,7 @@ over_with Nights w d night day = over_in w 0 d (has night)
 over_with Days w d night day = over_in w 1 d (has day)
 
 abbrev pub DayCounts : Search → List ℕ → ℕ → ℕ → ℕ → Duty → Type 0
-DayCounts which w d night day r = Counts r (short_with which w d night day) 163200 (over_with which w d night day) 104000
+DayCounts which w d night day r = DutyIs r (short_with which w d night day) 163200 (over_with which w d night day) 104000
 
 -- a penalty's bounds, from which its total fits
 pub record Bounded (p : Penalty) : Type 0 where

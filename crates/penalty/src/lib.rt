@@ -14,7 +14,9 @@ ghost use Rattle.penalty.specs.CodeCounts.{Bounded, DayCounts};
 ghost use Rattle.penalty.specs.CodeColumns.{AllShow, Shows};
 
 use columns::Columns;
-use duty::Duty;
+use duty::{Conditions, Duty};
+use fields::Body;
+use fields::day::Shift;
 use history::Search;
 
 #[derive(Clone, Copy)]
@@ -48,17 +50,17 @@ impl Penalty {
 }
 
 // One day in either search: by night nights on N days, and day need and lows on available nurses, with day highs ignored; by day the night terms are zero.
-#[tactic(auto, using(crate::proofs::FieldLaws::light_of, crate::proofs::FieldLaws::needs_of))]
-pub fn on_day(w: &[u64], d: usize, night: u64, day: u64, search: Search) -> Duty
-    requires { Accepted w.now × (d < days w.now) }
-    ensures { DayCounts search w.now d night day result }
+pub fn on_day(w: &Body, d: usize, night: u64, day: u64, search: Search) -> Duty
+    requires { d < days w.now.numbers.now }
+    ensures { DayCounts search w.now.numbers.now d night day result }
 {
-    let sets = fields::member_sets(w);
-    let needs = fields::needs(w, d);
-    let by_day = duty::on_column(weights::weights(w, 1), sets, needs, 1, day);
+    let daily = Conditions::of(w, weights::weights(w, Shift::Day), Shift::Day, d);
+    let by_day = daily.on_column(day);
+    // Each arm is a few lines over the same numbers: a closure for each search would take them all, and the proofs go by the search.
     match search {
         Search::Nights => {
-            let by_night = duty::on_column(weights::weights(w, 0), sets, needs, 0, night);
+            let nightly = Conditions::of(w, weights::weights(w, Shift::Night), Shift::Night, d);
+            let by_night = nightly.on_column(night);
             Duty {
                 short: by_night.short + by_day.short,
                 over: by_night.over,
@@ -70,22 +72,22 @@ pub fn on_day(w: &[u64], d: usize, night: u64, day: u64, search: Search) -> Duty
 
 // The penalty of a month whose days have these columns, by night and by day.
 pub fn over_days<F: Fn(usize) -> (u64, u64)>(
-    w: &[u64],
+    w: &Body,
     columns: F,
     unplaced: u64,
     search: Search,
 ) -> Penalty
-    requires accepted { Accepted w.now × (unplaced ≤ nurse_places) }
-    requires callable { (d : ℕ) → d < days w.now → F.pre columns d }
+    requires accepted { unplaced ≤ nurse_places }
+    requires callable { (d : ℕ) → d < days w.now.numbers.now → F.pre columns d }
     ensures bounded { Bounded result }
-    ensures parts { (slots : ℕ → Slot) → AllShow (F.post columns) search w.now slots → unplaced ≡ unplaced_in w.now slots →
-        parts_of result ≡ parts_in search w.now slots }
+    ensures parts { (slots : ℕ → Slot) → AllShow (F.post columns) search w.now.numbers.now slots → unplaced ≡ unplaced_in w.now.numbers.now slots →
+        parts_of result ≡ parts_in search w.now.numbers.now slots }
 {
     let mut sum = Penalty {
         unplaced,
         ..Penalty::fresh()
     };
-    for d in 0..fields::days(w) {
+    for d in 0..w.days() {
         let (night, day) = columns(d);
         let of_day = on_day(w, d, night, day, search);
         sum.short += of_day.short;
@@ -95,11 +97,11 @@ pub fn over_days<F: Fn(usize) -> (u64, u64)>(
 }
 
 // The penalty of columns, by night or by day.
-pub fn parts(w: &[u64], cols: Columns, unplaced: u64, search: Search) -> Penalty
-    requires { Accepted w.now × (unplaced ≤ nurse_places) }
+pub fn parts(w: &Body, cols: Columns, unplaced: u64, search: Search) -> Penalty
+    requires { unplaced ≤ nurse_places }
     ensures bounded { Bounded result }
-    ensures parts { (slots : ℕ → Slot) → Shows search w.now slots cols → unplaced ≡ unplaced_in w.now slots →
-        parts_of result ≡ parts_in search w.now slots }
+    ensures parts { (slots : ℕ → Slot) → Shows search w.now.numbers.now slots cols → unplaced ≡ unplaced_in w.now.numbers.now slots →
+        parts_of result ≡ parts_in search w.now.numbers.now slots }
 {
     over_days(w, |d| (cols.night[d], cols.day[d]), unplaced, search)
 }

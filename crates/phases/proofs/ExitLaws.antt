@@ -12,6 +12,6 @@ module _ {T : Type 0} {r : Result T Refusal} {n : Refusal} (h : IsErrAnd r (λ e
   pub exit_err : r ≡ Err n
   exit_err = let p = err_from_is_err_and r h in p.1 ∙ ap Err p.2
 
-pub exit_no : {a : Result (Unit {0}) Refusal} {A : Option Refusal} {n : Refusal} (B : Option Refusal) (r : Result (Unit {0}) Refusal) → refusal_in a ≡ A → a ≡ Err n
+pub exit_no : {X Y : Type 0} {a : Result X Refusal} {A : Option Refusal} {n : Refusal} (B : Option Refusal) (r : Result Y Refusal) → refusal_in a ≡ A → a ≡ Err n
     → IsErrAnd r (λ e. e ≡ n) → refusal_in r ≡ first A B
 exit_no B r asked e h = ap refusal_in (exit_err h) ∙ first_no_lem B asked e

@@ -1,12 +1,8 @@
 -- Question 8 by the record in which everyone has her night pattern.
-use Prim.Native.Nat.{ℕ}
-use mathlib.Core.Path.{◌≡◌, sym, ap, ap₂, ◌∙◌}
-use mathlib.Core.Bool.{Bool, true, false}
-use mathlib.Core.List.{List}
-use mathlib.Core.Option.{some}
-use native.Mathlib.Omega.{arith}
-use lib.Dec.{eqb}
-use lib.ListN.{get_or, replicate, get_or-replicate}
+use Rattle.std.specs.Prelude.{ℕ, ◌≡◌, Bool, true, false, List, eqb, get_or, replicate}
+use Rattle.std.proofs.Common.{sym, ap, ap₂, ◌∙◌, arith}
+use Rattle.std.proofs.lemmas.List.{get_or-replicate}
+use Rattle.std.proofs.Math.Option.{some}
 use Rattle.fields.specs.Sizes.{nurse_places}
 use Rattle.numbers.specs.Range.{up_from, all}
 use Rattle.fields.specs.Fields.{Accepted, nurses}

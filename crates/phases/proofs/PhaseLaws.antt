@@ -1,9 +1,6 @@
 -- Nights and days are phases of which demand 3 is proved: the places fit, the lists ascend, and the unplaced cost a flat 10,000,000 beside a rest below it.
-use Prim.Native.Nat.{ℕ, ◌<◌}
-use mathlib.Core.Path.{◌≡◌, refl}
-use mathlib.Core.Logic.{◌≢◌}
-use mathlib.Core.List.{List, [], ◌∷◌, map}
-use native.Mathlib.Omega.{arith}
+use Rattle.std.specs.Prelude.{ℕ, ◌<◌, ◌≡◌, refl, ◌≢◌, List, [], ◌∷◌, map}
+use Rattle.std.proofs.Common.{arith}
 use Rattle.numbers.specs.Range.{Ascending}
 use Rattle.numbers.specs.Patterns.{unpaired}
 use Rattle.numbers.proofs.MemberLaws.{ascending_map}

@@ -1,15 +1,8 @@
 -- A nurse's own patterns by the test of one pattern, the three parts of question 11, and question 10 as a loop over the nurses asks it.
-use Prim.Native.Nat.{ℕ, zero, suc, ◌+◌, ◌-◌, ◌≤◌, ◌<◌, suc-le-suc}
-use mathlib.Core.Path.{◌≡◌, refl, sym, ap, ap₂, ◌∙◌, subst}
-use mathlib.Core.Bool.{Bool, true, false, ◌&&◌, ◌||◌, false≢true}
-use mathlib.Core.List.{List, [], ◌∷◌, map}
-use mathlib.Core.Option.{Option, none, some}
-use native.Mathlib.Nat.{not-suc-le-zero, le_of_suc-le-suc}
-use native.Mathlib.Numerals.{add-one}
-use native.Mathlib.Omega.{arith}
-use borrow.Author.Tests.{lt-ltb, le-ltb, eq-eqb, ne_eqb, eqb-true, eqb-false}
-use lib.Dec.{ltb, eqb}
-use lib.ListN.{length, get_or}
+use Rattle.std.specs.Prelude.{ℕ, zero, suc, ◌+◌, ◌-◌, ◌≤◌, ◌<◌, ◌≡◌, refl, Bool, true, false, ◌&&◌, ◌||◌, List, [], ◌∷◌, map, ltb, eqb, length, get_or}
+use Rattle.std.proofs.Common.{suc-le-suc, sym, ap, ap₂, ◌∙◌, subst, not-suc-le-zero, le_of_suc-le-suc, add-one, arith, lt-ltb, le-ltb, eq-eqb, ne_eqb, eqb-true}
+use Rattle.std.proofs.lemmas.Bool.{false≢true, eqb-false, or_right}
+use Rattle.std.proofs.Math.Option.{Option, none, some}
 use Rattle.numbers.specs.Range.{up_from, all, At, Exactly}
 use Rattle.numbers.specs.Patterns.{pattern, unpaired, days_of, pair_of}
 use Rattle.numbers.proofs.PatternLaws.{days_of_pattern, pair_of_pattern, back}
@@ -30,7 +23,7 @@ use Rattle.removals.specs.Removals.{slot}
 use Rattle.search.specs.Stored.{slot_at, held, names_at, unused_zero, sound_stored, Sized}
 use Rattle.search.proofs.Fits.{Fits}
 use Rattle.search.specs.declared.Record.{Record as Stored}
-use Rattle.history.proofs.TestLaws.{not_both, or_right}
+use Rattle.history.proofs.TestLaws.{not_both}
 use Rattle.search.proofs.QuestionLaws.{question_eleven}
 use Rattle.phases.specs.Phases.{night_phase, day_phase}
 use Rattle.phases.specs.CodeQuestions.{phase_of}

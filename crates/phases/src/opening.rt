@@ -4,11 +4,12 @@ ghost use Rattle.std.proofs.Math.Option.{some};
 ghost use Rattle.numbers.specs.Range.{up_from, all};
 ghost use Rattle.refusals.specs.Refusals.{refusal_in, unless};
 ghost use Rattle.refusals.specs.Questions as question;
-ghost use Rattle.fields.specs.Fields.{Accepted, nurses};
+ghost use Rattle.fields.specs.Fields.{nurses};
 ghost use Rattle.nights.specs.Own.{own_pattern};
 ghost use Rattle.penalty.specs.Penalty.{night_penalty};
 ghost use Rattle.phases.specs.Phases.{nights_open, night_of};
 
+use fields::Body;
 use fields::sizes::NURSES;
 use history::Search;
 use refusals::Refusal;
@@ -16,17 +17,15 @@ use refusals::question::Question;
 use search::Record;
 
 // Whether each night pattern is hers, with its pair.
-fn nights_hers(w: &[u64], nights: &[u64; NURSES]) -> bool
-    requires { Accepted w.now }
-    ensures { result ≡ all (λ i. own_pattern w.now i (night_of nights.now i)) (up_from 0 (nurses w.now)) }
+fn nights_hers(w: &Body, nights: &[u64; NURSES]) -> bool
+    ensures { result ≡ all (λ i. own_pattern w.now.numbers.now i (night_of nights.now i)) (up_from 0 (nurses w.now.numbers.now)) }
 {
-    (0..fields::nurses(w)).all(|i| nights::is_own(w, i, nights[i]))
+    (0..w.nurses()).all(|i| nights::is_own(w, i, nights[i]))
 }
 
 // The night penalty, everyone placed.
-fn night_penalty(w: &[u64], nights: &[u64; NURSES]) -> u64
-    requires { Accepted w.now }
-    ensures { result ≡ night_penalty w.now (λ i. some (night_of nights.now i)) }
+fn night_penalty(w: &Body, nights: &[u64; NURSES]) -> u64
+    ensures { result ≡ night_penalty w.now.numbers.now (λ i. some (night_of nights.now i)) }
 {
     let rec = Record {
         patterns: *nights,
@@ -36,16 +35,15 @@ fn night_penalty(w: &[u64], nights: &[u64; NURSES]) -> u64
     search::slots::penalty_of(w, rec, Search::Nights)
 }
 
-fn nights_open(w: &[u64], nights: &[u64; NURSES]) -> bool
-    requires { Accepted w.now }
-    ensures { result ≡ nights_open w.now (night_of nights.now) }
+fn nights_open(w: &Body, nights: &[u64; NURSES]) -> bool
+    ensures { result ≡ nights_open w.now.numbers.now (night_of nights.now) }
 {
     nights_hers(w, nights) && night_penalty(w, nights) == 0
 }
 
-pub fn nights_asked(w: &[u64], nights: &[u64; NURSES]) -> Result<(), Refusal>
-    requires { Accepted w.now }
-    ensures { refusal_in result ≡ unless (nights_open w.now (night_of nights.now)) question.nights 0 }
+// Question 8.
+pub fn nights_asked(w: &Body, nights: &[u64; NURSES]) -> Result<(), Refusal>
+    ensures { refusal_in result ≡ unless (nights_open w.now.numbers.now (night_of nights.now)) question.nights 0 }
 {
     Question::Nights.unless(nights_open(w, nights), 0)
 }

@@ -1,5 +1,5 @@
 -- What is kept comes back as it was, so every list of advances goes as from the moment of keeping.
-use mathlib.Core.Path.{ap}
+use Rattle.std.proofs.Common.{ap}
 use Rattle.history.specs.Phase.{in_turn}
 use Rattle.search.specs.declared.Record.{Record as Stored}
 use Rattle.keeping.proofs.AssuranceLaws.{assurance}

@@ -1,13 +1,9 @@
 -- Demand 1: each call refuses exactly by its first fault.
-use Prim.Native.Nat.{ℕ, ◌+◌, ◌*◌, ◌≤◌, ◌<◌}
-use mathlib.Core.Path.{◌≡◌, refl, sym, ap, ap₂, ◌∙◌, subst}
-use mathlib.Core.Bool.{Bool, true, false, ◌&&◌, true≢false}
-use mathlib.Core.Logic.{◌≢◌, ◌↔◌, ◌⊎◌, inl, inr}
-use mathlib.Core.List.{List}
-use mathlib.Core.Option.{Option, none, some, none-ne-some, some-injective}
-use borrow.Author.Tests.{leb-false, lt-leb, eqb-true, eqb-false, ltb-true, lt-ltb}
-use lib.Dec.{leb, ltb, eqb}
-use lib.ListN.{length}
+use Rattle.std.specs.Prelude.{ℕ, ◌+◌, ◌*◌, ◌≤◌, ◌<◌, ◌≡◌, refl, Bool, true, false, ◌&&◌, ◌≢◌, ◌↔◌, ◌⊎◌, List, leb, ltb, eqb, length}
+use Rattle.std.proofs.Common.{sym, ap, ap₂, ◌∙◌, subst, true≢false, inl, inr, leb-false, eqb-true, ltb-true, lt-ltb}
+use Rattle.std.proofs.lemmas.Bool.{lt-leb, eqb-false, and_parts, false_from_ne_true}
+use Rattle.std.proofs.Math.Option.{Option, none, some, none-ne-some, some-injective}
+use Rattle.std.specs.declared.result.Result.TheVariants.{Err}
 use Rattle.numbers.specs.Range.{up_from, all}
 use Rattle.numbers.proofs.AllLaws.{all_stop, all_fails}
 use Rattle.fields.specs.Fields.{Accepted, body_of, nurses, days}
@@ -29,11 +25,10 @@ use Rattle.history.specs.Phase.{Phase, Call, Answer, refused, ended, refusal}
 use Rattle.refusals.proofs.OrderLaws.{first_last}
 use Rattle.refusals.specs.declared.Refusal.{Refusal}
 use Rattle.refusals.specs.Refusals.{numbered, first, unless}
-use Rattle.std.specs.declared.result.Result.TheVariants.{Err}
 use Rattle.refusals.specs.Questions as question
 use Rattle.history.specs.Record.{lacking, reply_of}
 use Rattle.history.specs.Questions.{Questions, end, ask, FirstNo}
-use Rattle.history.proofs.TestLaws.{and_true, false_of, false_when}
+use Rattle.history.proofs.TestLaws.{false_when}
 use Rattle.history.proofs.FirstLaws.{Answers, AnswersAll, none_answers, first_answers, assoc_answers, unless_answers, lacking_answers}
 use Rattle.search.specs.Stored.{sound_stored, refusal_stored, advance_stored, reply_stored, Sized}
 use Rattle.search.proofs.Fits.{Fits}
@@ -63,7 +58,7 @@ steps_when steps k = (λ e. forth (leb k 10000) refl e, back)
 
     back : (10000 < k) ⊎ (1000000 < steps + k) → (leb k 10000 && leb (steps + k) 1000000) ≡ false
     back (inl l) = rw (lt-leb k 10000 l)
-    back (inr l) = false_of (leb k 10000 && leb (steps + k) 1000000) (λ e. true≢false (sym (and_true (leb k 10000) (leb (steps + k) 1000000) e).1 ∙ lt-leb (steps + k) 1000000 l))
+    back (inr l) = false_from_ne_true (leb k 10000 && leb (steps + k) 1000000) (λ e. true≢false (sym (and_parts (leb k 10000) (leb (steps + k) 1000000) e).1 ∙ lt-leb (steps + k) 1000000 l))
 
 common_when : (w : List ℕ) (places : ℕ) → (leb (length (common_of w)) places ≡ false) ↔ (places < length (common_of w))
 common_when w places = (λ e. leb-false _ _ e, λ l. lt-leb _ _ l)
@@ -89,8 +84,8 @@ module _ (w : List ℕ) (a : Accepted w) (nights : ℕ → ℕ) where
       back : Shut → (all own (up_from 0 (nurses w)) && eqb (night_penalty w (λ i. some (nights i))) 0) ≡ false
       back (inl f) = rw (all_stop own (nurses w) f.0 f.1 ((not_hers f.0).1 f.2))
       back (inr n) =
-          false_of (all own (up_from 0 (nurses w)) && eqb (night_penalty w (λ i. some (nights i))) 0)
-          (λ e. n (eqb-true _ 0 (and_true (all own (up_from 0 (nurses w))) _ e).1))
+          false_from_ne_true (all own (up_from 0 (nurses w)) && eqb (night_penalty w (λ i. some (nights i))) 0)
+          (λ e. n (eqb-true _ 0 (and_parts (all own (up_from 0 (nurses w))) _ e).1))
 
 -- ---- the questions of an advance, in their order
 

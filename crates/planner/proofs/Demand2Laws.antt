@@ -1,12 +1,12 @@
 -- Demand 2: each of its parts, as the layers prove it.
+use Rattle.std.specs.Prelude.{ℕ, ◌*◌, ◌^◌, ◌<◌, ◌≡◌, refl, Bool, true, false, cond, List}
+use Rattle.std.proofs.Common.{sym, ap, ◌∙◌, arith}
+use Rattle.std.proofs.lemmas.Bool.{false≢true}
+use Rattle.std.proofs.Math.Option.{Option, none, some}
+use Rattle.std.specs.declared.result.Result.{Result}
+use Rattle.std.specs.declared.result.Result.TheVariants.{Ok, Err}
 use Rattle.refusals.specs.Refusals.{numbered}
 use Rattle.refusals.specs.Questions as question
-use Prim.Native.Nat.{ℕ, ◌*◌, ◌^◌, ◌<◌}
-use mathlib.Core.Path.{◌≡◌, refl, sym, ap, ◌∙◌}
-use mathlib.Core.Bool.{Bool, true, false, cond, false≢true}
-use mathlib.Core.List.{List}
-use mathlib.Core.Option.{Option, none, some}
-use native.Mathlib.Omega.{arith}
 use Rattle.numbers.specs.Patterns.{days_of, pair_of}
 use Rattle.fields.specs.Fields.{body_of, nurses, days, longest_days, block, pair_count}
 use Rattle.rows.specs.Pairs.{in_pair}
@@ -29,8 +29,6 @@ use Rattle.letters.proofs.LetterLaws.{placed_long}
 use Rattle.rostercheck.specs.Check.{Holds}
 use Rattle.rostercheck.specs.CodeCheck.{holds}
 use Rattle.rostercheck.proofs.CheckLaws.{holds_sound, holds_complete}
-use Rattle.std.specs.declared.result.Result.{Result}
-use Rattle.std.specs.declared.result.Result.TheVariants.{Ok, Err}
 use Rattle.refusals.specs.declared.Refusal.{Refusal}
 use Rattle.outcomes.specs.declared.Verdict.{Verdict}
 use Rattle.outcomes.specs.declared.Verdict.TheVariants.{Passed, Broken}

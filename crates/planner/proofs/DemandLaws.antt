@@ -1,15 +1,12 @@
 -- Demand 3 holds by night and by day, and the check says yes to every roster that a day advance gives out.
-use Prim.Native.Nat.{ℕ, ◌+◌, ◌*◌, ◌<◌}
-use mathlib.Core.Path.{◌≡◌, refl, sym, ap, ◌∙◌, subst}
-use mathlib.Core.Bool.{Bool, true, false, cond, ◌&&◌, true≢false}
-use mathlib.Core.Logic.{⊎_elim}
+use Rattle.std.specs.Prelude.{ℕ, ◌+◌, ◌*◌, ◌<◌, ◌≡◌, refl, Bool, true, false, cond, ◌&&◌, List, [], ◌∷◌, map, leb, eqb}
+use Rattle.std.proofs.Common.{sym, ap, ◌∙◌, subst, true≢false, ⊎_elim, eqb-true, arith}
+use Rattle.std.proofs.lemmas.Bool.{and_parts}
+use Rattle.std.proofs.Math.Option.{none, some}
+use Rattle.std.specs.declared.result.Result.TheVariants.{Ok}
 use mathlib.Core.List.Memᴰ
-use mathlib.Core.List.{List, [], ◌∷◌, map, Memᴰ}
-use mathlib.Core.Option.{none, some}
-use lib.Dec.{leb, eqb}
-use borrow.Author.Tests.{eqb-true}
+use mathlib.Core.List.{Memᴰ}
 use Rattle.numbers.specs.Range.{filter, up_from, all}
-use native.Mathlib.Omega.{arith}
 use Rattle.numbers.specs.Digits.{has}
 use Rattle.numbers.specs.Patterns.{unpaired, days_of}
 use Rattle.numbers.proofs.PatternLaws.{days_of_pattern}
@@ -35,7 +32,6 @@ use Rattle.history.specs.Claim.{Made, refuses, goes, keeps, keeps_not, returns, 
 use Rattle.removals.specs.Removals.{pattern_of}
 use Rattle.search.specs.Stored.{all_zero, store, advance_stored, Sized}
 use Rattle.search.specs.declared.Record.{Record as Stored}
-use Rattle.history.proofs.TestLaws.{and_true}
 use Rattle.history.proofs.Lawful.{Lawful}
 use Rattle.history.proofs.FitLaws.{Fit, fit_fresh, fit_own}
 use Rattle.history.proofs.SessionLaws.{Every, every_begun}
@@ -55,7 +51,6 @@ use Rattle.rostercheck.specs.CodeCheck.{holds}
 use Rattle.rostercheck.proofs.GivenLaws.{duty_alike, members_alike, Patterns, placed_all, given_at_zero}
 use Rattle.phases.specs.Phases.{night_phase, nights_open, lists_fit, day_list_over, day_patterns_over, day_phase, night_of}
 use Rattle.planner.specs.Advances.{advance_over, advance_nights, advance_days}
-use Rattle.std.specs.declared.result.Result.TheVariants.{Ok}
 use Rattle.outcomes.specs.declared.Verdict.TheVariants.{Passed}
 use Rattle.planner.specs.Answers.{check_letters, check_over, check_says}
 use Rattle.planner.specs.Demand3.{NightPatterns, DayPatterns, Rightly, Settled, UnlessRefused, Each, DayDemand, start_of, image_of, Demanded}
@@ -96,7 +91,7 @@ module _ (w : List ℕ) (nights : ℕ → ℕ) where
   settled : nights_open w nights ≡ true → Settled w nights
   unfolding nights_open
   settled o =
-      let parts = and_true (all (λ i. own_pattern w i (nights i)) (up_from 0 (nurses w))) (eqb (night_penalty w (λ i. some (nights i))) 0) o in
+      let parts = and_parts (all (λ i. own_pattern w i (nights i)) (up_from 0 (nurses w))) (eqb (night_penalty w (λ i. some (nights i))) 0) o in
       record { hers = λ i l. all_each (λ j. own_pattern w j (nights j)) (nurses w) i parts.0 l; at_zero = eqb-true _ 0 parts.1 }
 
   pub each_settled : {room : Bool} {ops : List Operation} {l : List Answered} {s s'' : Session History} → Turns (day_phase w nights) room ops l s s'' → Each (UnlessRefused (Settled w nights)) l
@@ -145,7 +140,7 @@ module _ (w : List ℕ) (nights : ℕ → ℕ) where
         → ((i p : ℕ) → slots i ≡ some p → Memᴰ p (day_patterns_over w nights i)) → YesTo ((day_phase w nights).letters slots)
     unfolding day_phase nights_open day_list
     yes_at_zero slots o z own =
-        let parts = and_true (all (λ i. own_pattern w i (nights i)) (up_from 0 (nurses w))) (eqb (night_penalty w (λ i. some (nights i))) 0) o in
+        let parts = and_parts (all (λ i. own_pattern w i (nights i)) (up_from 0 (nurses w))) (eqb (night_penalty w (λ i. some (nights i))) 0) o in
         let all_hers : Patterns w nights (patterns slots z) = record {
           nights_hers = λ i l. all_each (λ j. own_pattern w j (nights j)) (nurses w) i parts.0 l;
           days_hers = λ i l.

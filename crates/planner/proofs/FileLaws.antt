@@ -1,9 +1,8 @@
 -- The advances' answers from the file's bytes, by night and by day.
-use Prim.Native.Nat.{ℕ}
-use mathlib.Core.Path.{◌≡◌, refl, ap, ◌∙◌, subst}
-use mathlib.Core.Bool.{Bool}
-use mathlib.Core.List.{List}
-use lib.ListN.{length}
+use Rattle.std.specs.Prelude.{ℕ, ◌≡◌, refl, Bool, List, length}
+use Rattle.std.proofs.Common.{ap, ◌∙◌, subst}
+use Rattle.std.specs.declared.result.Result.{Result}
+use Rattle.std.specs.declared.result.Result.TheVariants.{Err}
 use Rattle.refusals.specs.declared.Refusal.{Refusal}
 use Rattle.fields.specs.Fields.{body_of}
 use Rattle.layout.specs.Grammar.{Read, good, bad}
@@ -11,8 +10,6 @@ use Rattle.ward.specs.Answers.{read_ward}
 use Rattle.history.specs.Phase.{Phase, Answer}
 use Rattle.search.specs.Stored.{advance_stored}
 use Rattle.search.specs.declared.Record.{Record as Stored}
-use Rattle.std.specs.declared.result.Result.{Result}
-use Rattle.std.specs.declared.result.Result.TheVariants.{Err}
 use Rattle.outcomes.specs.declared.Advance.{Advance}
 use Rattle.outcomes.specs.Outcomes.{advance_of, left_by, call_of}
 use Rattle.planner.specs.Advances.{advance_over}

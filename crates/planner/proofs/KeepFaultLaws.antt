@@ -1,18 +1,13 @@
 -- Question 13: a keeping and a return refuse exactly by their fault.
-use Prim.Native.Nat.{ℕ, ◌<◌}
-use mathlib.Core.Path.{◌≡◌, refl, sym, ap, ◌∙◌, subst}
-use mathlib.Core.Bool.{Bool, true, false, not, ◌&&◌, true≢false}
-use mathlib.Core.Logic.{◌↔◌, ◌⊎◌, inl, inr}
-use mathlib.Core.List.{List}
-use mathlib.Core.Option.{Option, none, some, none-ne-some}
-use lib.Dec.{leb, eqb}
-use lib.ListN.{length, get_or}
-use borrow.Author.Tests.{leb-false, lt-leb, eq-eqb, eqb-true}
+use Rattle.std.specs.Prelude.{ℕ, ◌<◌, ◌≡◌, refl, Bool, true, false, not, ◌&&◌, ◌↔◌, ◌⊎◌, List, leb, eqb, length, get_or}
+use Rattle.std.proofs.Common.{sym, ap, ◌∙◌, subst, true≢false, inl, inr, leb-false, eq-eqb, eqb-true}
+use Rattle.std.proofs.lemmas.Bool.{lt-leb, not-false}
+use Rattle.std.proofs.Math.Option.{Option, none, some, none-ne-some}
+use Rattle.std.specs.declared.result.Result.TheVariants.{Ok, Err}
 use Rattle.refusals.specs.Refusals.{numbered, answer_by, unless}
 use Rattle.refusals.specs.Questions as question
 use Rattle.refusals.specs.declared.Refusal.{Refusal}
 use Rattle.refusals.proofs.OrderLaws.{first_last}
-use Rattle.std.specs.declared.result.Result.TheVariants.{Ok, Err}
 use Rattle.history.specs.Session.{keep_number}
 use Rattle.history.specs.Questions.{end, ask}
 use Rattle.history.proofs.FirstLaws.{Answers, AnswersAll, none_answers, first_answers, unless_answers}
@@ -39,11 +34,7 @@ keep_when storage n =
     and_when (has_room (length storage)) (keep_number n) (less_when storage_words (length storage)) (and_when (leb 1 n) (leb n 8) (less_when 1 n) (less_when n 8))
 
 kept_when : (x : ℕ) → (not (eqb x 0) ≡ false) ↔ (x ≡ 0)
-kept_when x = (λ e. eqb-true x 0 (go (eqb x 0) e), λ e. rw (eq-eqb x 0 e))
-  where
-    go : (b : Bool) → not b ≡ false → b ≡ true
-    go true e = refl
-    go false e = absurd (true≢false e)
+kept_when x = (λ e. eqb-true x 0 (not-false (eqb x 0) e), λ e. rw (eq-eqb x 0 e))
 
 return_when : (storage : List ℕ) (n : ℕ)
     → (may_return storage n ≡ false) ↔ (((length storage < storage_words) ⊎ ((n < 1) ⊎ (8 < n))) ⊎ (get_or storage (entry_at n) 0 ≡ 0))
@@ -80,7 +71,7 @@ keep_leaves storage n r e = rw (not_done (may_keep storage n) e)
 
 return_leaves : (storage : List ℕ) (n : ℕ) (r : Stored) {no : Refusal} → return_no storage n ≡ some no → returned_to storage n r ≡ r
 unfolding return_no returned_to
-return_leaves storage n r e = rw (not_done (may_return storage n) e)
+return_leaves storage n r e = rw (returned_to, not_done (may_return storage n) e)
 
 -- the refusal in an answer, and in what a return answers
 no_back : (o : Option Refusal) → no_in_result (answer_by o) ≡ o

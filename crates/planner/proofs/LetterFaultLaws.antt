@@ -1,13 +1,8 @@
 -- Question 12 is a no exactly where its fault is.
-use Prim.Native.Nat.{ℕ, zero, suc, ◌+◌, ◌<◌}
-use mathlib.Core.Path.{◌≡◌, refl, sym, ap, ◌∙◌, subst}
-use mathlib.Core.Bool.{Bool, true, false, cond}
-use mathlib.Core.List.{List, [], ◌∷◌}
-use mathlib.Core.Option.{Option, none, some, none-ne-some}
-use native.Mathlib.Omega.{arith}
-use borrow.Author.Tests.{eqb-false, ne_eqb}
-use lib.Dec.{eqb}
-use lib.ListN.{length, get_or}
+use Rattle.std.specs.Prelude.{ℕ, zero, suc, ◌+◌, ◌<◌, ◌≡◌, refl, Bool, true, false, cond, List, [], ◌∷◌, eqb, length, get_or}
+use Rattle.std.proofs.Common.{sym, ap, ◌∙◌, subst, arith, ne_eqb}
+use Rattle.std.proofs.lemmas.Bool.{eqb-false}
+use Rattle.std.proofs.Math.Option.{Option, none, some, none-ne-some}
 use Rattle.history.proofs.TestLaws.{some_same}
 use Rattle.letters.specs.Letters.{is_letter, first_bad, or_count, misplaced}
 use Rattle.planner.specs.Faults.{LettersBefore, LettersFault, bad_letter, wrong_count}

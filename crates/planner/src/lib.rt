@@ -2,7 +2,6 @@
 #![tactic(auto)]
 
 ghost use Rattle.std.specs.Prelude.{◌≡◌, length};
-ghost use Rattle.fields.specs.Fields.{Accepted};
 ghost use Rattle.ward.specs.Answers.{reading_of, read_ward, counted, check_ward, writing_of, left_of};
 ghost use Rattle.planner.specs.Answers.{check_letters, check_says};
 ghost use Rattle.planner.specs.Advances.{advance_nights, advance_days};
@@ -11,6 +10,7 @@ ghost use Rattle.planner.specs.Left.{night_left, day_left};
 ghost use Rattle.refusals.specs.Refusals.{answer_by};
 ghost use Rattle.keeping.specs.Storage.{keep_no, kept_in, returned_of};
 
+use fields::Body;
 use fields::sizes::{NUMBERS, NURSES};
 pub use outcomes::{Advance, Verdict};
 use refusals::Refusal;
@@ -35,12 +35,11 @@ pub fn write(ward: Ward, buffer: &mut [u8]) -> Result<usize, Refusal>
 }
 
 // Question 12, then the rules, over an accepted ward.
-fn check_letters(w: &[u64], roster: &[u8]) -> Result<Verdict, Refusal>
-    requires { Accepted w.now }
-    ensures { result ≡ check_letters w.now roster.now }
+fn check_letters(w: &Body, roster: &[u8]) -> Result<Verdict, Refusal>
+    ensures { result ≡ check_letters w.now.numbers.now roster.now }
 {
-    let m = fields::nurses(w);
-    let n = fields::days(w);
+    let m = w.nurses();
+    let n = w.days();
     match letters::misplaced_at(roster, m * n) {
         Some(place) => Err(Question::Letters.at(place)),
         None => {
@@ -58,11 +57,11 @@ pub fn check(file: &[u8], roster: &[u8]) -> Result<Verdict, Refusal>
 {
     let mut numbers = [0u64; NUMBERS];
     let count = ward::read_into(file, &mut numbers)?;
-    check_letters(fields::body(&numbers[..count]), roster)
+    check_letters(&Body::of(&numbers[..count]), roster)
 }
 
 // Advances a night search by up to k steps, past zero or not, or says the first of questions 1 to 5, 7, 9, 10 and 11 that is a no.
-// The buffer then has the common list from its start; a refused call leaves it was.
+// The buffer then has the common list from its start; a refused call leaves it as it was.
 pub fn advance_nights(
     rec: Record,
     file: &[u8],
@@ -75,11 +74,11 @@ pub fn advance_nights(
 {
     let mut numbers = [0u64; NUMBERS];
     let count = ward::read_into(file, &mut numbers)?;
-    nightadvance::advance_on(rec, fields::body(&numbers[..count]), k, past, buffer)
+    nightadvance::advance_on(rec, &Body::of(&numbers[..count]), k, past, buffer)
 }
 
 // Advances a day search over one choice of nights by up to k steps, past zero or not, or says the first of questions 1 to 5 and 7 to 11 that is a no.
-// The buffer then has each nurse's day list in turn; a refused call leaves it was. The roster is given out where the
+// The buffer then has each nurse's day list in turn; a refused call leaves it as it was. The roster is given out where the
 // advance leaves penalty zero.
 pub fn advance_days(
     rec: Record,
@@ -94,14 +93,7 @@ pub fn advance_days(
 {
     let mut numbers = [0u64; NUMBERS];
     let count = ward::read_into(file, &mut numbers)?;
-    dayadvance::advance_on(
-        rec,
-        fields::body(&numbers[..count]),
-        nights,
-        k,
-        past,
-        buffer,
-    )
+    dayadvance::advance_on(rec, &Body::of(&numbers[..count]), nights, k, past, buffer)
 }
 
 // Keeps the record under the number, 1 to 8, in place of what was kept there; or says question 13, and leaves the storage as it was.

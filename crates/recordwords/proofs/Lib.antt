@@ -1,4 +1,3 @@
 pub mod WordLaws
-pub mod MadeLaws
 pub mod WrittenLaws
 pub mod BackLaws

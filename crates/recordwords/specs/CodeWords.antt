@@ -9,6 +9,6 @@ abbrev pub removal_word : StoredRemoval → ℕ → ℕ
 removal_word x t = cond (eqb t 0) x.nurse (cond (eqb t 1) (flag_word x.has) (cond (eqb t 2) (days_of x.pattern) (pair_of x.pattern)))
 
 -- the first n words are those of s
-pub record Written (s words : List ℕ) (n : ℕ) : Type 0 where
+pub record WordsWritten (s words : List ℕ) (n : ℕ) : Type 0 where
   pub long : length words ≡ record_words
   pub same : (e : ℕ) → e < n → get_or words e 0 ≡ get_or s e 0

@@ -4,9 +4,8 @@
 ghost use Rattle.std.specs.Prelude.{◌≡◌, ℕ, List, map, ◌+◌, ◌≤◌, ◌<◌, length, get_or, take, drop};
 ghost use Rattle.fields.specs.Sizes.{nurse_places, removal_places};
 ghost use Rattle.numbers.specs.Range.{up_from};
-ghost use Rattle.search.specs.Stored.{Sized};
 ghost use Rattle.recordwords.specs.Words.{pattern_words, pairs_at, flags_at, removals_at, steps_at, record_words, patterns_of_words, flag_of, removal_at, record_of_words, flag_word, words_of_record};
-ghost use Rattle.recordwords.specs.CodeWords.{removal_word, Written};
+ghost use Rattle.recordwords.specs.CodeWords.{removal_word, WordsWritten};
 
 use fields::sizes::{NURSES, REMOVALS};
 use numbers::pattern;
@@ -32,7 +31,7 @@ pub fn patterns_of(words: &[u32]) -> [u64; NURSES]
     array::from_fn(|i| pattern::of(words[i], words[NURSES + i]))
 }
 
-// Any word but 0 sets a flag.
+// Any word but 0 sets a flag. A function of its own, since std turns no number into a bool.
 pub fn flag_of(word: u32) -> bool
     ensures { result ≡ flag_of word }
 {
@@ -66,6 +65,7 @@ fn removals_of(words: &[u32; WORDS]) -> [Removal; REMOVALS]
     array::from_fn(|j| removal_at(words, j))
 }
 
+#[tactic(auto, unfolding(crate::specs::Words::record_of_words))]
 pub fn record_of(words: [u32; WORDS]) -> Record
     ensures { result ≡ record_of_words words }
 {
@@ -87,10 +87,9 @@ fn flag_word(flag: bool) -> u32
     u32::from(flag)
 }
 
-// Everyone's sets of days.
-fn put_days(words: &mut [u32; WORDS], rec: &Record)
-    requires { Sized rec.now }
-    ensures { Written (words_of_record rec.now) words.old 0 → Written (words_of_record rec.now) words.new pairs_at }
+// Everyone's sets of days. The record by value, here and below: its arrays' lengths are known of a value.
+fn put_days(words: &mut [u32; WORDS], rec: Record)
+    ensures { WordsWritten (words_of_record rec) words.old 0 → WordsWritten (words_of_record rec) words.new pairs_at }
 {
     for (i, p) in rec.patterns.iter().enumerate() {
         words[i] = pattern::days_of(*p);
@@ -98,9 +97,8 @@ fn put_days(words: &mut [u32; WORDS], rec: &Record)
 }
 
 // Everyone's pairs.
-fn put_pairs(words: &mut [u32; WORDS], rec: &Record)
-    requires { Sized rec.now }
-    ensures { Written (words_of_record rec.now) words.old pairs_at → Written (words_of_record rec.now) words.new flags_at }
+fn put_pairs(words: &mut [u32; WORDS], rec: Record)
+    ensures { WordsWritten (words_of_record rec) words.old pairs_at → WordsWritten (words_of_record rec) words.new flags_at }
 {
     for (i, p) in rec.patterns.iter().enumerate() {
         words[NURSES + i] = pattern::pair_of(*p);
@@ -108,9 +106,8 @@ fn put_pairs(words: &mut [u32; WORDS], rec: &Record)
 }
 
 // Who is placed.
-fn put_flags(words: &mut [u32; WORDS], rec: &Record)
-    requires { Sized rec.now }
-    ensures { Written (words_of_record rec.now) words.old flags_at → Written (words_of_record rec.now) words.new removals_at }
+fn put_flags(words: &mut [u32; WORDS], rec: Record)
+    ensures { WordsWritten (words_of_record rec) words.old flags_at → WordsWritten (words_of_record rec) words.new removals_at }
 {
     for (i, flag) in rec.placed.iter().enumerate() {
         words[PATTERNS + i] = flag_word(*flag);
@@ -120,7 +117,7 @@ fn put_flags(words: &mut [u32; WORDS], rec: &Record)
 // A removal's four words.
 fn put_removal(words: &mut [u32; WORDS], x: Removal, at: usize)
     requires { at + 4 ≤ record_words }
-    ensures { (s : List ℕ) → Written s words.old at → ((k : ℕ) → k < 4 → removal_word x k ≡ get_or s (at + k) 0) → Written s words.new (at + 4) }
+    ensures { (s : List ℕ) → WordsWritten s words.old at → ((k : ℕ) → k < 4 → removal_word x k ≡ get_or s (at + k) 0) → WordsWritten s words.new (at + 4) }
 {
     words[at] = x.nurse;
     words[at + 1] = flag_word(x.has);
@@ -128,9 +125,8 @@ fn put_removal(words: &mut [u32; WORDS], x: Removal, at: usize)
     words[at + 3] = pattern::pair_of(x.pattern);
 }
 
-fn put_removals(words: &mut [u32; WORDS], rec: &Record)
-    requires { Sized rec.now }
-    ensures { Written (words_of_record rec.now) words.old removals_at → Written (words_of_record rec.now) words.new steps_at }
+fn put_removals(words: &mut [u32; WORDS], rec: Record)
+    ensures { WordsWritten (words_of_record rec) words.old removals_at → WordsWritten (words_of_record rec) words.new steps_at }
 {
     for (j, x) in rec.removals.iter().enumerate() {
         put_removal(words, *x, REMOVALS_AT + j * 4);
@@ -141,10 +137,10 @@ pub fn words_of(rec: Record) -> [u32; WORDS]
     ensures { result ≡ words_of_record rec }
 {
     let mut words = [0u32; WORDS];
-    put_days(&mut words, &rec);
-    put_pairs(&mut words, &rec);
-    put_flags(&mut words, &rec);
-    put_removals(&mut words, &rec);
+    put_days(&mut words, rec);
+    put_pairs(&mut words, rec);
+    put_flags(&mut words, rec);
+    put_removals(&mut words, rec);
     words[STEPS_AT] = rec.steps;
     words
 }

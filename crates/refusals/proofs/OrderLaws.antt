@@ -1,20 +1,18 @@
 -- Questions in order: the first no of several.
-use Prim.Native.Nat.{ℕ}
-use mathlib.Core.Bool.{Bool, true, false}
-use mathlib.Core.Path.{◌≡◌, refl, sym, ap, ◌∙◌}
-use mathlib.Core.Option.{Option, none, some}
-use native.Mathlib.Omega.{arith}
-use Rattle.refusals.specs.declared.Refusal.{Refusal}
+use Rattle.std.specs.Prelude.{ℕ, Bool, true, false, ◌≡◌, refl}
+use Rattle.std.proofs.Common.{sym, ap, ◌∙◌, arith}
+use Rattle.std.proofs.Math.Option.{Option, none, some}
 use Rattle.std.specs.declared.result.Result.{Result}
 use Rattle.std.specs.declared.result.Result.TheVariants.{Ok, Err}
+use Rattle.refusals.specs.declared.Refusal.{Refusal}
 use Rattle.refusals.specs.Refusals.{refusal_in, answer_by, unless, first}
 
 -- where a question that code asked is a no, and where it is a yes
-module _ {a : Result (Unit {0}) Refusal} {A : Option Refusal} (B : Option Refusal) (asked : refusal_in a ≡ A) where
+module _ {X : Type 0} {a : Result X Refusal} {A : Option Refusal} (B : Option Refusal) (asked : refusal_in a ≡ A) where
   pub first_no_lem : {n : Refusal} → a ≡ Err n → some n ≡ first A B
   first_no_lem e = let q : A ≡ some _ = sym asked ∙ ap refusal_in e in rw q
 
-  pub first_yes : a ≡ Ok tt → B ≡ first A B
+  pub first_yes : {x : X} → a ≡ Ok x → B ≡ first A B
   first_yes e = let q : A ≡ none = sym asked ∙ ap refusal_in e in rw q
 
 pub first_assoc : (a b c : Option Refusal) → first (first a b) c ≡ first a (first b c)

@@ -9,7 +9,7 @@ abbrev pub numbered : ℕ → ℕ → Numbered
 numbered question place = record { question = question; place = place }
 
 -- the refusal in an answer
-abbrev pub refusal_in : Result (Unit {0}) Numbered → Option Numbered
+abbrev pub refusal_in : {A : Type 0} → Result A Numbered → Option Numbered
 refusal_in (Ok _) = none
 refusal_in (Err refusal) = some refusal
 

@@ -58,7 +58,7 @@ impl Refusal {
     pub fn question(self) -> u32
         ensures { result ≡ self.question }
     {
-        self.question.number()
+        u32::from(self.question)
     }
 
     pub fn place(self) -> usize

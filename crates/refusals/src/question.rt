@@ -32,11 +32,11 @@ pub enum Question {
     Storage = 13,
 }
 
-impl Question {
-    // Its number in the documents.
-    pub fn number(self) -> u32
-        ensures { result ≡ number self }
-    {
-        self as u32
+// Its number in the documents.
+impl From<Question> for u32 {
+    ghost from_gives = { λ question n. n ≡ number question };
+
+    fn from(question: Question) -> u32 {
+        question as u32
     }
 }

@@ -3,10 +3,10 @@
 
 pub mod unused;
 
-ghost use Rattle.std.specs.Prelude.{◌≡◌, cond, ◌&&◌, ◌||◌, ℕ, ◌<◌, ◌≤◌, min, eqb, length, take};
+ghost use Rattle.std.specs.Prelude.{◌≡◌, ◌&&◌, ◌||◌, ℕ, ◌<◌, ◌≤◌, eqb, length, take};
 ghost use Rattle.fields.specs.Sizes.{removal_places, tabu_most};
 ghost use Rattle.numbers.specs.Range.{any_of};
-ghost use Rattle.removals.specs.CodeGiven.{bar_places, GivenUp, given_up_by};
+ghost use Rattle.removals.specs.CodeGiven.{bar_places, is_current, given_up_by};
 ghost use Rattle.removals.specs.CodePush.{in_front, pushed};
 
 use fields::sizes::REMOVALS;
@@ -23,60 +23,30 @@ pub struct Removal {
     pub has: bool,
     pub pattern: u64,
 }
-// The removals held, as numbers: who gave up a pattern, 0 where none was given up, and which.
-// Two arrays, as the list comes from a record of any content: a place has both numbers, whatever its flag says.
-#[derive(Clone, Copy)]
-pub struct Given {
-    pub nurses: [u32; REMOVALS],
-    pub patterns: [u64; REMOVALS],
-}
 
-// The nurse of a removal with a pattern, else 0.
-fn giver(x: Removal) -> u32
-    ensures { result ≡ cond x.has x.nurse 0 }
+// Whether a removal bars its pattern for the nurse of this number: she gave it up herself.
+fn gave_up(x: Removal, number: u32) -> bool
+    ensures { result ≡ (x.has && eqb x.nurse number) }
 {
-    if x.has { x.nurse } else { 0 }
-}
-
-// The first `held` removals.
-pub fn given_of(list: [Removal; REMOVALS], held: usize) -> Given
-    requires { held ≤ removal_places }
-    ensures { GivenUp list held result }
-{
-    let mut r = Given {
-        nurses: [0; REMOVALS],
-        patterns: [0; REMOVALS],
-    };
-    for (k, x) in list[..held].iter().enumerate() {
-        r.nurses[k] = giver(*x);
-        r.patterns[k] = x.pattern;
-    }
-    r
+    x.has && x.nurse == number
 }
 
 // The patterns barred for the nurse of this number, from the start: the one in use by her, and those that she gave up herself. Gives how many.
-pub fn bars_of(
-    nurses: &[u32; REMOVALS],
-    patterns: &[u64; REMOVALS],
-    held: usize,
-    number: u32,
-    placed: bool,
-    current: u64,
-    bars: &mut [u64; BARS],
-) -> usize
-    requires { (held ≤ removal_places) × (length bars.old ≡ bar_places) }
+// They go into an array of the caller's, since there is no heap for a list.
+pub fn bars_of(held: &[Removal], number: u32, current: Option<u64>, bars: &mut [u64; BARS]) -> usize
+    requires { (length held.now ≤ removal_places) × (length bars.old ≡ bar_places) }
     ensures most { result ≤ bar_places }
-    ensures bars { (p : ℕ) → any_of (λ x. eqb x p) (take result bars.new) ≡ ((placed && eqb current p) || given_up_by nurses.now patterns.now number p held) }
+    ensures bars { (p : ℕ) → any_of (λ x. eqb x p) (take result bars.new) ≡ (is_current current p || given_up_by held.now number p) }
     ensures long { length bars.new ≡ bar_places }
 {
     let mut count: usize = 0;
-    if placed {
-        bars[0] = current;
+    if let Some(p) = current {
+        bars[0] = p;
         count = 1;
     }
-    for (k, nurse) in nurses[..held].iter().enumerate() {
-        if *nurse == number {
-            bars[count] = patterns[k];
+    for x in held {
+        if gave_up(*x, number) {
+            bars[count] = x.pattern;
             count += 1;
         }
     }

@@ -2,6 +2,7 @@
 // day steps; or what is left, with the phase, its penalty and its steps; or the question that refused and its place.
 #![tactic(auto)]
 
+use fields::Body;
 use fields::sizes::LETTERS;
 use letters::written::Roster;
 use planner::{Advance, Ending};
@@ -39,9 +40,9 @@ fn left(phase: u32, x: &Advance) -> Plan {
 
 // The days of the ward's month.
 fn days_of(file: &[u8]) -> Result<usize, Refusal> {
-    let ward = planner::read(file)?;
+    let ward = ward::read(file)?;
     let numbers = ward.numbers;
-    Ok(fields::days(fields::body(&numbers[..ward.count])))
+    Ok(Body::of(&numbers[..ward.count]).days())
 }
 
 fn planned(file: &[u8]) -> Result<Plan, Refusal> {

@@ -1,17 +1,11 @@
 -- The test says yes exactly when the roster's rules hold: every row follows from patterns, and every day's needs, lows and highs hold.
-use mathlib.Core.Path.{◌≡◌, sym, ap, ap₂, ◌∙◌}
-use mathlib.Core.Bool.{Bool, true, ◌&&◌}
-use mathlib.Core.List.{List}
-use mathlib.Core.Logic.{◌↔◌}
-use Prim.Native.Nat.{ℕ, zero, suc, ◌+◌, ◌*◌, ◌^◌, ◌≤◌, ◌<◌}
-use native.Mathlib.Omega.{arith}
-use borrow.Author.Tests.{leb-true, le-leb}
-use lib.Dec.{leb}
-use lib.ListN.{length}
+use Rattle.std.specs.Prelude.{◌≡◌, Bool, true, ◌&&◌, List, ◌↔◌, ℕ, zero, suc, ◌+◌, ◌*◌, ◌^◌, ◌≤◌, ◌<◌, leb, length}
+use Rattle.std.proofs.Common.{sym, ap, ap₂, ◌∙◌, arith, leb-true, le-leb}
+use Rattle.std.proofs.lemmas.Bool.{and_parts, and_from}
 use Rattle.numbers.specs.Range.{up_from, all, any_of}
 use Rattle.numbers.specs.Patterns.{pattern, days_of, pair_of}
 use Rattle.numbers.proofs.PatternLaws.{days_of_pattern, pair_of_pattern, back}
-use Rattle.numbers.proofs.RangeLaws.{and_parts, both_true, range_all, range_each}
+use Rattle.numbers.proofs.RangeLaws.{range_all, range_each}
 use Rattle.fields.specs.Fields.{nurses, days, groups, block, needs, need, low, high, pair_count}
 use Rattle.rows.specs.Pairs.{pair_numbers, pair_fits}
 use Rattle.rows.proofs.PairNumberLaws.{pairs_has, pairs_some}
@@ -23,7 +17,7 @@ use Rattle.days.proofs.SheetLaws.{rule_below}
 use Rattle.penalty.specs.Penalty.{on_duty, members}
 use Rattle.letters.specs.Letters.{letter, row_letters}
 use Rattle.rostercheck.specs.Check.{Follows, Holds, at_duty}
-use Rattle.rostercheck.specs.CodeCheck.{letters_at, same_row, pair_holds, row_holds, rows_hold, group_holds, duty_holds, day_holds, days_hold, holds}
+use Rattle.rostercheck.specs.CodeCheck.{letters_at, same_row, pair_holds, row_holds, group_holds, duty_holds, day_holds, holds}
 use Rattle.letters.proofs.RowLaws.{row_fits}
 use Rattle.rostercheck.proofs.RowLaws.{worked_available, each_of_row, row_of_each, same_each, each_same, starts_read, worked_read}
 
@@ -40,7 +34,7 @@ row_is w roster i p q ep eq = sym (ap₂ (λ (x y : ℕ). hers_of w i x && (some
 -- a night pattern of hers with a pair of hers is a pattern of hers
 own_of : (w : List ℕ) (i p k : ℕ) → k < 2 ^ 32 → hers_of w i p ≡ true → pair_fits w i p k ≡ true → own_pattern w i (pattern p k) ≡ true
 unfolding own_pattern
-own_of w i p k l h f = rw (days_of_pattern p k l, pair_of_pattern p k l) (both_true _ _ h f)
+own_of w i p k l h f = rw (days_of_pattern p k l, pair_of_pattern p k l) (and_from _ _ h f)
 
 own_parts : (w : List ℕ) (i c : ℕ) → own_pattern w i c ≡ true → (hers_of w i (days_of c) && pair_fits w i (days_of c) (pair_of c)) ≡ true
 unfolding own_pattern
@@ -75,7 +69,7 @@ module _ (w roster : List ℕ) (few : pair_count w < 2 ^ 32) (long : length rost
   -- a row that follows from some patterns follows from those read off its letters
   row_read : (i p q : ℕ) → p ≡ letters_at w roster i (letter 2) → q ≡ letters_at w roster i (letter 1)
       → hers_of w i p ≡ true → some_pair w i p q ≡ true → same_row (block w i) (days w) roster (i * days w) p q ≡ true → row_holds w roster i ≡ true
-  row_read i p q ep eq h d s = row_is w roster i p q ep eq ∙ both_true _ _ h (both_true _ _ d s)
+  row_read i p q ep eq h d s = row_is w roster i p q ep eq ∙ and_from _ _ h (and_from _ _ d s)
 
   pub row_complete : (i : ℕ) → i < nurses w → Follows w roster i → row_holds w roster i ≡ true
   row_complete i h f =
@@ -90,7 +84,7 @@ module _ (w roster : List ℕ) (few : pair_count w < 2 ^ 32) (long : length rost
       row_read i p q
       (starts_read roster (i * n) n (fits i h) (block w i) p q e (hers_below w i p hers.0))
       (worked_read roster (i * n) n (fits i h) (block w i) p q e (rule_below w i c q f.days_hers) (λ d l. worked_available w i c q d f.days_hers l))
-      hers.0 (pairs_has w (pair_holds w i p q) i p k hers.1 (both_true _ _ hers.1 day)) (each_same roster (i * n) n (fits i h) (block w i) p q e)
+      hers.0 (pairs_has w (pair_holds w i p q) i p k hers.1 (and_from _ _ hers.1 day)) (each_same roster (i * n) n (fits i h) (block w i) p q e)
 
   -- ---- needs, lows and highs
 
@@ -108,7 +102,7 @@ module _ (w roster : List ℕ) (few : pair_count w < 2 ^ 32) (long : length rost
 
   group_complete : (k d g : ℕ) → low (needs w d) k g ≤ members w (at_duty w roster k d) g → members w (at_duty w roster k d) g ≤ high (needs w d) k g → group_holds w roster k d g ≡ true
   unfolding group_holds
-  group_complete k d g l h = both_true _ _ (le-leb _ _ l) (le-leb _ _ h)
+  group_complete k d g l h = and_from _ _ (le-leb _ _ l) (le-leb _ _ h)
 
   duty_sound : (k d : ℕ) → duty_holds w roster k d ≡ true → Met k d
   unfolding duty_holds
@@ -121,7 +115,7 @@ module _ (w roster : List ℕ) (few : pair_count w < 2 ^ 32) (long : length rost
   duty_complete : (k d : ℕ) → Met k d → duty_holds w roster k d ≡ true
   unfolding duty_holds
   duty_complete k d m =
-      both_true _ _ (le-leb _ _ m.need_met)
+      and_from _ _ (le-leb _ _ m.need_met)
       (range_all (group_holds w roster k d) 0 (groups w) (λ g a h. (let l : g < groups w = omega arith in group_complete k d g (m.low_met g l) (m.high_met g l))))
 
   duty_each : ((d : ℕ) → d < days w → day_holds w roster d ≡ true) → (k d : ℕ) → k < 2 → d < days w → Met k d
@@ -132,12 +126,12 @@ module _ (w roster : List ℕ) (few : pair_count w < 2 ^ 32) (long : length rost
 
   day_complete : (d : ℕ) → Met 0 d → Met 1 d → day_holds w roster d ≡ true
   unfolding day_holds
-  day_complete d a b = both_true _ _ (duty_complete 0 d a) (duty_complete 1 d b)
+  day_complete d a b = and_from _ _ (duty_complete 0 d a) (duty_complete 1 d b)
 
   -- ---- the whole
 
   pub holds_sound : holds w roster ≡ true → Holds w roster
-  unfolding holds rows_hold days_hold
+  unfolding holds
   holds_sound e =
       let a = and_parts (all (row_holds w roster) (up_from 0 (nurses w))) (all (day_holds w roster) (up_from 0 (days w))) e in
       let each = duty_each (λ d l. range_each (day_holds w roster) 0 (days w) a.1 d (omega arith) (omega arith)) in
@@ -152,9 +146,9 @@ module _ (w roster : List ℕ) (few : pair_count w < 2 ^ 32) (long : length rost
   met o k d h l = record { need_met = o.needs_met k d h l; low_met = λ g. o.lows_met k d g h l; high_met = λ g. o.highs_met k d g h l }
 
   pub holds_complete : Holds w roster → holds w roster ≡ true
-  unfolding holds rows_hold days_hold
+  unfolding holds
   holds_complete o =
-      both_true _ _
+      and_from _ _
       (range_all (row_holds w roster) 0 (nurses w) (λ i a h. (let l : i < nurses w = omega arith in row_complete i l (o.rows i l))))
       (range_all (day_holds w roster) 0 (days w) (λ d a h. (let l : d < days w = omega arith in day_complete d (met o 0 d (omega arith) l) (met o 1 d (omega arith) l))))
 

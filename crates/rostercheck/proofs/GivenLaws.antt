@@ -1,16 +1,9 @@
 -- The roster that a day advance at penalty zero gives out: its length, its letters, and that the check says yes to it.
-use mathlib.Core.Path.{◌≡◌, refl, sym, ap, ◌∙◌}
-use mathlib.Core.Bool.{Bool, true, false, cond, ◌&&◌}
-use mathlib.Core.List.{List, [], ◌∷◌, ◌++◌, map}
-use mathlib.Core.Option.{Option, none, some}
-use mathlib.Core.Logic.{⊎_elim}
-use Prim.Native.Nat.{ℕ, zero, suc, ◌+◌, ◌*◌, ◌^◌, ◌≤◌, ◌<◌}
-use native.Mathlib.Nat.{not-suc-le-zero, le_of_suc-le-suc, eq-or-lt_of_le}
-use native.Mathlib.Omega.{arith}
-use borrow.Author.Tests.{eq-eqb}
-use lib.Dec.{eqb}
-use lib.ListN.{length, get_or, get_or-append}
-use lib.Seq.{get_or-append-add}
+use Rattle.std.specs.Prelude.{◌≡◌, refl, Bool, true, false, cond, ◌&&◌, List, [], ◌∷◌, ◌++◌, map, ℕ, zero, suc, ◌+◌, ◌*◌, ◌^◌, ◌≤◌, ◌<◌, eqb, length, get_or}
+use Rattle.std.proofs.Common.{sym, ap, ◌∙◌, ⊎_elim, not-suc-le-zero, le_of_suc-le-suc, eq-or-lt_of_le, arith, eq-eqb, get_or-append-add}
+use Rattle.std.proofs.Math.Arith.{digits_lt}
+use Rattle.std.proofs.Math.ListN.{get_or-append}
+use Rattle.std.proofs.Math.Option.{Option, none, some}
 use Rattle.numbers.specs.Range.{up_from, all}
 use Rattle.numbers.specs.Sum.{one_if}
 use Rattle.numbers.specs.Digits.{has}
@@ -27,7 +20,7 @@ use Rattle.penalty.proofs.HeldLaws.{night_zero, day_zero}
 use Rattle.letters.specs.Letters.{letter, row_letters_of, row_letters, letters, is_letter, first_bad, or_count, misplaced}
 use Rattle.rostercheck.specs.Check.{Follows, lettered, at_duty, Holds}
 use Rattle.rostercheck.specs.CodeCheck.{holds}
-use Rattle.letters.proofs.RowLaws.{row_fits, in_row, row_at, letters_length}
+use Rattle.letters.proofs.RowLaws.{row_fits, row_at, letters_length}
 use Rattle.rostercheck.proofs.RowLaws.{duty_five, starts_letter, worked_letter, worked_available, row_of_each}
 use Rattle.rostercheck.proofs.CheckLaws.{holds_complete}
 
@@ -48,7 +41,7 @@ module _ (w : List ℕ) (ps qs : ℕ → ℕ) where
   pub letters_at : (k i d : ℕ) → i < k → d < days w → get_or (letters w ps qs k) (i * days w + d) 0 ≡ letter (duty_on (block w i) (ps i) (qs i) (suc d))
   letters_at zero i d h l = absurd (not-suc-le-zero h)
   letters_at (suc k) i d h l =
-      ⊎_elim (λ e. rw e (last_row k d l)) (λ m. rows_before k (i * days w + d) (in_row k (days w) i d m l) ∙ letters_at k i d m l) (eq-or-lt_of_le (le_of_suc-le-suc h))
+      ⊎_elim (λ e. rw e (last_row k d l)) (λ m. rows_before k (i * days w + d) (digits_lt m l) ∙ letters_at k i d m l) (eq-or-lt_of_le (le_of_suc-le-suc h))
 
   -- ---- they are all of the five
 

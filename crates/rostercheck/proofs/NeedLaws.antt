@@ -1,11 +1,7 @@
 -- Counts over a column are counts over the nurses, so that needs, lows and highs are judged by columns.
-use mathlib.Core.Path.{◌≡◌, ap, ap₂, ◌∙◌, subst}
-use mathlib.Core.Bool.{Bool, false, ◌&&◌}
-use mathlib.Core.List.{List}
-use Prim.Native.Nat.{ℕ, ◌≤◌, ◌<◌}
-use native.Mathlib.Omega.{arith}
-use borrow.Author.Tests.{lt-leb, le-leb}
-use lib.ListN.{get_or}
+use Rattle.std.specs.Prelude.{◌≡◌, Bool, false, ◌&&◌, List, ℕ, ◌≤◌, ◌<◌, get_or}
+use Rattle.std.proofs.Common.{ap, ap₂, ◌∙◌, subst, arith, le-leb}
+use Rattle.std.proofs.lemmas.Bool.{lt-leb}
 use Rattle.numbers.specs.Range.{up_from, all}
 use Rattle.numbers.specs.Sum.{count_to, Is}
 use Rattle.numbers.specs.Digits.{has, number_of}

@@ -1,17 +1,10 @@
 -- A row of letters: its length, each of its letters, and the patterns that are read off it.
-use mathlib.Core.Path.{◌≡◌, sym, ap, ◌∙◌}
-use mathlib.Core.Bool.{Bool, true}
-use mathlib.Core.List.{List}
-use Prim.Native.Nat.{ℕ, suc, ◌+◌, ◌^◌, ◌≤◌, ◌<◌}
-use native.Mathlib.Omega.{arith}
-use borrow.Author.Tests.{eqb-true, eq-eqb}
-use lib.Dec.{eqb}
-use lib.ListN.{length, get_or, take, drop, length-drop}
-use lib.Seq.{length-take-le, get_or-take, get_or-drop, ext_get_or}
-use Rattle.std.specs.Prelude.{Decides}
+use Rattle.std.specs.Prelude.{◌≡◌, Bool, true, List, ℕ, suc, ◌+◌, ◌^◌, ◌≤◌, ◌<◌, eqb, length, get_or, take, drop, Decides}
+use Rattle.std.proofs.Common.{sym, ap, ◌∙◌, arith, eqb-true, eq-eqb, length-drop, length-take-le, get_or-take, get_or-drop, ext_get_or}
+use Rattle.std.proofs.lemmas.Bool.{and_parts}
 use Rattle.numbers.specs.Digits.{has}
 use Rattle.numbers.specs.Patterns.{days_of, pair_of}
-use Rattle.numbers.proofs.RangeLaws.{and_parts, tests_alike, range_all, range_each}
+use Rattle.numbers.proofs.RangeLaws.{tests_alike, range_all, range_each}
 use Rattle.numbers.proofs.SetLaws.{number_is}
 use Rattle.fields.specs.Fields.{days, block, mark_on}
 use Rattle.rows.specs.Rows.{started, row_state, available_on, duty_on}

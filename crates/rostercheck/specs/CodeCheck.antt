@@ -34,9 +34,6 @@ row_holds w roster i =
     let q = letters_at w roster i (letter 1) in
     hers_of w i p && (any_of (pair_holds w i p q) (pair_numbers w) && same_row (block w i) (days w) roster (i * days w) p q)
 
-unfoldable pub rows_hold : List ℕ → List ℕ → Bool
-rows_hold w roster = all (row_holds w roster) (up_from 0 (nurses w))
-
 -- the need of one duty of the day of index d, and each group's low and high
 unfoldable pub group_holds : List ℕ → List ℕ → ℕ → ℕ → ℕ → Bool
 group_holds w roster k d g =
@@ -50,8 +47,6 @@ duty_holds w roster k d =
 unfoldable pub day_holds : List ℕ → List ℕ → ℕ → Bool
 day_holds w roster d = duty_holds w roster 0 d && duty_holds w roster 1 d
 
-unfoldable pub days_hold : List ℕ → List ℕ → Bool
-days_hold w roster = all (day_holds w roster) (up_from 0 (days w))
-
+-- every nurse's row and every day
 unfoldable pub holds : List ℕ → List ℕ → Bool
-holds w roster = rows_hold w roster && days_hold w roster
+holds w roster = all (row_holds w roster) (up_from 0 (nurses w)) && all (day_holds w roster) (up_from 0 (days w))

@@ -5,14 +5,16 @@ mod needs;
 mod rows_of;
 
 ghost use Rattle.std.specs.Prelude.{◌≡◌, ◌*◌, length};
-ghost use Rattle.fields.specs.Fields.{Accepted, nurses, days};
+ghost use Rattle.fields.specs.Fields.{nurses, days};
 ghost use Rattle.rostercheck.specs.CodeCheck.{holds};
 
+use fields::Body;
+
 // Whether every row follows from patterns, and every day's needs, lows and highs hold.
-#[tactic(auto, unfolding(crate::specs::CodeCheck::holds))]
-pub fn roster_holds(w: &[u64], roster: &[u8]) -> bool
-    requires { Accepted w.now × (length roster.now ≡ nurses w.now * days w.now) }
-    ensures { result ≡ holds w.now roster.now }
+pub fn roster_holds(w: &Body, roster: &[u8]) -> bool
+    requires { length roster.now ≡ nurses w.now.numbers.now * days w.now.numbers.now }
+    ensures { result ≡ holds w.now.numbers.now roster.now }
 {
-    rows_of::rows_hold(w, roster) && needs::days_hold(w, roster)
+    (0..w.nurses()).all(|i| rows_of::row_holds(w, roster, i))
+        && (0..w.days()).all(|d| needs::day_holds(w, roster, d))
 }

@@ -1,13 +1,9 @@
 -- Laws of the pairs of days off: their days, and when one is a nurse's.
-use mathlib.Core.Path.{◌≡◌, refl, sym, ap, ap₂, ◌∙◌}
-use mathlib.Core.Bool.{Bool, true, false, ◌&&◌, ◌||◌, false≢true}
-use mathlib.Core.List.{List}
-use Prim.Native.Nat.{ℕ, zero, suc, ◌-◌, ◌^◌, ◌≤◌, ◌<◌}
-use native.Mathlib.Omega.{arith}
-use native.Mathlib.Decide.{dec_lt}
-use borrow.Author.Tests.{lt-ltb, le-leb, lt-leb, ne_eqb}
-use lib.Bits.{bit_or}
-use lib.Dec.{eqb, eqb-suc-suc}
+use Rattle.std.specs.Prelude.{◌≡◌, refl, Bool, true, false, ◌&&◌, ◌||◌, List, ℕ, zero, suc, ◌-◌, ◌^◌, ◌≤◌, ◌<◌, bit_or, eqb}
+use Rattle.std.proofs.Common.{sym, ap, ap₂, ◌∙◌, arith, lt-ltb, le-leb, ne_eqb}
+use Rattle.std.proofs.lemmas.Bool.{false≢true, lt-leb}
+use Rattle.std.proofs.Math.Dec.{eqb-suc-suc}
+use Rattle.std.proofs.Math.Decide.{dec_lt}
 use Rattle.numbers.specs.Digits.{has}
 use Rattle.numbers.specs.Sum.{one_if}
 use Rattle.numbers.proofs.DigitLaws.{bit_pow, bit_of_zero}

@@ -1,15 +1,9 @@
 -- Whether one of the pair numbers of a ward passes a test.
-use mathlib.Core.Path.{◌≡◌, refl, sym, ◌∙◌}
-use mathlib.Core.Bool.{Bool, true, false, ◌||◌, or-false, or-true, false≢true}
-use mathlib.Core.List.{List}
-use mathlib.Core.Logic.{⊎_elim}
-use Prim.Native.Nat.{ℕ, zero, suc, ◌+◌, ◌≤◌, ◌<◌}
-use native.Mathlib.Nat.{eq-or-lt_of_le}
-use native.Mathlib.Omega.{arith}
-use borrow.Author.Tests.{ne_eqb, eq-eqb, eqb-true, leb-true}
-use lib.Dec.{leb, eqb}
+use Rattle.std.specs.Prelude.{◌≡◌, refl, Bool, true, false, ◌||◌, List, ℕ, zero, suc, ◌+◌, ◌≤◌, ◌<◌, leb, eqb}
+use Rattle.std.proofs.Common.{sym, ◌∙◌, ⊎_elim, eq-or-lt_of_le, arith, ne_eqb, eq-eqb, eqb-true, leb-true}
+use Rattle.std.proofs.lemmas.Bool.{false≢true, and_parts}
+use Rattle.std.proofs.Math.Bool.{or-false, or-true}
 use Rattle.numbers.specs.Range.{up_from, any_of}
-use Rattle.numbers.proofs.RangeLaws.{and_parts}
 use Rattle.fields.specs.Fields.{pair_count}
 use Rattle.rows.specs.Pairs.{pair_numbers, pair_fits}
 

@@ -1,14 +1,8 @@
 -- Laws of rows.
-use mathlib.Core.Path.{◌≡◌, refl, ap, ap₂, ◌∙◌}
-use mathlib.Core.Bool.{Bool, true, false, cond, ◌&&◌}
-use mathlib.Core.List.{List}
-use Prim.Native.Nat.{ℕ, zero, suc, ◌+◌, ◌<◌}
-use native.Mathlib.Numerals.{add-one}
-use native.Mathlib.Omega.{arith}
-use lib.Dec.{eqb}
+use Rattle.std.specs.Prelude.{◌≡◌, refl, Bool, ◌&&◌, List, ℕ, zero, suc, ◌+◌, ◌<◌}
+use Rattle.std.proofs.Common.{ap, ap₂, ◌∙◌, add-one}
 use Rattle.numbers.specs.Range.{up_from, all}
 use Rattle.numbers.specs.Digits.{has}
-use lib.ListN.{get_or}
 use Rattle.numbers.proofs.AllLaws.{all_same}
 use Rattle.fields.specs.Fields.{duty, mark_on}
 use Rattle.rows.specs.Rows.{state_after, day_zero, row_state, allows, marks_allow, available, available_on, duty_of, duty_on}
@@ -21,18 +15,6 @@ pub row_turn : (b : List ℕ) (p d : ℕ) → row_state b p (d + 1) ≡ state_af
 unfolding row_state
 row_turn b p d = rw (add-one d)
 
--- ---- a row's states
-
-pub state_small : (b : List ℕ) (p d : ℕ) → row_state b p (suc d) < 4
-unfolding row_state
-state_small b p d = go (has p d) (eqb (row_state b p d) 1) (eqb (row_state b p d) 2)
-  where
-    go : (x y z : Bool) → cond x 1 (cond y 2 (cond z 3 0)) < 4
-    go true y z = omega arith
-    go false true z = omega arith
-    go false false true = omega arith
-    go false false false = omega arith
-
 -- ---- a row judged by the marks
 
 -- over the days, from 1 on, as over their indices
@@ -41,10 +23,10 @@ unfolding all up_from
 all_shifted t a zero = refl
 all_shifted t a (suc n) = ap (λ (b : Bool). t (suc a) && b) (all_shifted t (suc a) n)
 
-pub marks_by_index : (table : List (List ℕ)) (b : List ℕ) (p n : ℕ) (states : List ℕ) → ((d : ℕ) → d < n → get_or states d 0 ≡ row_state b p (suc d))
-    → all (λ d. allows table (mark_on b (suc d)) (get_or states d 0)) (up_from 0 n) ≡ marks_allow table b n p
+pub marks_by_index : (table : List (List ℕ)) (b : List ℕ) (p n : ℕ) (state : ℕ → ℕ) → ((d : ℕ) → d < n → state d ≡ row_state b p (suc d))
+    → all (λ d. allows table (mark_on b (suc d)) (state d)) (up_from 0 n) ≡ marks_allow table b n p
 unfolding marks_allow
-marks_by_index table b p n states e =
+marks_by_index table b p n state e =
     all_same _ _ n (λ d h. ap (allows table (mark_on b (suc d))) (e d h)) ∙ all_shifted (λ d. allows table (mark_on b d) (row_state b p d)) 0 n
 
 -- ---- the duty of a day

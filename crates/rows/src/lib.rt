@@ -3,15 +3,28 @@
 
 pub mod pairs;
 
-ghost use Rattle.std.specs.Prelude.{◌≡◌, ℕ, suc, ◌≤◌, ◌<◌, length, get_or};
+ghost use Rattle.std.specs.Prelude.{◌≡◌, ℕ, suc, ◌≤◌, ◌<◌, get_or, length};
 ghost use Rattle.fields.specs.Sizes.{day_places};
+ghost use Rattle.rows.specs.declared.State.TheVariants.{Open};
+ghost use Rattle.rows.specs.States.{code};
 ghost use Rattle.rows.specs.Rows.{allow_table, allows, state_after, day_zero, row_state, available, duty_of};
 
 use fields::nurse;
 use fields::sizes::DAYS;
 use numbers::Set;
 
-// What each mark allows, by the day's state: O, N, n, R.
+// The state of a day: open (O), the night's first day (N), its second day (n), owed rest (R).
+#[derive(Clone, Copy, Debug, PartialEq, Eq)]
+pub enum State {
+    Open = 0,
+    Night = 1,
+    Second = 2,
+    Rest = 3,
+}
+
+// Marks and duties are the file's numbers, here and in every crate above, as fields/src/nurse.rt says.
+
+// What each mark allows, by the day's state.
 const ALLOWS: [[u8; 4]; 7] = [
     [1, 1, 1, 1],
     [1, 0, 0, 1],
@@ -30,48 +43,45 @@ pub fn allow_table() -> [[u8; 4]; 7]
 }
 
 // By a table of that form.
-pub fn mark_allows(table: &[[u8; 4]; 7], mark: usize, state: usize) -> bool
-    requires { (mark < 7) × (state < 4) }
-    ensures { result ≡ allows table.now mark state }
+pub fn mark_allows(table: &[[u8; 4]; 7], mark: usize, state: State) -> bool
+    requires { mark < 7 }
+    ensures { result ≡ allows table.now mark (code state) }
 {
-    table[mark][state] == 1
+    table[mark][state as usize] == 1
 }
 
 // The state of a day after that of the day before.
-fn state_after(before: usize, started: bool) -> usize
-    ensures is { result ≡ state_after before started }
-    ensures small { result < 4 }
+fn state_after(before: State, started: bool) -> State
+    ensures { code result ≡ state_after (code before) started }
 {
     match before {
-        _ if started => 1,
-        1 => 2,
-        2 => 3,
-        _ => 0,
+        _ if started => State::Night,
+        State::Night => State::Second,
+        State::Second => State::Rest,
+        _ => State::Open,
     }
 }
 
 // The state of day 0, by its duty.
-fn day_zero(duty: u64) -> usize
-    ensures is { result ≡ day_zero duty }
-    ensures small { result < 3 }
+fn day_zero(duty: u64) -> State
+    ensures { code result ≡ day_zero duty }
 {
     match duty {
-        2 => 1,
-        3 => 2,
-        _ => 0,
+        2 => State::Night,
+        3 => State::Second,
+        _ => State::Open,
     }
 }
 
-// The state of every day of a month of n days under night pattern p, and 0 after them.
-#[tactic(auto, using(crate::proofs::RowLaws::state_small, crate::proofs::RowLaws::row_zero))]
-pub fn states(b: &[u64], n: usize, p: u32) -> [usize; DAYS]
-    requires { (n ≤ day_places) × (7 ≤ length b.now) }
-    ensures are { (d : ℕ) → d < n → get_or result d 0 ≡ row_state b.now p (suc d) }
-    ensures small { (d : ℕ) → d < n → get_or result d 0 < 4 }
+// The state of every day of a month under night pattern p, and open after them, by her numbers.
+#[tactic(auto, using(crate::proofs::RowLaws::row_zero))]
+pub fn states(numbers: &[u64], days: usize, p: u32) -> [State; DAYS]
+    requires { (days ≤ day_places) × (7 ≤ length numbers.now) }
+    ensures { (d : ℕ) → d < days → code (get_or result d Open) ≡ row_state numbers.now p (suc d) }
 {
-    let mut states = [0usize; DAYS];
-    let mut state = day_zero(nurse::last_duty(b));
-    for d in 0..n {
+    let mut states = [State::Open; DAYS];
+    let mut state = day_zero(nurse::last_duty(numbers));
+    for d in 0..days {
         state = state_after(state, p.has(d));
         states[d] = state;
     }
@@ -79,23 +89,23 @@ pub fn states(b: &[u64], n: usize, p: u32) -> [usize; DAYS]
 }
 
 // Open days marked 0, 2 or 5.
-pub fn is_available(mark: u64, state: usize) -> bool
-    ensures { result ≡ available mark state }
+pub fn is_available(mark: u64, state: State) -> bool
+    ensures { result ≡ available mark (code state) }
 {
-    state == 0 && matches!(mark, 0 | 2 | 5)
+    matches!(state, State::Open) && matches!(mark, 0 | 2 | 5)
 }
 
 // The duty of a day: 0 rest, 1 day, 2 the night's first day, 3 its second day, 4 other.
-pub fn duty_of(mark: u64, state: usize, worked: bool) -> u64
-    ensures is { result ≡ duty_of mark state worked }
+pub fn duty_of(mark: u64, state: State, worked: bool) -> u64
+    ensures is { result ≡ duty_of mark (code state) worked }
     ensures small { result < 5 }
 {
     match state {
-        1 => 2,
-        2 => 3,
-        3 => 0,
-        _ if worked => 1,
-        _ if mark == 4 => 4,
-        _ => 0,
+        State::Night => 2,
+        State::Second => 3,
+        State::Rest => 0,
+        State::Open if worked => 1,
+        State::Open if mark == 4 => 4,
+        State::Open => 0,
     }
 }

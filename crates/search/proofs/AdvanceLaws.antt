@@ -1,17 +1,10 @@
 -- An advance over stored records, as a loop of steps makes it; and sessions of such advances follow the history.
-use Prim.Native.Nat.{ℕ, suc, ◌+◌, ◌-◌, ◌≤◌, ◌<◌, min}
-use mathlib.Core.Path.{◌≡◌, refl, sym, ap, ap₂, ◌∙◌, subst}
-use mathlib.Core.Bool.{Bool, true, false, cond, ◌&&◌, false≢true}
-use mathlib.Core.Logic.{◌≢◌}
-use mathlib.Core.List.{List, []}
-use mathlib.Core.Option.{Option, none, some}
-use Rattle.std.specs.Prelude.{Option as StoredOption, Some, None}
+use Rattle.std.specs.Prelude.{ℕ, suc, ◌+◌, ◌-◌, ◌≤◌, ◌<◌, min, ◌≡◌, refl, Bool, true, false, cond, ◌&&◌, ◌≢◌, List, [], Option as StoredOption, Some, None, eqb, length}
+use Rattle.std.proofs.Common.{sym, ap, ap₂, ◌∙◌, subst, add-zero, arith, eqb-true}
+use Rattle.std.proofs.lemmas.Bool.{false≢true, and_parts}
+use Rattle.std.proofs.Math.Nat.{sub-zero}
+use Rattle.std.proofs.Math.Option.{Option, none, some}
 use Rattle.std.specs.Option.{is_some, unwrap_or}
-use native.Mathlib.Nat.{sub-zero, add-zero}
-use native.Mathlib.Omega.{arith}
-use lib.Dec.{eqb}
-use lib.ListN.{length}
-use borrow.Author.Tests.{eqb-true}
 use Rattle.numbers.specs.Range.{Ascending, up_from}
 use Rattle.numbers.proofs.AllLaws.{all_each}
 use Rattle.refusals.proofs.OrderLaws.{first_last}
@@ -32,7 +25,6 @@ use Rattle.search.specs.CodeSteps.{exchanged_in, stepped_of}
 use Rattle.search.specs.declared.Record.{Record as Stored}
 use Rattle.search.specs.declared.Stepped.{Stepped}
 use Rattle.best.specs.declared.Exchange.{Exchange}
-use Rattle.history.proofs.TestLaws.{and_true}
 use Rattle.history.proofs.ChooseLaws.{least_first, offers_only, range_only}
 use Rattle.history.proofs.RunLaws.{run_zero, run_asked, run_none_left, run_on}
 use Rattle.history.proofs.FollowLaws.{lacking_none, advance_refused, advance_goes, proceed_extend}
@@ -60,7 +52,7 @@ best_hers P R s e =
 pub sound_own : (P : Phase) (R : Record) → sound P R ≡ true → (i : ℕ) → i < P.nurses → hers P i (R.slots i) ≡ true
 unfolding sound
 sound_own P R e i l =
-    all_each (λ j. hers P j (R.slots j)) P.nurses i (and_true _ (all_name P R.removals && eqb (length R.removals) (min R.steps P.tabu)) e).0 l
+    all_each (λ j. hers P j (R.slots j)) P.nurses i (and_parts _ (all_name P R.removals && eqb (length R.removals) (min R.steps P.tabu)) e).0 l
 
 -- everyone's slot is her own after an exchange of hers
 exchanged_own : (P : Phase) (R : Record) (s : Step) → among (P.patterns s.nurse) s.pattern ≡ true → ((i : ℕ) → i < P.nurses → hers P i (R.slots i) ≡ true)
@@ -86,7 +78,7 @@ module _ (P : Phase) (past_zero : Bool) (k : ℕ) (r₀ : Stored) where
   pub running_start : Sized r₀ → sound_stored P r₀ ≡ true → Running P past_zero k r₀ r₀ 0
   unfolding sound_stored
   running_start s e =
-      let a = and_true (sound P (view_of P r₀)) (unused_zero P.nurses P.tabu r₀) e in
+      let a = and_parts (sound P (view_of P r₀)) (unused_zero P.nurses P.tabu r₀) e in
       record {
         at_most = omega arith;
         counted = sym (add-zero r₀.steps);

@@ -1,14 +1,10 @@
 -- The exchange that a step takes, over everyone's lists; and what a step makes of columns and penalty.
-use Prim.Native.Nat.{ℕ, ◌+◌, ◌*◌, ◌≤◌, ◌<◌, min}
-use mathlib.Core.Path.{◌≡◌, refl, sym, ap, ap₂, ◌∙◌, subst, fun_ext}
-use mathlib.Core.Bool.{Bool, true, false, cond, not, ◌&&◌, ◌||◌, false≢true}
-use mathlib.Core.List.{List}
-use mathlib.Core.Option.{some}
-use native.Mathlib.Omega.{arith}
-use lib.Dec.{eqb}
-use lib.ListN.{get_or, set, replicate}
-use lib.Seq.{get_or-set_same, get_or-set_other}
-use borrow.Author.Tests.{lt-ltb, eqb-true, eqb-false}
+use Rattle.std.specs.Prelude.{ℕ, ◌+◌, ◌*◌, ◌≤◌, ◌<◌, ◌≡◌, refl, Bool, true, false, cond, not, ◌&&◌, ◌||◌, List, eqb, get_or, set, take, Option, Some, None}
+use Rattle.std.proofs.Common.{sym, ap, ap₂, ◌∙◌, subst, arith, get_or-set_same, get_or-set_other, lt-ltb, eqb-true}
+use Rattle.std.proofs.lemmas.Bool.{eqb-false}
+use Rattle.std.proofs.Math.Option.{some}
+use Rattle.std.proofs.Math.Path.{fun_ext}
+use Rattle.std.specs.Bool.{then_some}
 use Rattle.fields.specs.Sizes.{nurse_places}
 use Rattle.numbers.specs.Range.{any_of}
 use Rattle.numbers.specs.Sum.{count_to, one_if, Is}
@@ -22,25 +18,25 @@ use Rattle.history.specs.Phase.{Phase}
 use Rattle.history.specs.Record.{may_take, cost_after}
 use Rattle.penalty.specs.declared.Penalty.{Penalty}
 use Rattle.penalty.specs.Penalty.{parts_of, total, rest, unplaced_in, starts_in, at_night, available_in, at_day, parts_in}
-use Rattle.penalty.specs.CodeColumns.{Same, Shows, PutAt}
-use Rattle.penalty.proofs.ColumnLaws.{zeros, same_as, night_after, available_after, day_after}
+use Rattle.penalty.specs.CodeColumns.{Same, Shows, NursePut}
+use Rattle.penalty.proofs.ColumnLaws.{same_as, night_after, available_after, day_after}
 use Rattle.penalty.proofs.BoundLaws.{night_split, day_split, unplaced_after}
 use Rattle.trials.specs.Trials.{CountsIn}
 use Rattle.removals.specs.Removals.{slot}
-use Rattle.removals.specs.declared.Given.{Given}
-use Rattle.removals.specs.CodeGiven.{GivenUp, given_up_by}
-use Rattle.margins.specs.CodeMargins.{Slight}
-use Rattle.std.specs.Prelude.{Some, None}
+use Rattle.removals.specs.CodeGiven.{is_current, given_up_by}
+use Rattle.removals.specs.declared.Removal.{Removal as StoredRemoval}
 use Rattle.best.specs.CodeBest.{Best, over_list, cost_in, best_over}
 use Rattle.best.proofs.BestLaws.{nurses_none, nurses_turn}
 use Rattle.best.specs.declared.Exchange.{Exchange}
-use Rattle.tries.specs.CodeTries.{Bars, NightList, tried_in}
-use Rattle.tries.specs.declared.nurse.Counts.{Counts}
-use Rattle.search.specs.Stored.{slot_at, view, view_of, sound_stored, Sized}
+use Rattle.tries.specs.CodeTries.{Bars, AllHers, offered, NightList, tried_in}
+use Rattle.tries.specs.declared.nurse.Offered.{Offered}
+use Rattle.tries.specs.declared.nurse.Offered.TheVariants.{Own, Common}
+use Rattle.ownlists.specs.declared.Source.{Source}
+use Rattle.ownlists.specs.declared.Source.TheVariants.{Kept, Whole, Among}
+use Rattle.search.specs.Stored.{slot_at, held, view, view_of, sound_stored, Sized}
 use Rattle.search.specs.CodeSteps.{exchanged_in, stepped_of}
-use Rattle.search.specs.CodeSeek.{cost_of, Agree, SeeksBy, list_at}
-use Rattle.search.specs.CodeChoice.{ColumnsOf, MayBy, OneNeeds, BestNeeds, tried_in_offers, Room, SeeksIn, StepNeeds}
-use Rattle.tables.proofs.SumLaws.{zeros_blank}
+use Rattle.search.specs.CodeSeek.{cost_of, Agree, SeeksBy, listed_by}
+use Rattle.search.specs.CodeChoice.{ColumnsOf, MayBy, IsOffered, SourceHers, BestNeeds, tried_in_offers, SeeksIn, StepNeeds}
 use Rattle.search.specs.declared.choice.Offers.{Offers}
 use Rattle.penalty.specs.declared.columns.Columns.{Columns}
 use Rattle.search.specs.declared.Stepped.{Stepped}
@@ -54,22 +50,14 @@ pub view_agrees : (w : List ℕ) (r : Stored) (P : Phase) → P.nurses ≡ nurse
 unfolding Agree view
 view_agrees w r P e j h = rw (lt-ltb j P.nurses (omega arith))
 
--- no margins yet
-pub slight_zeros : Slight (replicate 1152 0)
-slight_zeros = record { slight = λ e q. omega (arith, zeros 1152 e) }
-
--- before the first step
-pub room_fresh : (w : List ℕ) → Room w (record { nightly = replicate 1152 0; daily = replicate 1152 0; table = replicate 1536 0 })
-room_fresh w = record { nightly_slight = slight_zeros; daily_slight = slight_zeros; table_blank = zeros_blank (days w) }
-
 -- ---- one nurse
 
-module _ {o : Offers} {cols : Columns} {u : ℕ} {r : Stored} (n : BestNeeds o cols u r) where
+module _ {o : Offers} {cols : Columns} {u : ℕ} {r : Stored} (n : BestNeeds o cols u r) (ward : Accepted o.ward.now.numbers.now) where
   abbrev in_search : Search
   in_search = o.search
 
   abbrev w : List ℕ
-  w = o.ward.now
+  w = o.ward.now.numbers.now
 
   -- what she tries
   abbrev tried : ℕ → List ℕ
@@ -108,43 +96,54 @@ module _ {o : Offers} {cols : Columns} {u : ℕ} {r : Stored} (n : BestNeeds o c
         ∙ sym (s.cost_is (exchanged slots_in i p) ∙ splits in_search p))
       where
         splits : (d : Search) (p : ℕ) → cost_of d w (exchanged slots_in i p) ≡ rest (parts_in d w (exchanged slots_in i p)) + 10000000 * unplaced_in w (exchanged slots_in i p)
-        splits Days p = (day_split w (exchanged slots_in i p) n.ward).0 ∙ omega arith
-        splits Nights p = (night_split w (exchanged slots_in i p) n.ward).0 ∙ omega arith
+        splits Days p = (day_split w (exchanged slots_in i p) ward).0 ∙ omega arith
+        splits Nights p = (night_split w (exchanged slots_in i p) ward).0 ∙ omega arith
 
-    -- what she may take, by what was gathered
-    may_gathered : {k : ℕ} {given : Given} → Sized r → k ≡ min r.steps (tabu w) → GivenUp r.removals k given
-        → MayBy may given.nurses given.patterns k i r
-    may_gathered z q g p = may_by P.nurses P.tabu r i p (omega (arith, s.nurses_are)) z (q ∙ ap (min r.steps) (sym s.tabu_is)) (omega (arith, s.tabu_is, n.ward.tabu_at_most)) g
+    -- what she may take
+    may_here : MayBy may w i r
+    may_here p =
+        may_by P.nurses P.tabu r i p (omega (arith, s.nurses_are))
+        ∙ ap (λ (k : ℕ). not ((get_or r.placed i false && eqb (get_or r.patterns i 0) p) || given_up_by (take (held k r) r.removals) (i + 1) p)) s.tabu_is
 
     -- what the loop over her list found, as the phase has it
-    pub nurse_found : (held : Best) {k : ℕ} {given : Given} {res : Best} → Sized r → k ≡ min r.steps (tabu w) → GivenUp r.removals k given
-        → ((slots : ℕ → Slot) (f : ℕ → Bool) (a : ℕ) → Shows in_search w slots cols → MayBy f given.nurses given.patterns k i r → u ≡ a + one_if (not (get_or r.placed i false))
-        → res ≡ over_list f (λ p. rest (parts_in in_search w (exchanged slots i p)) + 10000000 * a) i held (tried i))
-        → res ≡ over_list may (cost_in P (view_of P r) i) i held (P.patterns i)
-    nurse_found held z q g f =
-        f slots_in may others (n.shown.shows slots_in agrees) (may_gathered z q g) (others_then 0)
-        ∙ ap (λ (c : ℕ → ℕ). over_list may c i held (tried i)) costs
-        ∙ ap (over_list may (cost_in P (view_of P r) i) i held) (sym (s.patterns_are i l))
+    pub nurse_found : (best : Best) {res : Best}
+        → ((slots : ℕ → Slot) (f : ℕ → Bool) (a : ℕ) → Shows in_search w slots cols → MayBy f w i r → u ≡ a + one_if (not (get_or r.placed i false))
+        → res ≡ over_list f (λ p. rest (parts_in in_search w (exchanged slots i p)) + 10000000 * a) i best (tried i))
+        → res ≡ over_list may (cost_in P (view_of P r) i) i best (P.patterns i)
+    nurse_found best f =
+        f slots_in may others (n.shown.shows slots_in agrees) may_here (others_then 0)
+        ∙ ap (λ (c : ℕ → ℕ). over_list may c i best (tried i)) costs
+        ∙ ap (over_list may (cost_in P (view_of P r) i) i best) (sym (s.patterns_are i l))
 
--- by her list, where she may take what is not among those gathered
-pub bars_are : (may : ℕ → Bool) (nurses patterns : List ℕ) (count i : ℕ) (r : Stored) (bars : List ℕ) → MayBy may nurses patterns count i r
-    → ((p : ℕ) → any_of (λ y. eqb y p) bars ≡ ((get_or r.placed i false && eqb (get_or r.patterns i 0) p) || given_up_by nurses patterns (i + 1) p count)) → Bars may bars
-bars_are may nurses patterns count i r bars m g p = m p ∙ ap not (sym (g p))
+current_is : (b : Bool) (v p : ℕ) → is_current (then_some b v) p ≡ (b && eqb v p)
+current_is true v p = refl
+current_is false v p = refl
 
--- by night her stretch is all hers, or the lists are the common one
-pub night_list : {o : Offers} {c : Counts} {count unplaced i : ℕ} → OneNeeds o c count unplaced i → o.search ≡ Nights → {list : List ℕ} {whole : Bool}
-    → list ≡ list_at o.lists.now o.own.now o.plan.now i → whole ≡ (get_or o.plan.now.kept i false || get_or o.plan.now.whole i false) → NightList o.ward.now list i whole
-night_list {o} {c} {i = i} n z {list} {whole} e q = go (get_or o.plan.now.kept i false) refl
-  where
-    go : (b : Bool) → get_or o.plan.now.kept i false ≡ b → NightList o.ward.now list i whole
-    go true f = record {
-      when_whole = λ _. rw (e, f) ((n.plan_at.by_night z).stretch_hers f);
-      when_common = λ h. absurd (false≢true (sym h ∙ q ∙ rw f));
-    }
-    go false f = record {
-      when_whole = λ h. rw (e, f) ((n.plan_at.by_night z).whole_hers (sym (q ∙ rw f) ∙ h));
-      when_common = λ _. rw (e, f) (n.plan_at.by_night z).common;
-    }
+-- the bars gathered are what she may not take
+pub bars_are : (may : ℕ → Bool) (w : List ℕ) (i : ℕ) (r : Stored) {current : Option ℕ} {gave : List StoredRemoval} (bars : List ℕ)
+    → MayBy may w i r → current ≡ then_some (get_or r.placed i false) (get_or r.patterns i 0) → gave ≡ take (held (tabu w) r) r.removals
+    → ((p : ℕ) → any_of (λ y. eqb y p) bars ≡ (is_current current p || given_up_by gave (i + 1) p)) → Bars may bars
+bars_are may w i r bars m e q g p =
+    let placed = ap (λ (o : Option ℕ). is_current o p) e ∙ current_is (get_or r.placed i false) (get_or r.patterns i 0) p in
+    m p ∙ ap not (sym (g p ∙ ap₂ (λ (b : Bool) (l : List StoredRemoval). b || given_up_by l (i + 1) p) placed q))
+
+-- by night her list is all hers, or the common one
+pub night_list : (w lists own : List ℕ) (i : ℕ) (s : Source) (list : Offered) → IsOffered lists own s list → SourceHers w lists own i s → NightList w i list
+night_list w lists own i (Kept b e) (Own l) q h = subst (AllHers w i) (sym q) h
+night_list w lists own i (Kept b e) (Common l) q h = absurd q
+night_list w lists own i Whole (Own l) q h = subst (AllHers w i) (sym q) h
+night_list w lists own i Whole (Common l) q h = absurd q
+night_list w lists own i Among (Own l) q h = absurd q
+night_list w lists own i Among (Common l) q h = q ∙ h
+
+-- its patterns
+pub offered_is : (lists own : List ℕ) (s : Source) (list : Offered) → IsOffered lists own s list → offered list ≡ listed_by lists own s
+offered_is lists own (Kept b e) (Own l) q = q
+offered_is lists own (Kept b e) (Common l) q = absurd q
+offered_is lists own Whole (Own l) q = q
+offered_is lists own Whole (Common l) q = absurd q
+offered_is lists own Among (Own l) q = absurd q
+offered_is lists own Among (Common l) q = q
 
 -- what was found, by her list and the unplaced besides her
 pub found_in : (which : Search) (w : List ℕ) (may : ℕ → Bool) (cost : ℕ → ℕ) (i : ℕ) (held : Best) {others a : ℕ} {list tried : List ℕ} {r : Best} → a ≡ others → list ≡ tried
@@ -208,12 +207,12 @@ module _ {which : Search} {w : List ℕ} {tried : ℕ → List ℕ} {P : Phase} 
 -- ---- what a step asks, and its choice
 
 module _ {o : Offers} {cols : Columns} {r : Stored} (n : StepNeeds o cols r) where
-  pub count_as : {m u : ℕ} → m ≡ nurses o.ward.now → Is u (count_to m (λ j. not (get_or r.placed j false))) nurse_places
-      → Is u (count_to (nurses o.ward.now) (λ j. not (get_or r.placed j false))) nurse_places
+  pub count_as : {m u : ℕ} → m ≡ nurses o.ward.now.numbers.now → Is u (count_to m (λ j. not (get_or r.placed j false))) nurse_places
+      → Is u (count_to (nurses o.ward.now.numbers.now) (λ j. not (get_or r.placed j false))) nurse_places
   count_as {u = u} e q = subst (λ (k : ℕ). Is u (count_to k (λ j. not (get_or r.placed j false))) nurse_places) e q
 
   -- the nurse of the exchange that was chosen
-  pub chosen_nurse : {b : Best} {y : Exchange} → ((P : Phase) → SeeksIn o P → b ≡ best_over P (view_of P r) P.nurses) → b ≡ Some y → y.nurse < nurses o.ward.now
+  pub chosen_nurse : {b : Best} {y : Exchange} → ((P : Phase) → SeeksIn o P → b ≡ best_over P (view_of P r) P.nurses) → b ≡ Some y → y.nurse < nurses o.ward.now.numbers.now
   chosen_nurse f q = seeks_nurse n.sought r (f n.phase n.sought) q
 
 -- ---- the columns after a step
@@ -239,11 +238,10 @@ trial_total which w cols i p nights free placed f c g e slots s q = e ∙ ap tot
 
 -- nurse i is in the columns as the sets of her new pattern say
 pub columns_after : (which : Search) (w : List ℕ) {cols cols' : Columns} {r r' : Stored} (i p nights free tl : ℕ) {n : ℕ} → r' ≡ exchanged_in tl r i p → Sized r → i < nurses w → nurses w ≤ nurse_places → n ≡ days w
-    → ColumnsOf which w r cols → CountsIn which w i p nights free → ((d : ℕ) → d < n → PutAt cols.night cols'.night i nights d) → ((d : ℕ) → d < n → PutAt cols.day cols'.day i free d)
-    → ColumnsOf which w r' cols'
+    → ColumnsOf which w r cols → CountsIn which w i p nights free → NursePut cols cols' n i nights free → ColumnsOf which w r' cols'
 unfolding Agree
-columns_after which w {cols} {cols'} {r} {r'} i p nights free tl {n} after z l most e shown c a b =
-    record { shows = λ slots same. go slots (λ j h. same j h ∙ ap (λ (x : Stored). slot_at x j) after) which shown c }
+columns_after which w {cols} {cols'} {r} {r'} i p nights free tl {n} after z l most e shown c x =
+    record { shows = λ slots same. go slots (λ j h. same j h ∙ ap (λ (v : Stored). slot_at v j) after) which shown c }
   where
     was : ℕ → Slot
     was = slot_at r
@@ -256,19 +254,19 @@ columns_after which w {cols} {cols'} {r} {r'} i p nights free tl {n} after z l m
     go slots same Nights s g = record {
       night_shown = λ d h.
           let y = night_after w was i p l d _ ((s.shows was (λ j k. refl)).night_shown d h) in
-          let put_is = a d (omega arith) ∙ ap (λ (x : ℕ). put (has (get_or cols.night d 0)) i (has x d)) g.starts_are in
+          let put_is = x.night_put d (omega arith) ∙ ap (λ (x : ℕ). put (has (get_or cols.night d 0)) i (has x d)) g.starts_are in
           subst (λ (f : ℕ → Bool). Same (nurses w) f (at_night w slots d)) (sym put_is)
           (same_as (nurses w) _ (at_night w (exchanged was i p) d) y (at_night w slots d) (λ j k. ap (λ (t : Slot). has (days_of (starts_in w j t)) d) (sym (now_is slots same j k))));
       available_shown = λ d h.
           let y = available_after w was i p l d _ ((s.shows was (λ j k. refl)).available_shown d h) in
-          let put_is = b d (omega arith) ∙ ap (put (has (get_or cols.day d 0)) i) (g.free_are d h) in
+          let put_is = x.day_put d (omega arith) ∙ ap (put (has (get_or cols.day d 0)) i) (g.free_are d h) in
           subst (λ (f : ℕ → Bool). Same (nurses w) f (available_in w slots d)) (sym put_is)
           (same_as (nurses w) _ (available_in w (exchanged was i p) d) y (available_in w slots d) (λ j k. ap (λ (t : Slot). available_in w (λ x. t) d j) (sym (now_is slots same j k))));
     }
     go slots same Days s g = record {
       day_shown = λ d h.
           let y = day_after w was i p l d _ ((s.shows was (λ j k. refl)).day_shown d h) in
-          let put_is = b d (omega arith) ∙ ap (λ (x : ℕ). put (has (get_or cols.day d 0)) i (has x d)) g in
+          let put_is = x.day_put d (omega arith) ∙ ap (λ (x : ℕ). put (has (get_or cols.day d 0)) i (has x d)) g in
           subst (λ (f : ℕ → Bool). Same (nurses w) f (at_day w slots d)) (sym put_is)
           (same_as (nurses w) _ (at_day w (exchanged was i p) d) y (at_day w slots d) (λ j k. ap (λ (t : Slot). at_day w (λ x. t) d j) (sym (now_is slots same j k))));
     }

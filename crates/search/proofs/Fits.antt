@@ -1,5 +1,5 @@
 -- What proofs take of a phase whose records are stored.
-use Prim.Native.Nat.{◌≤◌}
+use Rattle.std.specs.Prelude.{◌≤◌}
 use Rattle.fields.specs.Sizes.{nurse_places, tabu_most}
 use Rattle.history.specs.Phase.{Phase}
 

@@ -1,13 +1,7 @@
 -- Question 11 of a stored record, as loops over its nurses and its removals ask it.
-use Prim.Native.Nat.{ℕ, zero, suc, ◌≤◌, min}
-use mathlib.Core.Path.{◌≡◌, refl, sym, ap, ap₂, ◌∙◌}
-use mathlib.Core.Bool.{Bool, ◌&&◌}
-use mathlib.Core.List.{List, [], ◌∷◌, ◌++◌, map}
-use native.Mathlib.Omega.{arith}
-use native.Mathlib.Numerals.{add-one}
-use lib.ListN.{length, get_or, take}
-use lib.Seq.{take-suc}
-use borrow.Author.Tests.{lt-ltb, eq-eqb}
+use Rattle.std.specs.Prelude.{ℕ, zero, suc, ◌≤◌, min, ◌≡◌, refl, Bool, ◌&&◌, List, [], ◌∷◌, ◌++◌, map, length, get_or, take}
+use Rattle.std.proofs.Common.{sym, ap, ap₂, ◌∙◌, arith, add-one, take-suc, lt-ltb, eq-eqb}
+use Rattle.std.proofs.Math.Bool.{and-true, and_assoc}
 use Rattle.numbers.specs.Range.{up_from, all}
 use Rattle.numbers.proofs.AllLaws.{all_none, all_more, all_same}
 use Rattle.history.specs.Phase.{Phase}
@@ -17,7 +11,6 @@ use Rattle.search.specs.Stored.{slot_at, held, view, view_of, names_at, unused_z
 use Rattle.search.proofs.Fits.{Fits}
 use Rattle.search.specs.declared.Record.{Record as Stored}
 use Rattle.removals.specs.declared.Removal.{Removal as StoredRemoval}
-use Rattle.history.proofs.TestLaws.{and_assoc, and_with_true}
 use Rattle.search.proofs.StoredLaws.{view_held}
 
 module _ (P : Phase) where
@@ -32,7 +25,7 @@ module _ (P : Phase) where
   name_all rs (suc n) l =
       ap (λ (x : List StoredRemoval). all_name P (map removal_of x)) (take-suc rs n no_removal l)
       ∙ name_append (take n rs) (get_or rs n no_removal ∷ [])
-      ∙ ap₂ (λ (a b : Bool). a && b) (name_all rs n (omega arith)) (and_with_true (names_at P rs n))
+      ∙ ap₂ (λ (a b : Bool). a && b) (name_all rs n (omega arith)) (and-true (names_at P rs n))
       ∙ sym (all_more (names_at P rs) n) ∙ ap (λ (k : ℕ). all (names_at P rs) (up_from 0 k)) (add-one n)
 
   slots_all : (r : Stored) → all (λ i. hers P i ((view_of P r).slots i)) (up_from 0 P.nurses) ≡ all (λ i. hers P i (slot_at r i)) (up_from 0 P.nurses)
@@ -46,5 +39,5 @@ module _ (P : Phase) where
   unfolding sound_stored sound view
   question_eleven r s f =
       let n : length (map removal_of (take (held P.tabu r) r.removals)) ≡ min r.steps P.tabu = (view_held P.nurses P.tabu r s f.tabu_at_most).count in
-      rw (slots_all r, name_all r.removals (held P.tabu r) (omega (arith, s.removals_long, f.tabu_at_most)), eq-eqb _ _ n, and_with_true)
+      rw (slots_all r, name_all r.removals (held P.tabu r) (omega (arith, s.removals_long, f.tabu_at_most)), eq-eqb _ _ n, and-true)
       (and_assoc (all (λ i. hers P i (slot_at r i)) (up_from 0 P.nurses)) (all (names_at P r.removals) (up_from 0 (held P.tabu r))) (unused_zero P.nurses P.tabu r))

@@ -1,11 +1,7 @@
 -- A record that an advance hands back has its declared sizes.
-use Prim.Native.Nat.{ℕ, suc, ◌≤◌}
-use mathlib.Core.Path.{◌≡◌, refl, sym, subst}
-use mathlib.Core.Bool.{Bool}
-use mathlib.Core.List.{◌∷◌}
-use mathlib.Core.Option.{Option, none, some}
-use native.Mathlib.Omega.{arith}
-use lib.ListN.{length, length-take}
+use Rattle.std.specs.Prelude.{ℕ, suc, ◌≤◌, ◌≡◌, refl, Bool, ◌∷◌, length}
+use Rattle.std.proofs.Common.{sym, subst, arith, length-take}
+use Rattle.std.proofs.Math.Option.{Option, none, some}
 use Rattle.fields.specs.Sizes.{removal_places, tabu_most}
 use Rattle.refusals.specs.declared.Refusal.{Refusal}
 use Rattle.history.specs.Phase.{Phase, Step, Call, Answer, stops}

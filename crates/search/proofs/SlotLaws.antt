@@ -1,15 +1,8 @@
 -- Laws of a record's slots: the sets in which nurses count, the columns that they make, and the penalty.
-use Prim.Native.Nat.{ℕ, zero, suc, ◌+◌, ◌-◌, ◌^◌, ◌≤◌, ◌<◌}
-use mathlib.Core.Path.{◌≡◌, refl, sym, ap, ap₂, ◌∙◌, subst}
-use mathlib.Core.Bool.{Bool, true, false, not, ◌&&◌}
-use mathlib.Core.List.{List}
-use Rattle.std.specs.List.{sum_by}
+use Rattle.std.specs.Prelude.{ℕ, zero, suc, ◌+◌, ◌-◌, ◌^◌, ◌≤◌, ◌<◌, ◌≡◌, refl, Bool, true, false, not, ◌&&◌, List, bit_and, eqb, length, get_or, take}
+use Rattle.std.proofs.Common.{sym, ap, ap₂, ◌∙◌, subst, add-one, arith}
 use Rattle.std.proofs.lemmas.List.Sums.{sum_by_more}
-use native.Mathlib.Numerals.{add-one}
-use native.Mathlib.Omega.{arith}
-use lib.Bits.{bit_and}
-use lib.Dec.{eqb}
-use lib.ListN.{length, get_or, take}
+use Rattle.std.specs.List.{sum_by}
 use Rattle.fields.specs.Sizes.{nurse_places, day_places}
 use Rattle.numbers.specs.Sum.{sum_to, count_to, one_if, Is}
 use Rattle.numbers.specs.Digits.{has, number_of}
@@ -17,10 +10,8 @@ use Rattle.numbers.specs.Patterns.{pattern, unpaired, days_of, pair_of}
 use Rattle.numbers.proofs.SumLaws.{sum_ext}
 use Rattle.numbers.proofs.SetLaws.{has_and, has_not}
 use Rattle.fields.specs.Fields.{Accepted, nurses, days, block, mark_on}
-use Rattle.fields.specs.Rules.{rules_of}
 use Rattle.rows.specs.Pairs.{in_pair, free_on}
-use Rattle.nursemasks.specs.declared.masks.Masks.{Masks}
-use Rattle.nursemasks.specs.CodeMasks.{masks_of, AvailableDays}
+use Rattle.nursemasks.specs.CodeMasks.{AvailableDays}
 use Rattle.penalty.specs.declared.Penalty.{Penalty}
 use Rattle.penalty.specs.declared.columns.Columns.{Columns}
 use Rattle.history.specs.declared.Search.{Search}
@@ -73,12 +64,11 @@ free_of w i c {free} {off} most a small each d l =
     ∙ ap₂ (λ (x y : Bool). x && y) (a.each d l) (has_not 32 off d small (omega arith) ∙ ap not (each d))
 
 -- the days on which nurse i is available under her pattern, as the masks and the pair's days say
-pub free_under : (w : List ℕ) (i c : ℕ) {m : Masks} {s k free off : ℕ} → Accepted w → m ≡ masks_of (rules_of w) (days w) (block w i) → s ≡ days_of c → k ≡ pair_of c
-    → ((n : ℕ) (b : List ℕ) → n ≤ day_places → m ≡ masks_of (rules_of w) n b → AvailableDays b n s free) → off < 2 ^ 32
+pub free_under : (w : List ℕ) (i c : ℕ) {v : List ℕ} {j s k free off : ℕ} → Accepted w → v ≡ w → j ≡ i → s ≡ days_of c → k ≡ pair_of c → AvailableDays (block v j) (days v) s free → off < 2 ^ 32
     → ((d : ℕ) → has off d ≡ in_pair w k (suc d)) → FreeUnder w i c (bit_and free ((2 ^ 32 - 1) - off))
-free_under w i c {free = free} ok em es ek av small each =
-    free_of w i c ok.days_most (subst (λ (x : ℕ). AvailableDays (block w i) (days w) x free) es (av (days w) (block w i) ok.days_most em)) small
-    (λ d. each d ∙ ap (λ (x : ℕ). in_pair w x (suc d)) ek)
+free_under w i c {v} {j} {s} {k} {free} ok ew ej es ek av small each =
+    let hers : AvailableDays (block w i) (days w) s free = rw (← ew, ← ej) av in
+    free_of w i c ok.days_most (subst (λ (x : ℕ). AvailableDays (block w i) (days w) x free) es hers) small (λ d. each d ∙ ap (λ (x : ℕ). in_pair w x (suc d)) ek)
 
 -- ---- columns
 

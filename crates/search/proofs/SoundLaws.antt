@@ -1,21 +1,14 @@
 -- The test `sound_stored` of question 11 is the statement `Sound`.
-use Prim.Native.Nat.{ℕ, zero, suc, ◌<◌}
-use mathlib.Core.Path.{◌≡◌, refl, sym, ◌∙◌, subst}
-use mathlib.Core.Bool.{Bool, true, false, cond, not, ◌&&◌, ◌||◌, false≢true}
-use mathlib.Core.Logic.{◌↔◌}
+use Rattle.std.specs.Prelude.{ℕ, zero, suc, ◌<◌, ◌≡◌, refl, Bool, true, false, cond, not, ◌&&◌, ◌||◌, ◌↔◌, ltb, eqb, get_or}
+use Rattle.std.proofs.Common.{sym, ◌∙◌, subst, arith, lt-ltb, le-ltb, ltb-true, ltb-false, eqb-true, eq-eqb}
+use Rattle.std.proofs.lemmas.Bool.{false≢true, not-true, and_parts, not_from_false, and_from}
 use mathlib.Core.List.{Memᴰ}
-use native.Mathlib.Omega.{arith}
-use lib.Dec.{ltb, eqb}
-use lib.ListN.{get_or}
-use borrow.Author.Tests.{lt-ltb, le-ltb, ltb-true, ltb-false, eqb-true, eq-eqb, not-true}
 use Rattle.fields.specs.Sizes.{nurse_places, removal_places}
 use Rattle.numbers.specs.Range.{up_from, all}
 use Rattle.numbers.proofs.AllLaws.{all_each, all_if}
 use Rattle.history.specs.Slot.{Slot}
 use Rattle.history.specs.Phase.{Phase}
 use Rattle.history.specs.Record.{hers, names}
-use Rattle.numbers.proofs.RangeLaws.{both_true}
-use Rattle.history.proofs.TestLaws.{and_true, not_of_false}
 use Rattle.history.proofs.FitLaws.{among_member, member_among}
 use Rattle.removals.specs.Removals.{slot, no_removal, slot_zero, removal_zero}
 use Rattle.removals.specs.declared.Removal.{Removal as StoredRemoval}
@@ -58,12 +51,12 @@ module _ (P : Phase) where
   names_true : (number : ℕ) (s : Slot) → names P number s ≡ true → Named number s
   names_true zero s e = absurd (false≢true e)
   names_true (suc i) s e =
-      let a = and_true (ltb i P.nurses) (hers P i s) e in
+      let a = and_parts (ltb i P.nurses) (hers P i s) e in
       record { nurse = i; named = refl; inside = ltb-true i P.nurses a.0; own = a.1 }
 
   true_names : (number : ℕ) (s : Slot) → Named number s → names P number s ≡ true
   true_names number s n =
-      rw n.named (both_true (ltb n.nurse P.nurses) (hers P n.nurse s) (lt-ltb n.nurse P.nurses n.inside) n.own)
+      rw n.named (and_from (ltb n.nurse P.nurses) (hers P n.nurse s) (lt-ltb n.nurse P.nurses n.inside) n.own)
 
   names_of : (x : StoredRemoval) → names P x.nurse (slot x.has x.pattern) ≡ true → (x.has || eqb x.pattern 0) ≡ true → Names P x
   names_of x e z =
@@ -105,9 +98,9 @@ module _ (P : Phase) (r : Stored) (s : Sized r) (f : Fits P) where
 
   sound_of : sound_stored P r ≡ true → Sound P r
   sound_of e =
-      let a = and_true own_all (name_all && (slots_zero && removals_zero)) (sym parts ∙ e) in
-      let b = and_true name_all (slots_zero && removals_zero) a.1 in
-      let c = and_true slots_zero removals_zero b.1 in
+      let a = and_parts own_all (name_all && (slots_zero && removals_zero)) (sym parts ∙ e) in
+      let b = and_parts name_all (slots_zero && removals_zero) a.1 in
+      let c = and_parts slots_zero removals_zero b.1 in
       let slots : (i : ℕ) → i < nurse_places → slot_zero P.nurses r.placed r.patterns i ≡ true = λ i l. all_each (slot_zero P.nurses r.placed r.patterns) nurse_places i c.0 l in
       let taken : (j : ℕ) → j < removal_places → removal_zero (held P.tabu r) r.removals j ≡ true = λ j l. all_each (removal_zero (held P.tabu r) r.removals) removal_places j c.1 l in
       record {
@@ -115,7 +108,7 @@ module _ (P : Phase) (r : Stored) (s : Sized r) (f : Fits P) where
         unplaced = λ i l h.
             zero_unused (get_or r.placed i false) (get_or r.patterns i 0) (rw (lt-ltb i P.nurses l) at (slots i (omega (arith, f.nurses_most)))) h;
         past = λ i h l.
-            let z = and_true (not (get_or r.placed i false)) (eqb (get_or r.patterns i 0) 0) (rw (le-ltb i P.nurses h) at (slots i l)) in
+            let z = and_parts (not (get_or r.placed i false)) (eqb (get_or r.patterns i 0) 0) (rw (le-ltb i P.nurses h) at (slots i l)) in
             (not-true (get_or r.placed i false) z.0, eqb-true (get_or r.patterns i 0) 0 z.1);
         named = λ j l.
             names_of P (at j) (all_each (names_at P r.removals) (held P.tabu r) j b.0 l)
@@ -129,7 +122,7 @@ module _ (P : Phase) (r : Stored) (s : Sized r) (f : Fits P) where
     slot_of i l true e = unused_pattern (get_or r.placed i false) (get_or r.patterns i 0) (x.unplaced i (ltb-true i P.nurses e))
     slot_of i l false e =
         let z = x.past i (ltb-false i P.nurses e) l in
-        both_true (not (get_or r.placed i false)) (eqb (get_or r.patterns i 0) 0) (not_of_false (get_or r.placed i false) z.0) (eq-eqb (get_or r.patterns i 0) 0 z.1)
+        and_from (not (get_or r.placed i false)) (eqb (get_or r.patterns i 0) 0) (not_from_false (get_or r.placed i false) z.0) (eq-eqb (get_or r.patterns i 0) 0 z.1)
 
     removal_of : (j : ℕ) → j < removal_places → (b : Bool) → ltb j (held P.tabu r) ≡ b
         → cond b ((at j).has || eqb (at j).pattern 0) (eqb (at j).nurse 0 && (not (at j).has && eqb (at j).pattern 0)) ≡ true
@@ -140,11 +133,11 @@ module _ (P : Phase) (r : Stored) (s : Sized r) (f : Fits P) where
     of_sound : sound_stored P r ≡ true
     of_sound =
         parts
-        ∙ both_true own_all (name_all && (slots_zero && removals_zero))
+        ∙ and_from own_all (name_all && (slots_zero && removals_zero))
         (all_if (λ i. hers P i (slot_at r i)) P.nurses (λ i l. member_own P i (get_or r.placed i false) (get_or r.patterns i 0) (x.placed i l)))
-        (both_true name_all (slots_zero && removals_zero)
+        (and_from name_all (slots_zero && removals_zero)
         (all_if (names_at P r.removals) (held P.tabu r) (λ j l. of_names P (at j) (x.named j l)))
-        (both_true slots_zero removals_zero
+        (and_from slots_zero removals_zero
         (all_if (slot_zero P.nurses r.placed r.patterns) nurse_places (λ i l. slot_of i l (ltb i P.nurses) refl))
         (all_if (removal_zero (held P.tabu r) r.removals) removal_places (λ j l. removal_of j l (ltb j (held P.tabu r)) refl))))
 

@@ -1,22 +1,17 @@
 -- Records and stored records stand for each other, and a stored record changes by a step as the record does.
-use Prim.Native.Nat.{ℕ, zero, suc, ◌+◌, ◌-◌, ◌≤◌, ◌<◌, min}
-use mathlib.Core.Path.{◌≡◌, refl, sym, ap, ap₂, ◌∙◌, subst, fun_ext}
-use mathlib.Core.Bool.{Bool, true, false, cond, not, ◌&&◌, ◌||◌, false≢true}
-use mathlib.Core.List.{List, [], ◌∷◌, ◌++◌, map}
-use mathlib.Core.Logic.{◌↔◌}
-use mathlib.Core.Option.{none, some, some-ne-none}
-use native.Mathlib.Nat.{not-suc-le-zero, le_of_suc-le-suc, zero-add, add-zero, add-suc, suc-add, suc-ne-zero}
-use native.Mathlib.Numerals.{add-one}
-use native.Mathlib.Omega.{arith}
-use lib.Dec.{ltb, eqb, eqb-suc-zero}
-use lib.ListN.{length, get_or, take, drop, set, replicate, length-map, length-set, length-take, length-append, length-replicate, get_or-append}
-use lib.Seq.{ext_get_or, get_or-set_same, get_or-set_other, get_or-take, take-append-le, take_all, take_at, drop_at, length-take-le, get_or-append-add, drop-append-add}
-use borrow.Author.Tests.{le-ltb, ltb-true, ltb-false, eqb-true, eqb-false, ne_eqb, not-true}
+use Rattle.std.specs.Prelude.{ℕ, zero, suc, ◌+◌, ◌-◌, ◌≤◌, ◌<◌, min, ◌≡◌, refl, Bool, true, false, cond, not, ◌&&◌, ◌||◌, List, [], ◌∷◌, ◌++◌, map, ◌↔◌, ltb, eqb, length, get_or, take, drop, set, replicate}
+use Rattle.std.proofs.Common.{sym, ap, ap₂, ◌∙◌, subst, not-suc-le-zero, le_of_suc-le-suc, zero-add, add-zero, add-suc, suc-add, add-one, arith, length-set, length-take, length-append, ext_get_or, get_or-set_same, get_or-set_other, get_or-take, take_all, take_at, drop_at, length-take-le, get_or-append-add, le-ltb, ltb-true, ltb-false, eqb-true, ne_eqb}
+use Rattle.std.proofs.lemmas.Bool.{false≢true, eqb-false, not-true, and_parts}
+use Rattle.std.proofs.lemmas.List.{length-map, length-replicate, take-append-le, nil_from_length, take-map, get_or-map}
+use Rattle.std.proofs.Math.Dec.{eqb-suc-zero}
+use Rattle.std.proofs.Math.ListN.{get_or-append}
+use Rattle.std.proofs.Math.Option.{none, some, some-ne-none}
+use Rattle.std.proofs.Math.Path.{fun_ext}
+use Rattle.std.proofs.Math.Seq.{drop-append-add}
 use Rattle.fields.specs.Sizes.{nurse_places, removal_places, tabu_most}
 use Rattle.numbers.specs.Range.{up_from, all}
-use Rattle.numbers.proofs.RangeLaws.{length_range, and_parts}
+use Rattle.numbers.proofs.RangeLaws.{length_range}
 use Rattle.numbers.proofs.AllLaws.{all_each, all_if}
-use Rattle.numbers.proofs.MemberLaws.{get_or_map}
 use Rattle.history.specs.Slot.{Slot, exchanged}
 use Rattle.history.specs.Phase.{Step}
 use Rattle.history.specs.Record.{Removal, Record, fresh, stepped}
@@ -63,11 +58,6 @@ get_or_replicate d zero j = refl
 get_or_replicate d (suc n) zero = refl
 get_or_replicate d (suc n) (suc j) = get_or_replicate d n j
 
-map_take : {A B : Type 0} (f : A → B) (n : ℕ) (xs : List A) → map f (take n xs) ≡ take n (map f xs)
-map_take f zero xs = refl
-map_take f (suc n) [] = refl
-map_take {A} {B} f (suc n) (x ∷ xs) = ap {B = List B} (λ l. f x ∷ l) (map_take f n xs)
-
 length_padded : {A : Type 0} (n : ℕ) (d : A) (xs : List A) → length xs ≤ n → length (padded n d xs) ≡ n
 length_padded n d xs l = omega (arith, length-append xs (replicate (n - length xs) d), length-replicate (n - length xs) d)
 
@@ -80,10 +70,6 @@ padded_past n d xs j l =
     ap (λ (k : ℕ). get_or (padded n d xs) k d) e ∙ get_or-append-add xs (replicate (n - length xs) d) (j - length xs) d ∙ get_or_replicate d (n - length xs) (j - length xs)
 
 -- ---- one more in front of a padded list, of which tl are kept
-
-nil_of : {A : Type 0} (xs : List A) → length xs ≡ 0 → xs ≡ []
-nil_of [] e = refl
-nil_of (x ∷ xs) e = absurd (suc-ne-zero (length xs) e)
 
 module _ {A : Type 0} (n : ℕ) (d x : A) (xs : List A) (steps t : ℕ) (count : length xs ≡ min steps (suc t)) (room : suc t ≤ n) where
   kept : take (min steps t) (padded n d xs) ≡ take t xs
@@ -123,7 +109,7 @@ module _ {A : Type 0} (n : ℕ) (d x : A) (xs : List A) (steps t : ℕ) (count :
 push_padded : (n : ℕ) (d x : StoredRemoval) (xs : List StoredRemoval) (steps tl : ℕ) → length xs ≡ min steps tl → tl ≤ n
     → pushed tl steps x (padded n d xs) ≡ padded n d (take tl (x ∷ xs))
 unfolding pushed
-push_padded n d x xs steps zero count room = ap (padded n d) (nil_of xs (omega arith))
+push_padded n d x xs steps zero count room = ap (padded n d) (nil_from_length xs (omega arith))
 push_padded n d x xs steps (suc t) count room = rw (eqb-suc-zero t) (in_front_lem n d x xs steps t count room)
 
 -- ---- records of m nurses with the removals of the lesser of steps and TL
@@ -212,7 +198,7 @@ module _ (m tl : ℕ) (R : Record) (h : Held m tl R) where
   removal_here j true e =
       let l : j < length R.removals = omega (arith, ltb-true j (min R.steps tl) e, h.count) in
       let d : Removal = record { nurse = 0; pattern = none } in
-      rw (padded_at removal_places no_removal (map stored_removal R.removals) j (rw (length-map R.removals stored_removal) l), get_or_map stored_removal d no_removal R.removals j l)
+      rw (padded_at removal_places no_removal (map stored_removal R.removals) j (rw (length-map R.removals stored_removal) l), get_or-map stored_removal R.removals j d no_removal l)
       (removal_zero_lem (get_or R.removals j d).pattern)
   removal_here j false e =
       rw (padded_past removal_places no_removal (map stored_removal R.removals) j (rw (length-map R.removals stored_removal) (omega (arith, ltb-false j (min R.steps tl) e, h.count))))
@@ -304,8 +290,8 @@ module _ (m tl : ℕ) (r : Stored) (s : Sized r) (room : tl ≤ tabu_most) (zero
   unfolding front n
   front_at j l =
       let k : length (take n r.removals) ≡ n = length-take-le n r.removals (omega (arith, s.removals_long)) in
-      get_or_map stored_removal (removal_of no_removal) no_removal (map removal_of (take n r.removals)) j (rw (length-map, k) l)
-      ∙ ap stored_removal (get_or_map removal_of no_removal (removal_of no_removal) (take n r.removals) j (rw k l) ∙ ap removal_of (get_or-take n r.removals j no_removal l))
+      get_or-map stored_removal (map removal_of (take n r.removals)) j (removal_of no_removal) no_removal (rw (length-map, k) l)
+      ∙ ap stored_removal (get_or-map removal_of (take n r.removals) j no_removal (removal_of no_removal) (rw k l) ∙ ap removal_of (get_or-take n r.removals j no_removal l))
 
   removal_back : (j : ℕ) → j < removal_places → (b : Bool) → ltb j n ≡ b → get_or (padded removal_places no_removal front) j no_removal ≡ get_or r.removals j no_removal
   unfolding n
@@ -365,7 +351,7 @@ module _ (m tl : ℕ) (R : Record) (h : Held m tl R) (room : tl ≤ tabu_most) (
   removals_step =
       ap (λ (s : Slot). pushed tl R.steps (stored_removal (record { nurse = suc i; pattern = s })) (padded removal_places no_removal (map stored_removal R.removals))) (store_slot m tl R h i l)
       ∙ push_padded removal_places no_removal (stored_removal removal) (map stored_removal R.removals) R.steps tl (length-map R.removals stored_removal ∙ h.count) room
-      ∙ ap (padded removal_places no_removal) (sym (map_take stored_removal tl (removal ∷ R.removals)))
+      ∙ ap (padded removal_places no_removal) (take-map stored_removal tl (removal ∷ R.removals))
 
   pub exchanged_store : exchanged_in tl (store R) i p ≡ store (stepped tl took R)
   unfolding exchanged_in store stepped

@@ -1,24 +1,15 @@
 -- What the code asks of a stored record, in terms of the record that it stands for.
-use Prim.Native.Nat.{ℕ, suc, ◌+◌, ◌≤◌, ◌<◌, min}
-use mathlib.Core.Path.{◌≡◌, refl, sym, ap, ap₂, ◌∙◌}
-use mathlib.Core.Bool.{Bool, true, false, cond, not, ◌&&◌, ◌||◌}
-use mathlib.Core.List.{List, map}
-use mathlib.Core.Option.{none}
-use native.Mathlib.Numerals.{add-one}
-use native.Mathlib.Omega.{arith}
-use lib.Dec.{eqb}
-use lib.ListN.{length, get_or, take, set}
-use borrow.Author.Tests.{lt-ltb}
-use Rattle.fields.specs.Sizes.{nurse_places, removal_places, tabu_most}
+use Rattle.std.specs.Prelude.{ℕ, suc, ◌+◌, ◌<◌, min, ◌≡◌, refl, Bool, true, false, cond, not, ◌&&◌, ◌||◌, List, eqb, get_or, take, set}
+use Rattle.std.proofs.Common.{sym, ap, ◌∙◌, add-one, lt-ltb}
+use Rattle.std.proofs.Math.Option.{none}
+use Rattle.fields.specs.Sizes.{nurse_places, removal_places}
 use Rattle.numbers.specs.Range.{up_from, all}
 use Rattle.history.specs.Phase.{holds}
-use Rattle.history.specs.Record.{barred, may_take}
-use Rattle.removals.specs.Removals.{slot, removal_of, slot_zero, removal_zero}
-use Rattle.removals.specs.declared.Given.{Given}
-use Rattle.removals.specs.CodeGiven.{GivenUp, given_up_by}
-use Rattle.removals.proofs.GivenLaws.{given_barred}
+use Rattle.history.specs.Record.{may_take}
+use Rattle.removals.specs.Removals.{slot, slot_zero, removal_zero}
+use Rattle.removals.specs.CodeGiven.{given_up_by}
 use Rattle.removals.specs.CodePush.{pushed}
-use Rattle.search.specs.Stored.{slot_at, view, unused_zero, Sized}
+use Rattle.search.specs.Stored.{slot_at, held, view, unused_zero}
 use Rattle.search.specs.CodeSteps.{removal_by, exchanged_in}
 use Rattle.search.specs.declared.Record.{Record as Stored}
 use Rattle.removals.specs.declared.Removal.{Removal as StoredRemoval}
@@ -31,21 +22,17 @@ not_or : (a b : Bool) → not (a || b) ≡ (not a && not b)
 not_or true b = refl
 not_or false b = refl
 
--- she may take what is neither in use by her nor among what the code gathered as given up by her
-pub may_by : (m tl : ℕ) (r : Stored) (i p : ℕ) {k : ℕ} {given : Given} → i < m → Sized r → k ≡ min r.steps tl → tl ≤ tabu_most → GivenUp r.removals k given
-    → may_take (view m tl r) i p ≡ not ((get_or r.placed i false && eqb (get_or r.patterns i 0) p) || given_up_by given.nurses given.patterns (i + 1) p k)
+-- she may take what is neither in use by her nor given up by her in one of the removals held
+pub may_by : (m tl : ℕ) (r : Stored) (i p : ℕ) → i < m
+    → may_take (view m tl r) i p ≡ not ((get_or r.placed i false && eqb (get_or r.patterns i 0) p) || given_up_by (take (held tl r) r.removals) (i + 1) p)
 unfolding may_take view
-may_by m tl r i p {k} {given} l sized q few g =
+may_by m tl r i p l =
     let used = get_or r.placed i false && eqb (get_or r.patterns i 0) p in
-    let given-up = barred (map removal_of (take (min r.steps tl) r.removals)) (suc i) p in
-    let held : k ≤ length r.removals = omega (arith, q, few, sized.removals_long) in
-    let named : given_up_by given.nurses given.patterns (i + 1) p k ≡ given-up =
-    given_barred r.removals k (i + 1) p given held (λ z. omega (arith, z)) g
-    ∙ ap₂ (λ (n j : ℕ). barred (map removal_of (take n r.removals)) j p) q (add-one i) in
+    let given-up = given_up_by (take (held tl r) r.removals) (suc i) p in
     ap (λ (b : Bool). not (holds (cond b (slot_at r i) none) p) && not given-up) (lt-ltb i m l)
     ∙ ap (λ (b : Bool). not b && not given-up) (holds_slot (get_or r.placed i false) (get_or r.patterns i 0) p)
     ∙ sym (not_or used given-up)
-    ∙ ap (λ (b : Bool). not (used || b)) (sym named)
+    ∙ ap (λ (j : ℕ). not (used || given_up_by (take (held tl r) r.removals) j p)) (sym (add-one i))
 
 -- ---- a step's change of the record
 

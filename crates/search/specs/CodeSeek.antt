@@ -1,5 +1,5 @@
 -- The two searches that the code makes, by night and by day: what they cost, what a nurse tries, and which phases they serve.
-use Rattle.std.specs.Prelude.{ℕ, ◌+◌, ◌-◌, ◌≤◌, ◌<◌, ◌≡◌, true, false, cond, List, [], eqb, length, get_or, take, drop}
+use Rattle.std.specs.Prelude.{ℕ, ◌+◌, ◌-◌, ◌≤◌, ◌<◌, ◌≡◌, true, cond, List, [], eqb, length, get_or, take, drop}
 use Rattle.numbers.specs.Range.{Ascending}
 use Rattle.fields.specs.Fields.{nurses, tabu}
 use Rattle.nights.specs.Nights.{common_of}
@@ -7,7 +7,10 @@ use Rattle.history.specs.declared.Search.{Search}
 use Rattle.history.specs.declared.Search.TheVariants.{Nights, Days}
 use Rattle.history.specs.Slot.{Slot}
 use Rattle.penalty.specs.Penalty.{starts_in, worked_in, night_penalty, day_penalty}
-use Rattle.ownlists.specs.declared.Own.{Own}
+use Rattle.ownlists.specs.declared.Source.{Source}
+use Rattle.ownlists.specs.declared.Source.TheVariants.{Kept, Whole, Among}
+use Rattle.ownlists.specs.declared.OwnList.{OwnList}
+use Rattle.ownlists.specs.CodeOwn.{stretch_from, no_list}
 use Rattle.tries.specs.CodeTries.{tried_in}
 use Rattle.history.specs.Phase.{Phase, Answer, ended, End, end_zero, end_asked, end_none}
 use Rattle.search.specs.Stored.{slot_at, view_of, sound_stored}
@@ -64,15 +67,17 @@ Seeks which w lists ends P = SeeksBy which w (tried_by which w lists ends) P
 abbrev pub ServedSound : Search → List ℕ → List ℕ → List ℕ → Stored → Type 0
 ServedSound which w lists ends r = SoughtSound which w (tried_by which w lists ends) r
 
--- ---- by a plan: nurse i's stretch of her own patterns where that is kept, else the lists
+-- ---- by a plan: where nurse i's own patterns stand says which list is hers
 
-abbrev pub stretch_in : List ℕ → Own → ℕ → List ℕ
-stretch_in own plan i = take (get_or plan.ends i 0 - get_or plan.begins i 0) (drop (get_or plan.begins i 0) own)
+abbrev pub listed_by : List ℕ → List ℕ → Source → List ℕ
+listed_by lists own (Kept b e) = stretch_from own b e
+listed_by lists own Whole = lists
+listed_by lists own Among = lists
 
-abbrev pub list_at : List ℕ → List ℕ → Own → ℕ → List ℕ
-list_at lists own plan i = cond (get_or plan.kept i false) (stretch_in own plan i) lists
+abbrev pub list_at : List ℕ → List ℕ → List OwnList → ℕ → List ℕ
+list_at lists own plan i = listed_by lists own (get_or plan i no_list).source
 
-abbrev pub tried_at : Search → List ℕ → List ℕ → List ℕ → Own → ℕ → List ℕ
+abbrev pub tried_at : Search → List ℕ → List ℕ → List ℕ → List OwnList → ℕ → List ℕ
 tried_at which w lists own plan i = tried_in which w i (list_at lists own plan i)
 
 -- how an advance ended

@@ -2,63 +2,68 @@
 ghost use Rattle.std.specs.Prelude.{◌≡◌, Bool, false, not, ℕ, ◌+◌, ◌*◌, ◌≤◌, ◌<◌, get_or};
 ghost use Rattle.fields.specs.Sizes.{nurse_places};
 ghost use Rattle.numbers.specs.Sum.{one_if};
-ghost use Rattle.fields.specs.Fields.{days};
-ghost use Rattle.tables.specs.CodeTables.{Blank};
-ghost use Rattle.margins.specs.CodeMargins.{SearchMargins};
 ghost use Rattle.history.specs.Slot.{Slot, exchanged};
 ghost use Rattle.history.specs.Phase.{Phase};
 ghost use Rattle.penalty.specs.Penalty.{rest, parts_in};
-ghost use Rattle.penalty.specs.CodeColumns.{Shows, columns_of};
+ghost use Rattle.penalty.specs.CodeColumns.{Shows};
+ghost use Rattle.ownlists.specs.CodeOwn.{no_list};
 ghost use Rattle.best.specs.CodeBest.{over_list, best_over};
+ghost use Rattle.tries.specs.CodeTries.{MarginsIn};
 ghost use Rattle.search.specs.Stored.{view_of};
-ghost use Rattle.search.specs.CodeSeek.{list_at};
-ghost use Rattle.search.specs.CodeChoice.{MayBy, Stretched, OneNeeds, BestNeeds, tried_in_offers, SeeksIn, Room, DayPlan};
+ghost use Rattle.search.specs.CodeChoice.{MayBy, SourceFits, IsOffered, OneNeeds, BestNeeds, tried_in_offers, SeeksIn, DayPlan};
 
 use crate::Record;
 use best::Exchange;
+use fields::Body;
 use fields::sizes::{ENDS, NURSES};
 use history::Search;
-use margins::MARGINS;
-use ownlists::Own;
+use margins::Margins;
+use ownlists::{OwnList, Source};
 use penalty::columns::Columns;
-use removals::{BARS, Given};
-use tables::TABLE;
-use tries::nurse::{Counts, Tried};
+use removals::BARS;
+use std::array;
+use tables::Table;
+use tries::nurse::{InForce, Offered, Tried};
 
 // What a search offers: the lists of a ward, and by a plan everyone's own of them.
 #[derive(Clone, Copy)]
 pub(crate) struct Offers<'a> {
-    pub(crate) ward: &'a [u64],
+    pub(crate) ward: &'a Body<'a>,
     pub(crate) search: Search,
     pub(crate) lists: &'a [u32],
     pub(crate) own: &'a [u32],
-    pub(crate) plan: &'a Own,
+    pub(crate) plan: &'a [OwnList; NURSES],
 }
 
-// What a step writes into, lent from step to step: the margins by night and by day, and a nurse's table.
+// What a step writes into, lent from step to step: the margins, and a nurse's table.
 #[derive(Drop)]
 pub(crate) struct Work {
-    pub(crate) nightly: [u32; MARGINS],
-    pub(crate) daily: [u32; MARGINS],
-    pub(crate) table: [u32; TABLE],
+    pub(crate) margins: Margins,
+    pub(crate) table: Table,
+}
+
+// What a step chooses by: what is offered, the columns in force with their margins, and the record, of whom so many are unplaced.
+#[derive(Clone, Copy)]
+struct Choice<'a> {
+    offers: &'a Offers<'a>,
+    cols: &'a Columns,
+    margins: &'a Margins,
+    rec: &'a Record,
+    unplaced: u64,
 }
 
 // By day each nurse's stretch, by where the lists end.
-pub(crate) fn day_plan(ends: [usize; ENDS]) -> Own
+pub(crate) fn day_plan(ends: [usize; ENDS]) -> [OwnList; NURSES]
     ensures { DayPlan ends result }
 {
-    let mut begins = [0usize; NURSES];
-    let mut finishes = [0usize; NURSES];
-    begins.copy_from_slice(&ends[..NURSES]);
-    finishes.copy_from_slice(&ends[1..ENDS]);
-    Own {
-        begins,
-        ends: finishes,
-        kept: [true; NURSES],
-        whole: [false; NURSES],
-        workable: [0; NURSES],
-        before: [0; NURSES],
-    }
+    array::from_fn(|i| OwnList {
+        source: Source::Kept {
+            begin: ends[i],
+            end: ends[i + 1],
+        },
+        workable: 0,
+        before: 0,
+    })
 }
 
 // The unplaced nurses besides one who is placed or not.
@@ -70,79 +75,16 @@ pub(crate) fn others_than(placed: bool, unplaced: u64) -> u64
 }
 
 impl Offers<'_> {
-    // Nurse i's list: her own stretch where it is kept, else the lists.
-    fn list(&self, i: usize) -> &[u32]
-        requires { Stretched self.now.own.now self.now.plan.now i × (i < nurse_places) }
-        ensures { result.now ≡ list_at self.now.lists.now self.now.own.now self.now.plan.now i }
+    // Nurse i's list: her own stretch where it is kept, else the lists, which are hers or have hers among them.
+    fn list(&self, i: usize) -> Offered<'_>
+        requires { SourceFits self.now.own.now (get_or self.now.plan.now i no_list).source × (i < nurse_places) }
+        ensures { IsOffered self.now.lists.now self.now.own.now (get_or self.now.plan.now i no_list).source result }
     {
-        if self.plan.kept[i] {
-            return &self.own[self.plan.begins[i]..self.plan.ends[i]];
+        match self.plan[i].source {
+            Source::Kept { begin, end } => Offered::Own(&self.own[begin..end]),
+            Source::Whole => Offered::Own(self.lists),
+            Source::Among => Offered::Common(self.lists),
         }
-        self.lists
-    }
-
-    // The best of what is held and of what nurse i tries; `count` removals are in use.
-    fn over_one(
-        &self,
-        counts: &Counts,
-        table: &mut [u32; TABLE],
-        rec: &Record,
-        given: &Given,
-        count: usize,
-        unplaced: u64,
-        i: usize,
-        held: Option<Exchange>,
-    ) -> Option<Exchange>
-        requires { OneNeeds self.now counts.now count unplaced i × Blank table.old (days self.now.ward.now) }
-        ensures tried { (slots : ℕ → Slot) (may : ℕ → Bool) (others : ℕ) → Shows self.now.search self.now.ward.now slots (columns_of counts.now.night.now counts.now.day.now) →
-            MayBy may given.now.nurses given.now.patterns count i rec.now → unplaced ≡ others + one_if (not (get_or rec.now.placed i false)) →
-            result ≡ over_list may (λ p. rest (parts_in self.now.search self.now.ward.now (exchanged slots i p)) + 10000000 * others) i held (tried_in_offers self.now i) }
-        ensures blank { Blank table.new (days self.now.ward.now) }
-    {
-        let placed = rec.placed[i];
-        let mut bars = [0u64; BARS];
-        let barred = removals::bars_of(
-            &given.nurses,
-            &given.patterns,
-            count,
-            i as u32 + 1,
-            placed,
-            rec.patterns[i],
-            &mut bars,
-        );
-        let tried = Tried {
-            list: self.list(i),
-            whole: self.plan.kept[i] || self.plan.whole[i],
-            workable: self.plan.workable[i],
-            before: self.plan.before[i],
-            barred: &bars[..barred],
-            others: others_than(placed, unplaced),
-            number: i,
-        };
-        tries::nurse::over_nurse(self.ward, self.search, counts, table, &tried, held)
-    }
-
-    // The best of what everyone tries, nurse by nurse.
-    fn over_everyone(
-        &self,
-        counts: &Counts,
-        table: &mut [u32; TABLE],
-        rec: &Record,
-        unplaced: u64,
-    ) -> Option<Exchange>
-        requires needs { BestNeeds self.now (columns_of counts.now.night.now counts.now.day.now) unplaced rec.now }
-        requires margins { SearchMargins self.now.search self.now.ward.now counts.now.night.now counts.now.day.now counts.now.nightly.now counts.now.daily.now }
-        requires blank { Blank table.old (days self.now.ward.now) }
-        ensures best { (P : Phase) → SeeksIn self.now P → result ≡ best_over P (view_of P rec.now) P.nurses }
-        ensures blank { Blank table.new (days self.now.ward.now) }
-    {
-        let count = (rec.steps as usize).min(fields::tabu(self.ward));
-        let given = removals::given_of(rec.removals, count);
-        let mut best = None;
-        for i in 0..fields::nurses(self.ward) {
-            best = self.over_one(counts, table, rec, &given, count, unplaced, i, best);
-        }
-        best
     }
 
     // The exchange that a step takes. The margins are made once from the columns in force; each nurse's table is made from them.
@@ -153,25 +95,67 @@ impl Offers<'_> {
         rec: &Record,
         unplaced: u64,
     ) -> Option<Exchange>
-        requires needs { BestNeeds self.now cols.now unplaced rec.now }
-        requires room { Room self.now.ward.now work.old }
-        ensures best { (P : Phase) → SeeksIn self.now P → result ≡ best_over P (view_of P rec.now) P.nurses }
-        ensures room { Room self.now.ward.now work.new }
+        requires { BestNeeds self.now cols.now unplaced rec.now }
+        ensures { (P : Phase) → SeeksIn self.now P → result ≡ best_over P (view_of P rec.now) P.nurses }
     {
-        margins::margins(
-            self.ward,
-            &cols.night,
-            &cols.day,
-            self.search,
-            &mut work.nightly,
-            &mut work.daily,
-        );
-        let counts = Counts {
-            night: &cols.night,
-            day: &cols.day,
-            nightly: &work.nightly,
-            daily: &work.daily,
+        work.margins.update(self.ward, cols, self.search);
+        let choice = Choice {
+            offers: self,
+            cols,
+            margins: &work.margins,
+            rec,
+            unplaced,
         };
-        self.over_everyone(&counts, &mut work.table, rec, unplaced)
+        choice.over_everyone(&mut work.table)
+    }
+}
+
+impl Choice<'_> {
+    // The best of what is held and of what nurse i tries.
+    fn over_one(&self, table: &mut Table, i: usize, held: Option<Exchange>) -> Option<Exchange>
+        requires { OneNeeds self.now i }
+        ensures { (slots : ℕ → Slot) (may : ℕ → Bool) (others : ℕ) → Shows self.now.offers.now.search self.now.offers.now.ward.now.numbers.now slots self.now.cols.now →
+            MayBy may self.now.offers.now.ward.now.numbers.now i self.now.rec.now → self.now.unplaced ≡ others + one_if (not (get_or self.now.rec.now.placed i false)) →
+            result ≡ over_list may (λ p. rest (parts_in self.now.offers.now.search self.now.offers.now.ward.now.numbers.now (exchanged slots i p)) + 10000000 * others) i held (tried_in_offers self.now.offers.now i) }
+    {
+        let offers = self.offers;
+        let placed = self.rec.placed[i];
+        let current = placed.then_some(self.rec.patterns[i]);
+        let count = (self.rec.steps as usize).min(offers.ward.tabu());
+        let mut bars = [0u64; BARS];
+        let barred = removals::bars_of(
+            &self.rec.removals[..count],
+            i as u32 + 1,
+            current,
+            &mut bars,
+        );
+        let tried = Tried {
+            list: offers.list(i),
+            workable: offers.plan[i].workable,
+            before: offers.plan[i].before,
+            barred: &bars[..barred],
+            others: others_than(placed, self.unplaced),
+            nurse: i,
+        };
+        let counts = InForce {
+            ward: offers.ward,
+            search: offers.search,
+            cols: self.cols,
+            margins: self.margins,
+        };
+        counts.over_nurse(table, &tried, held)
+    }
+
+    // The best of what everyone tries, nurse by nurse.
+    fn over_everyone(&self, table: &mut Table) -> Option<Exchange>
+        requires needs { BestNeeds self.now.offers.now self.now.cols.now self.now.unplaced self.now.rec.now }
+        requires margins { MarginsIn self.now.offers.now.search self.now.offers.now.ward.now.numbers.now self.now.cols.now self.now.margins.now }
+        ensures { (P : Phase) → SeeksIn self.now.offers.now P → result ≡ best_over P (view_of P self.now.rec.now) P.nurses }
+    {
+        let mut best = None;
+        for i in 0..self.offers.ward.nurses() {
+            best = self.over_one(table, i, best);
+        }
+        best
     }
 }

@@ -7,7 +7,7 @@ pub mod slots;
 ghost use Rattle.std.specs.Prelude.{◌≡◌, true, false, not, ◌&&◌, [], ℕ, List, ◌+◌, ◌*◌, ◌<◌, ◌≤◌, leb, get_or, IfSome};
 ghost use Rattle.fields.specs.Sizes.{nurse_places, tabu_most};
 ghost use Rattle.numbers.specs.Sum.{one_if};
-ghost use Rattle.fields.specs.Fields.{Accepted, tabu};
+ghost use Rattle.fields.specs.Fields.{tabu};
 ghost use Rattle.nights.specs.Nights.{common_of};
 ghost use Rattle.history.specs.declared.Search.TheVariants.{Nights};
 ghost use Rattle.history.specs.Slot.{Slot, exchanged};
@@ -15,21 +15,22 @@ ghost use Rattle.history.specs.Phase.{Phase, stops};
 ghost use Rattle.penalty.specs.Penalty.{total, unplaced_in, parts_in};
 ghost use Rattle.penalty.specs.CodeColumns.{Shows};
 ghost use Rattle.search.specs.CodeSeek.{Lists, Seeks, SeeksBy, tried_by, ServedSound, SoughtSound, answer_of};
-ghost use Rattle.search.specs.Stored.{view_of, all_zero, unused_zero, Sized, sound_stored, reply_stored};
+ghost use Rattle.search.specs.Stored.{all_zero, unused_zero, Sized, sound_stored, reply_stored};
 ghost use Rattle.search.specs.CodeSteps.{removal_by, exchanged_in, stepped_of};
-ghost use Rattle.search.specs.CodeChoice.{ColumnsOf, Long, Room, TriesIn, SeeksIn, SoundIn, ExchangeNeeds, StepNeeds};
+ghost use Rattle.search.specs.CodeChoice.{ColumnsOf, TriesIn, SeeksIn, SoundIn, ExchangeNeeds, StepNeeds};
 
 use choice::{Offers, Work};
+use fields::Body;
 use fields::sizes::{ENDS, NURSES, REMOVALS};
 use history::Search;
-use margins::MARGINS;
-use penalty::columns;
+use margins::Margins;
 use penalty::columns::Columns;
 use removals::Removal;
-use tables::TABLE;
+use tables::Table;
 
 // Everyone's pattern or none, the last TL removals, the last one first, and all steps so far.
 // The removals in use are as many as the steps, but not above TL.
+// The flags stand beside the patterns, and are no Options, since a record of any content comes in over C: also a pattern without its flag.
 #[derive(Clone, Copy)]
 pub struct Record {
     pub patterns: [u64; NURSES],
@@ -150,65 +151,50 @@ impl Record {
         pattern: u64,
         unplaced: u64,
     ) -> Stepped
-        requires { ExchangeNeeds offers.now.ward.now cols.old nurse unplaced self }
-        ensures made { result.after ≡ exchanged_in (tabu offers.now.ward.now) self nurse pattern }
-        ensures costs { (slots : ℕ → Slot) → Shows offers.now.search offers.now.ward.now slots cols.old →
-            unplaced ≡ unplaced_in offers.now.ward.now (exchanged slots nurse pattern) + one_if (not (get_or self.placed nurse false)) →
-            result.penalty ≡ total (parts_in offers.now.search offers.now.ward.now (exchanged slots nurse pattern)) }
-        ensures shows { ColumnsOf offers.now.search offers.now.ward.now self cols.old → ColumnsOf offers.now.search offers.now.ward.now result.after cols.new }
-        ensures long { Long cols.new }
+        requires { ExchangeNeeds offers.now.ward.now.numbers.now nurse unplaced self }
+        ensures made { result.after ≡ exchanged_in (tabu offers.now.ward.now.numbers.now) self nurse pattern }
+        ensures costs { (slots : ℕ → Slot) → Shows offers.now.search offers.now.ward.now.numbers.now slots cols.old →
+            unplaced ≡ unplaced_in offers.now.ward.now.numbers.now (exchanged slots nurse pattern) + one_if (not (get_or self.placed nurse false)) →
+            result.penalty ≡ total (parts_in offers.now.search offers.now.ward.now.numbers.now (exchanged slots nurse pattern)) }
+        ensures shows { ColumnsOf offers.now.search offers.now.ward.now.numbers.now self cols.old → ColumnsOf offers.now.search offers.now.ward.now.numbers.now result.after cols.new }
     {
         let w = offers.ward;
         let search = offers.search;
         let sets = slots::sets_of(w, nurse, pattern, search);
         let others = choice::others_than(self.placed[nurse], unplaced);
-        let parts = trials::trial(
-            w,
-            &cols.night,
-            &cols.day,
-            nurse,
-            sets.nights,
-            sets.available,
-            others,
-            search,
-        );
+        let parts = trials::trial(w, cols, nurse, sets, others, search);
         let penalty = parts.total();
-        let n = fields::days(w);
-        columns::put(&mut cols.night, n, nurse, sets.nights);
-        columns::put(&mut cols.day, n, nurse, sets.available);
-        let after = self.exchanged(fields::tabu(w), nurse, pattern);
+        *cols = cols.with_nurse(w.days(), nurse, sets);
+        let after = self.exchanged(w.tabu(), nurse, pattern);
         Stepped { after, penalty }
     }
 
     // One step, if there is an exchange to make: the columns are those of the record, and then those of the record after it.
     fn step(self, offers: &Offers, cols: &mut Columns, work: &mut Work) -> Option<Stepped>
-        requires needs { StepNeeds offers.now cols.old self }
-        requires room { Room offers.now.ward.now work.old }
+        requires { StepNeeds offers.now cols.old self }
         ensures takes { (P : Phase) → SeeksIn offers.now P → result ≡ stepped_of P self }
-        ensures shows { IfSome result (λ x. ColumnsOf offers.now.search offers.now.ward.now x.after cols.new) }
-        ensures long { Long cols.new }
-        ensures room { Room offers.now.ward.now work.new }
+        ensures shows { IfSome result (λ x. ColumnsOf offers.now.search offers.now.ward.now.numbers.now x.after cols.new) }
     {
-        let unplaced = slots::unplaced(self, fields::nurses(offers.ward));
+        let unplaced = slots::unplaced(self, offers.ward.nurses());
         let best = offers.best_of(cols, work, &self, unplaced)?;
         Some(self.exchange(offers, cols, best.nurse, best.pattern, unplaced))
     }
 
     // Up to k steps, past zero or not; columns and penalty are carried through them.
     fn advance_over(self, offers: &Offers, k: u32, past: bool) -> Advanced
-        requires accepted { Accepted offers.now.ward.now × TriesIn offers.now × (self.steps + k ≤ 1000000) }
+        requires offered { TriesIn offers.now × (self.steps + k ≤ 1000000) }
         requires sought_sound { SoundIn offers.now self }
         ensures { (P : Phase) → SeeksIn offers.now P → sound_stored P self ≡ true → reply_stored P past k self ≡ (answer_of P result, result.after) }
     {
         let mut cols = slots::columns(offers.ward, self, offers.search);
         let mut penalty = slots::penalty_by(offers.ward, self, cols, offers.search);
         let mut work = Work {
-            nightly: [0; MARGINS],
-            daily: [0; MARGINS],
-            table: [0; TABLE],
+            margins: Margins::new(),
+            table: Table::new(),
         };
         let mut after = self;
         let mut made: u32 = 0;
+        // How many steps it makes goes by what each finds, so a range is no plainer.
         let ending = 'steps: loop {
             if stops(past, penalty) {
                 break Ending::Zero;
@@ -231,17 +217,16 @@ impl Record {
         }
     }
 
-    // An advance of no steps: nobody's list is looked at.
-    fn advance_none(self, w: &[u64], search: Search, past: bool) -> Advanced
-        requires { Accepted w.now }
-        ensures { (P : Phase) (tried : ℕ → List ℕ) → SeeksBy search w.now tried P → sound_stored P self ≡ true → reply_stored P past 0 self ≡ (answer_of P result, result.after) }
+    // An advance of no steps. Beside `advance_over`, which would first test the common list for every nurse.
+    fn advance_none(self, w: &Body, search: Search, past: bool) -> Advanced
+        ensures { (P : Phase) (tried : ℕ → List ℕ) → SeeksBy search w.now.numbers.now tried P → sound_stored P self ≡ true → reply_stored P past 0 self ≡ (answer_of P result, result.after) }
     {
         let penalty = slots::penalty_of(w, self, search);
-        let steps = 0;
+        let made = 0;
         Advanced {
             after: self,
             penalty,
-            steps,
+            steps: made,
             ending: if stops(past, penalty) {
                 Ending::Zero
             } else {
@@ -254,20 +239,21 @@ impl Record {
     #[inline(never)]
     fn advance_kept<const PLACES: usize>(
         self,
-        w: &[u64],
+        w: &Body,
         lists: &[u32],
         k: u32,
         past: bool,
     ) -> Advanced
         requires few { PLACES ≤ 20480 }
-        requires accepted { Accepted w.now × (lists.now ≡ common_of w.now) × (self.steps + k ≤ 1000000) }
-        requires sought_sound { SoughtSound Nights w.now (tried_by Nights w.now lists.now []) self }
-        ensures { (P : Phase) → SeeksBy Nights w.now (tried_by Nights w.now lists.now []) P → sound_stored P self ≡ true → reply_stored P past k self ≡ (answer_of P result, result.after) }
+        requires common { (lists.now ≡ common_of w.now.numbers.now) × (self.steps + k ≤ 1000000) }
+        requires sought_sound { SoughtSound Nights w.now.numbers.now (tried_by Nights w.now.numbers.now lists.now []) self }
+        ensures { (P : Phase) → SeeksBy Nights w.now.numbers.now (tried_by Nights w.now.numbers.now lists.now []) P → sound_stored P self ≡ true → reply_stored P past k self ≡ (answer_of P result, result.after) }
     {
         let mut own = [0u32; PLACES];
         let plan = ownlists::own_lists(w, lists, &mut own);
+        // `&*w`, not `w`, here and below: the offers borrow the ward for a shorter time.
         let offers = Offers {
-            ward: w,
+            ward: &*w,
             search: Search::Nights,
             lists,
             own: &own,
@@ -279,23 +265,24 @@ impl Record {
     // Up to k steps, past zero or not.
     pub fn advance(
         self,
-        w: &[u64],
+        w: &Body,
         lists: &[u32],
         stretches: Stretches,
         k: u32,
         past: bool,
     ) -> Advanced
-        requires accepted { Accepted w.now × Lists stretches.search w.now lists.now stretches.ends × (self.steps + k ≤ 1000000) }
-        requires served_sound { ServedSound stretches.search w.now lists.now stretches.ends self }
-        ensures { (P : Phase) → Seeks stretches.search w.now lists.now stretches.ends P → sound_stored P self ≡ true → reply_stored P past k self ≡ (answer_of P result, result.after) }
+        requires lists { Lists stretches.search w.now.numbers.now lists.now stretches.ends × (self.steps + k ≤ 1000000) }
+        requires served_sound { ServedSound stretches.search w.now.numbers.now lists.now stretches.ends self }
+        ensures { (P : Phase) → Seeks stretches.search w.now.numbers.now lists.now stretches.ends P → sound_stored P self ≡ true → reply_stored P past k self ≡ (answer_of P result, result.after) }
     {
         let search = stretches.search;
         if k == 0 {
             return self.advance_none(w, search, past);
         }
+        // By `match`: each arm lends lists of its own making.
         match search {
             Search::Nights => {
-                if fits_small(fields::nurses(w), lists.len()) {
+                if fits_small(w.nurses(), lists.len()) {
                     self.advance_kept::<2048>(w, lists, k, past)
                 } else {
                     self.advance_kept::<20480>(w, lists, k, past)
@@ -303,7 +290,7 @@ impl Record {
             }
             Search::Days => {
                 let offers = Offers {
-                    ward: w,
+                    ward: &*w,
                     search,
                     lists,
                     own: lists,

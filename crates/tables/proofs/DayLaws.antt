@@ -1,10 +1,6 @@
 -- A nurse's days one by one: which cost a day has, their sum, and what no sum comes below.
-use mathlib.Core.Path.{◌≡◌, refl, subst}
-use mathlib.Core.Bool.{Bool, true, false, cond, ◌||◌}
-use mathlib.Core.List.{List}
-use Prim.Native.Nat.{ℕ, ◌+◌, ◌*◌, ◌/◌, ◌%◌, ◌^◌, ◌≤◌, ◌<◌}
-use native.Mathlib.Omega.{arith}
-use lib.ListN.{get_or}
+use Rattle.std.specs.Prelude.{◌≡◌, refl, Bool, true, false, cond, ◌||◌, List, ℕ, ◌+◌, ◌*◌, ◌/◌, ◌%◌, ◌^◌, ◌≤◌, ◌<◌, get_or}
+use Rattle.std.proofs.Common.{subst, arith}
 use Rattle.numbers.specs.Sum.{sum_to, Is}
 use Rattle.numbers.specs.Digits.{has}
 use Rattle.numbers.proofs.SumLaws.{sum_suc, loop_start, loop_end0}
@@ -38,14 +34,14 @@ cond_low false true false h k l = l
 cond_low false false false h k l = k
 
 -- total is no more than the first d days, whatever the starts and the days off
-pub record Least (c : List ℕ) (n d total : ℕ) : Type 0 where
+pub record LeastTo (c : List ℕ) (n d total : ℕ) : Type 0 where
   pub inside : d ≤ n
   pub most : total ≤ 371200 * d
   pub low : (x off : ℕ) → total ≤ sum_to d (day_without c x off)
 
 module _ (c : List ℕ) (n : ℕ) where
-  pub least_turn : (d : ℕ) {total day : ℕ} → Low c 371200 → Least c n d total → d < n
-      → day ≤ night_on c d → day ≤ open_on c d → day ≤ none_on c d → Least c n (d + 1) (total + day)
+  pub least_turn : (d : ℕ) {total day : ℕ} → Low c 371200 → LeastTo c n d total → d < n
+      → day ≤ night_on c d → day ≤ open_on c d → day ≤ none_on c d → LeastTo c n (d + 1) (total + day)
   unfolding day_without
   least_turn d s p l h k m = record {
     inside = omega arith;
@@ -53,11 +49,11 @@ module _ (c : List ℕ) (n : ℕ) where
     low = λ x off. omega (arith, p.low x off, sum_suc d (day_without c x off), cond_low (has x (d + 2)) (has x (d + 1) || has x d) (has off d) h k m);
   }
 
-  pub least_without : {d total : ℕ} → Least c n d total → n ≤ d → (x off : ℕ) → total ≤ trial_without c n x off
+  pub least_without : {d total : ℕ} → LeastTo c n d total → n ≤ d → (x off : ℕ) → total ≤ trial_without c n x off
   unfolding trial_without
   least_without {d} {total} p l x off =
       let e : d ≡ n = omega (arith, p.inside) in
       subst (λ (k : ℕ). total ≤ sum_to k (day_without c x off)) e (p.low x off)
 
-  pub least_trials : {d total : ℕ} → Least c n d total → n ≤ d → (x : ℕ) → total ≤ trial_of c n x
+  pub least_trials : {d total : ℕ} → LeastTo c n d total → n ≤ d → (x : ℕ) → total ≤ trial_of c n x
   least_trials p l x = rw without_none at (least_without p l x 0)

@@ -1,38 +1,29 @@
 -- The sums over six days: how the places are written, one day more, six days, and the table of a month.
-use mathlib.Core.Path.{◌≡◌, refl, sym, ap, ◌∙◌, subst}
-use mathlib.Core.Bool.{Bool, true, false, cond, ◌||◌}
-use mathlib.Core.List.{List}
-use mathlib.Core.Logic.{⊎_elim}
-use Prim.Native.Nat.{ℕ, zero, suc, ◌+◌, ◌-◌, ◌*◌, ◌/◌, ◌%◌, ◌^◌, ◌≤◌, ◌<◌}
-use native.Mathlib.Nat.{not-suc-le-zero, eq-or-lt_of_le, le_of_suc-le-suc, le-div_iff_mul-le, div-lt_iff_lt-mul, one-mul, mod-eq_of_lt}
-use native.Mathlib.Numerals.{add-one}
-use native.Mathlib.Omega.{arith}
-use native.Mathlib.Decide.{dec_lt}
-use lib.ListN.{length, get_or, set, length-set, replicate}
-use lib.Seq.{get_or-set_same, get_or-set_other}
-use lib.Dec.{eqb}
-use lib.Pow.{pow-add, pow_mono, pow_pos, shr-shr, high, low}
+use Rattle.std.specs.Prelude.{◌≡◌, refl, Bool, true, false, cond, ◌||◌, List, ℕ, zero, suc, ◌+◌, ◌-◌, ◌*◌, ◌/◌, ◌%◌, ◌^◌, ◌≤◌, ◌<◌, length, get_or, set, replicate, eqb}
+use Rattle.std.proofs.Common.{sym, ap, ◌∙◌, subst, ⊎_elim, not-suc-le-zero, eq-or-lt_of_le, le_of_suc-le-suc, le-div_iff_mul-le, div-lt_iff_lt-mul, one-mul, mod-eq_of_lt, add-one, arith, length-set, get_or-set_same, get_or-set_other, pow-add, pow_mono, pow_pos, shr-shr}
+use Rattle.std.proofs.Math.Decide.{dec_lt}
+use Rattle.std.proofs.Math.Pow.{high, low}
 use Rattle.numbers.specs.Sum.{sum_to}
 use Rattle.numbers.specs.Digits.{has}
 use Rattle.numbers.proofs.SumLaws.{sum_zero, sum_suc, sum_ext, sum_le, sum_none}
 use Rattle.numbers.proofs.DigitLaws.{bit_above, low_digit}
-use Rattle.tables.specs.CodeTables.{night_on, open_on, none_on, Low, Small, key_at, six_at, Sums, Blank, Table, Raised, Extended, Cleared, SixSummed}
+use Rattle.tables.specs.CodeTables.{night_on, open_on, none_on, Low, Small, key_at, six_at, Sums, TableOf, Raised, Extended, Cleared, SixSummed}
 use Rattle.tables.proofs.TrialLaws.{table_trial_lem}
 
 -- ---- a loop that writes f 0, f 1, .. from a place on
 
 -- the first y are written, and no other place
-pub record Written (l r : List ℕ) (at : ℕ) (f : ℕ → ℕ) (y : ℕ) : Type 0 where
+pub record RaisedTo (l r : List ℕ) (at : ℕ) (f : ℕ → ℕ) (y : ℕ) : Type 0 where
   pub long : length r ≡ length l
   pub within : (k : ℕ) → k < y → get_or r (at + k) 0 ≡ f k
   pub before : (e : ℕ) → e < at → get_or r e 0 ≡ get_or l e 0
   pub after : (e : ℕ) → at + y ≤ e → get_or r e 0 ≡ get_or l e 0
 
-pub written_start : (l : List ℕ) (at : ℕ) (f : ℕ → ℕ) → Written l l at f 0
-written_start l at f = record { long = refl; within = λ k q. absurd (not-suc-le-zero q); before = λ e q. refl; after = λ e q. refl }
+pub raised_start : (l : List ℕ) (at : ℕ) (f : ℕ → ℕ) → RaisedTo l l at f 0
+raised_start l at f = record { long = refl; within = λ k q. absurd (not-suc-le-zero q); before = λ e q. refl; after = λ e q. refl }
 
-pub written_turn : (l r : List ℕ) (at : ℕ) (f : ℕ → ℕ) (y : ℕ) {v : ℕ} → Written l r at f y → at + y < length l → v ≡ f y → Written l (set r (at + y) v) at f (y + 1)
-written_turn l r at f y {v} p h q = record {
+pub raised_turn : (l r : List ℕ) (at : ℕ) (f : ℕ → ℕ) (y : ℕ) {v : ℕ} → RaisedTo l r at f y → at + y < length l → v ≡ f y → RaisedTo l (set r (at + y) v) at f (y + 1)
+raised_turn l r at f y {v} p h q = record {
   long = length-set r (at + y) v ∙ p.long;
   within = λ k s. ⊎_elim (λ t. here k t) (λ t. other (at + k) (λ u. omega arith) ∙ p.within k t) (eq-or-lt_of_le (le_of_suc-le-suc (rw add-one at s)));
   before = λ e s. other e (λ u. omega arith) ∙ p.before e s;
@@ -64,8 +55,6 @@ raised_low l r from to count x m k s h a =
     (λ e q. omega (arith, s.low e, a.before e q))
     (λ y q. omega (arith, s.low (from + y), a.within y q))
     (λ e q. omega (arith, s.low e, a.after e q))
-
--- ---- x more
 
 -- ---- one day more
 
@@ -203,13 +192,13 @@ pub record SixTo (c : List ℕ) (b : ℕ) (l r : List ℕ) (j : ℕ) : Type 0 wh
   pub before : (e : ℕ) → e < 256 * b → get_or r e 0 ≡ get_or l e 0
   pub after : (e : ℕ) → 256 * b + 256 ≤ e → get_or r e 0 ≡ get_or l e 0
 
-pub six_start : (c l r : List ℕ) (b : ℕ) → length l ≡ 1536 → Low l 2227200 → Cleared l r (256 * b) → SixTo c b r r 0
+pub six_start : (c l r : List ℕ) (b : ℕ) → length l ≡ 1536 → Low l 2227200 → Cleared l r (256 * b) (256 * b + 4) → SixTo c b r r 0
 six_start c l r b h s p = record {
   long = p.long ∙ h;
-  sums = λ key q. p.within key q ∙ sym (sum_zero (key_at c b key));
+  sums = λ key q. p.within (256 * b + key) (omega arith) (omega arith) ∙ sym (sum_zero (key_at c b key));
   small = low_parts r (256 * b) 4 2227200
       (λ e q. omega (arith, s.low e, p.before e q))
-      (λ y q. omega (arith, p.within y q))
+      (λ y q. omega (arith, p.within (256 * b + y) (omega arith) (omega arith)))
       (λ e q. omega (arith, s.low e, p.after e q));
   before = λ e q. refl;
   after = λ e q. refl;
@@ -243,7 +232,7 @@ six_turn c l r s b j low p h y = record {
     more : SumsTo c b s (j + 1)
     more = sums_more c r s b j p.sums x
 
-pub six_end : (c l m r : List ℕ) (b : ℕ) {j : ℕ} → length l ≡ 1536 → Cleared l m (256 * b) → SixTo c b m r j → j ≡ 6 → SixSummed c b l r
+pub six_end : (c l m r : List ℕ) (b : ℕ) {j : ℕ} → length l ≡ 1536 → Cleared l m (256 * b) (256 * b + 4) → SixTo c b m r j → j ≡ 6 → SixSummed c b l r
 unfolding six_at
 six_end c l m r b {j} h p q e =
     let sums : SumsTo c b r 6 = subst (λ (i : ℕ). SumsTo c b r i) e q.sums in
@@ -270,38 +259,37 @@ six_past c n b key s h k = sum_none 6 (key_at c b key) (λ j q. go j (has key (j
 -- the sixes before b are summed up
 pub record FilledTo (c : List ℕ) (n : ℕ) (t : List ℕ) (b : ℕ) : Type 0 where
   pub turns : b ≤ (n + 5) / 6
-  pub blank : Blank t n
+  pub long : length t ≡ 1536
+  pub small : Low t 2227200
   pub done : (a : ℕ) → a < b → Sums c a t
 
-pub fill_start : (c : List ℕ) (n : ℕ) (t : List ℕ) → Blank t n → FilledTo c n t 0
-fill_start c n t h = record { turns = omega arith; blank = h; done = λ a q. absurd (not-suc-le-zero q) }
+pub fill_start : (c : List ℕ) (n : ℕ) (t : List ℕ) → length t ≡ 1536 → Low t 2227200 → FilledTo c n t 0
+fill_start c n t h s = record { turns = omega arith; long = h; small = s; done = λ a q. absurd (not-suc-le-zero q) }
 
 pub fill_turn : (c : List ℕ) (n : ℕ) (t r : List ℕ) (b : ℕ) → FilledTo c n t b → b < (n + 5) / 6 → SixSummed c b t r → FilledTo c n r (b + 1)
 fill_turn c n t r b p h x = record {
   turns = omega arith;
-  blank = record {
-    long = x.long ∙ p.blank.long;
-    small = x.small;
-    past = λ e q. x.after e (omega arith) ∙ p.blank.past e q;
-  };
+  long = x.long ∙ p.long;
+  small = x.small;
   done = λ a q. ⊎_elim (λ s. subst (λ (k : ℕ). Sums c k r) (sym s) x.sums) (λ s. earlier a s) (eq-or-lt_of_le (le_of_suc-le-suc (rw add-one at q)));
 }
   where
     earlier : (a : ℕ) → a < b → Sums c a r
     earlier a q key l = x.before (256 * a + key) (omega arith) ∙ p.done a q key l
 
-pub fill_end : (c : List ℕ) (n : ℕ) (t : List ℕ) {b : ℕ} → Small c n → FilledTo c n t b → (n + 5) / 6 ≤ b → Table c n t
-fill_end c n t {b} s p h = record { trials = table_trial_lem c t n s (λ a q. every a q (dec_lt a b)); blank = p.blank }
+-- and the places past them are 0
+pub fill_end : (c : List ℕ) (n : ℕ) (t r : List ℕ) {b k : ℕ} → FilledTo c n t b → k ≡ (n + 5) / 6 → k ≤ b → Cleared t r (256 * k) 1536 → Small c n → TableOf c n r
+fill_end c n t r {b} {k} p e m x s = record { trials = table_trial_lem c r n s (λ a q. every a q (dec_lt a k)) }
   where
-    every : (a : ℕ) → a < 6 → Dec (a < b) → Sums c a t
-    every a q (yes l) = p.done a l
-    every a q (no l) = λ key k. p.blank.past (256 * a + key) (omega arith) ∙ sym (six_past c n a key s (omega arith) q)
+    every : (a : ℕ) → a < 6 → Dec (a < k) → Sums c a r
+    every a q (yes l) key h = x.before (256 * a + key) (omega arith) ∙ p.done a (omega arith) key h
+    every a q (no l) key h = x.within (256 * a + key) (omega arith) (omega arith) ∙ sym (six_past c n a key s (omega arith) q)
 
--- a table of zeros
-zeros_at : (k e : ℕ) → get_or (replicate {A = ℕ} k 0) e 0 ≡ 0
-zeros_at zero e = refl
-zeros_at (suc k) zero = refl
-zeros_at (suc k) (suc e) = zeros_at k e
-
-pub zeros_blank : (n : ℕ) → Blank (replicate 1536 0) n
-zeros_blank n = record { long = refl; small = record { low = λ e. omega (arith, zeros_at 1536 e) }; past = λ e q. zeros_at 1536 e }
+-- a table of one number
+pub same_low : (k v m : ℕ) → v ≤ m → Low (replicate k v) m
+same_low k v m h = record { low = each k }
+  where
+    each : (k e : ℕ) → get_or (replicate {A = ℕ} k v) e 0 ≤ m
+    each zero e = omega arith
+    each (suc k) zero = h
+    each (suc k) (suc e) = each k e

@@ -1,10 +1,6 @@
 -- Six sums of six days are a trial; what days off do to one.
-use mathlib.Core.Path.{◌≡◌, refl, sym, ap, ◌∙◌}
-use mathlib.Core.Bool.{Bool, true, false, cond, ◌||◌}
-use mathlib.Core.List.{List}
-use Prim.Native.Nat.{ℕ, zero, suc, ◌+◌, ◌-◌, ◌*◌, ◌/◌, ◌%◌, ◌^◌, ◌≤◌, ◌<◌}
-use native.Mathlib.Nat.{add-zero, add-suc, mul-zero, mul-suc, add-sub_of_le, le_refl, mod-lt, zero-lt-suc}
-use native.Mathlib.Omega.{arith}
+use Rattle.std.specs.Prelude.{◌≡◌, refl, Bool, true, false, cond, ◌||◌, List, ℕ, zero, suc, ◌+◌, ◌-◌, ◌*◌, ◌/◌, ◌%◌, ◌^◌, ◌≤◌, ◌<◌}
+use Rattle.std.proofs.Common.{sym, ap, ◌∙◌, add-zero, add-suc, mul-zero, mul-suc, add-sub_of_le, le_refl, mod-lt, zero-lt-suc, arith}
 use Rattle.numbers.specs.Sum.{sum_to}
 use Rattle.numbers.specs.Digits.{has}
 use Rattle.numbers.proofs.SumLaws.{sum_ext, sum_mono, sum_none}

@@ -66,16 +66,9 @@ unfoldable pub table_trial : List ℕ → ℕ → ℕ
 unfolding read_at
 table_trial t x = sum_to 6 (read_at t x)
 
--- a table: small enough to be added up, and 0 past the sixes of a month of n days
-pub record Blank (t : List ℕ) (n : ℕ) : Type 0 where
-  pub long : length t ≡ 1536
-  pub small : Low t 2227200
-  pub past : (e : ℕ) → 256 * ((n + 5) / 6) ≤ e → get_or t e 0 ≡ 0
-
--- the table of the costs c in a month of n days
-pub record Table (c : List ℕ) (n : ℕ) (t : List ℕ) : Type 0 where
+-- t is the table of the costs c in a month of n days
+pub record TableOf (c : List ℕ) (n : ℕ) (t : List ℕ) : Type 0 where
   pub trials : (x : ℕ) → table_trial t x ≡ trial_of c n x
-  pub blank : Blank t n
 
 -- ---- how the sums are made, from l to r
 
@@ -95,12 +88,12 @@ pub record Extended (l r : List ℕ) (base one night opened none : ℕ) : Type 0
   pub before : (e : ℕ) → e < base → get_or r e 0 ≡ get_or l e 0
   pub after : (e : ℕ) → base + 8 * one ≤ e → get_or r e 0 ≡ get_or l e 0
 
--- four places from `at` on are 0
-pub record Cleared (l r : List ℕ) (at : ℕ) : Type 0 where
+-- the places from `from` to `to` are 0
+pub record Cleared (l r : List ℕ) (from to : ℕ) : Type 0 where
   pub long : length r ≡ length l
-  pub within : (y : ℕ) → y < 4 → get_or r (at + y) 0 ≡ 0
-  pub before : (e : ℕ) → e < at → get_or r e 0 ≡ get_or l e 0
-  pub after : (e : ℕ) → at + 4 ≤ e → get_or r e 0 ≡ get_or l e 0
+  pub within : (e : ℕ) → from ≤ e → e < to → get_or r e 0 ≡ 0
+  pub before : (e : ℕ) → e < from → get_or r e 0 ≡ get_or l e 0
+  pub after : (e : ℕ) → to ≤ e → get_or r e 0 ≡ get_or l e 0
 
 -- the six days from 6 * b on
 pub record SixSummed (c : List ℕ) (b : ℕ) (l r : List ℕ) : Type 0 where

@@ -2,41 +2,62 @@
 // A trial goes by a set: bit d + 2 is her start on the day of index d; bits 0 and 1 are those of the two days before the month.
 #![tactic(auto)]
 
-pub mod plain;
+pub mod costs;
 mod sums;
 
-ghost use Rattle.std.specs.Prelude.{◌≡◌, ◌≤◌};
-ghost use Rattle.tables.specs.CodeTables.{Low, Small, Blank, Table, table_trial};
+ghost use Rattle.std.specs.Prelude.{◌≡◌, List, ℕ, ◌≤◌, length, replicate};
+ghost use Rattle.tables.specs.CodeTables.{Low, TableOf, table_trial};
 
-// A nurse's costs: 36 days each with her at night, open, and neither; 0 past the month.
-pub const COSTS: usize = 108;
-// Where those of an open day begin, and those of neither.
-pub const OPEN: usize = 36;
+use costs::Costs;
+use std::marker::Model;
 
-pub const NONE: usize = 72;
-// Six sums for the days of each six, by the eight bits that they depend on.
-pub const TABLE: usize = 1536;
+pub const SUM_PLACES: usize = 1536;
 
-// The table of a nurse's costs in a month of n days.
-pub fn fill(n: usize, c: &[u32; COSTS], t: &mut [u32; TABLE])
-    requires { Small c.now n × Blank t.old n }
-    ensures { Table c.now n t.new }
-{
-    for b in 0..n.div_ceil(6) {
-        sums::six(t, c, b);
-    }
+// For each six days 256 sums, by the eight bits that they depend on, each small enough to be added up.
+#[derive(Drop)]
+pub struct Table {
+    sums: [u32; SUM_PLACES],
 }
 
-// What the ward's days cost after the exchange.
-pub fn trial(t: &[u32; TABLE], x: u64) -> u32
-    requires { Low t.now 2227200 }
-    ensures is { result ≡ table_trial t.now x }
-    ensures most { result ≤ 13363200 }
-{
-    let mut total: u32 = 0;
-    for b in 0..6 {
-        let key = ((x >> (6 * b)) % 256) as usize;
-        total += t[256 * b + key];
+impl Model for Table {
+    ghost Value = { List ℕ };
+
+    ghost view = { λ a. a.sums };
+
+    ghost invariant = { λ a. (length a.sums ≡ 1536) × Low a.sums 2227200 };
+}
+
+impl Table {
+    // Of a nurse whose days cost nothing.
+    pub fn new() -> Table
+        ensures { result ≡ replicate 1536 0 }
+    {
+        Table {
+            sums: [0; SUM_PLACES],
+        }
     }
-    total
+
+    // The table of a nurse's costs; the places past the month's sixes are cleared, whatever they held.
+    pub fn fill(&mut self, c: &Costs)
+        ensures { TableOf c.now.costs c.now.days self.new }
+    {
+        let sixes = c.days.div_ceil(6);
+        for b in 0..sixes {
+            sums::six(&mut self.sums, &c.costs, b);
+        }
+        sums::clear(&mut self.sums, 256 * sixes, SUM_PLACES);
+    }
+
+    // What the ward's days cost after the exchange.
+    pub fn trial(&self, x: u64) -> u32
+        ensures is { result ≡ table_trial self.now x }
+        ensures most { result ≤ 13363200 }
+    {
+        let mut total: u32 = 0;
+        for b in 0..6 {
+            let key = ((x >> (6 * b)) % 256) as usize;
+            total += self.sums[256 * b + key];
+        }
+        total
+    }
 }

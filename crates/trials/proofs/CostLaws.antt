@@ -1,11 +1,7 @@
 -- A trial by a nurse's costs is what is short and over counted afresh after the exchange.
-use mathlib.Core.Path.{◌≡◌, refl, sym, ap, ap₂, ◌∙◌, subst}
-use mathlib.Core.Bool.{Bool, true, false, cond, not, ◌&&◌, ◌||◌}
-use mathlib.Core.List.{List}
-use Prim.Native.Nat.{ℕ, suc, ◌+◌, ◌^◌, ◌≤◌, ◌<◌}
-use native.Mathlib.Nat.{le_refl, add-le-add}
-use native.Mathlib.Omega.{arith}
-use lib.ListN.{get_or}
+use Rattle.std.specs.Prelude.{◌≡◌, refl, Bool, true, false, cond, not, ◌&&◌, ◌||◌, List, ℕ, suc, ◌+◌, ◌^◌, ◌≤◌, ◌<◌, get_or}
+use Rattle.std.proofs.Common.{sym, ap, ap₂, ◌∙◌, subst, le_refl, add-le-add, arith}
+use Rattle.std.proofs.Math.Bool.{and-false}
 use Rattle.numbers.specs.Digits.{has, put}
 use Rattle.numbers.specs.Patterns.{pattern, unpaired, days_of}
 use Rattle.numbers.proofs.SumLaws.{sum_ext, sum_add}
@@ -32,11 +28,7 @@ use Rattle.trials.proofs.WindowLaws.{start_digit, window_open, before_small}
 night_state : (f : Bool → Bool → ℕ) (a b c off work : Bool) {night opened none : ℕ} → night ≡ f true false → opened ≡ f false work → none ≡ f false false
     → cond a night (cond off none (cond (b || c) none opened)) ≡ f a (((not a && (not b && not c)) && work) && not off)
 night_state f true b c off work x y z = x
-night_state f false b c true work x y z = z ∙ ap (f false) (sym (never ((not b && not c) && work)))
-  where
-    never : (t : Bool) → (t && false) ≡ false
-    never true = refl
-    never false = refl
+night_state f false b c true work x y z = z ∙ ap (f false) (sym (and-false ((not b && not c) && work)))
 night_state f false true c false work x y z = z
 night_state f false false true false work x y z = z
 night_state f false false false false true x y z = y

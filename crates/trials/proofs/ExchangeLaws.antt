@@ -1,9 +1,6 @@
 -- After an exchange the columns of a day, with nurse i's bit put in each, show the slots with her pattern exchanged.
-use mathlib.Core.Path.{◌≡◌, sym, ap, ◌∙◌, subst}
-use mathlib.Core.Bool.{Bool}
-use mathlib.Core.List.{List}
-use Prim.Native.Nat.{ℕ, ◌<◌}
-use lib.ListN.{get_or}
+use Rattle.std.specs.Prelude.{◌≡◌, Bool, List, ℕ, ◌<◌, get_or}
+use Rattle.std.proofs.Common.{sym, ap, ◌∙◌, subst}
 use Rattle.numbers.specs.Digits.{has, put}
 use Rattle.fields.specs.Fields.{nurses, days}
 use Rattle.history.specs.declared.Search.{Search}

@@ -1,10 +1,6 @@
 -- A nurse's list by night or by day: what the loops over it ask and find, and that nothing is missed where no trial goes before what is held.
-use Prim.Native.Nat.{ℕ, suc, ◌+◌, ◌*◌, ◌^◌, ◌≤◌, ◌<◌}
-use mathlib.Core.Path.{◌≡◌, sym, ap, ◌∙◌, subst}
-use mathlib.Core.Bool.{Bool, true, false, ◌&&◌}
-use mathlib.Core.List.{List, map}
-use native.Mathlib.Omega.{arith}
-use lib.ListN.{get_or}
+use Rattle.std.specs.Prelude.{ℕ, suc, ◌+◌, ◌*◌, ◌^◌, ◌≤◌, ◌<◌, ◌≡◌, Bool, true, false, ◌&&◌, List, map, get_or}
+use Rattle.std.proofs.Common.{sym, ap, ◌∙◌, subst, arith}
 use Rattle.numbers.specs.Digits.{number_of}
 use Rattle.numbers.specs.Patterns.{pattern, unpaired}
 use Rattle.numbers.proofs.DigitLaws.{number_has}
@@ -19,9 +15,10 @@ use Rattle.tables.specs.CodeTables.{trial_of, trial_without}
 use Rattle.trials.specs.CodeTrials.{start_set, NightTrials, DayTrials, CostTrials}
 use Rattle.best.specs.CodeBest.{Best, over_list, improves}
 use Rattle.best.proofs.BestLaws.{improves_less, over_none, over_filter}
-use Rattle.tries.specs.CodeTries.{NightTable, DayTable, tried_in, ListNeeds}
+use Rattle.tries.specs.declared.nurse.Offered.{Offered}
+use Rattle.tries.specs.CodeTries.{NightTable, DayTable, offered, tried_in, ListNeeds}
 
-module _ {which : Search} {w list : List ℕ} {whole : Bool} {c t : List ℕ} {before others i : ℕ} (n : ListNeeds which w list whole c t before others i) where
+module _ {which : Search} {w : List ℕ} {list : Offered} {c t : List ℕ} {before i : ℕ} (n : ListNeeds which w list c t before i) where
   module _ (cost : ℕ → ℕ) (y : CostTrials which w before c cost) where
     -- her trials by the table
     pub night_table : which ≡ Nights → NightTable w before c t cost
@@ -31,13 +28,13 @@ module _ {which : Search} {w list : List ℕ} {whole : Bool} {c t : List ℕ} {b
     day_table e = record { table = n.table; trials = subst (λ (s : Search). CostTrials s w before c cost) e y }
 
   -- what they found
-  pub night_found : (may : ℕ → Bool) (cost : ℕ → ℕ) (held : Best) {r : Best} → which ≡ Nights → r ≡ over_list (λ x. own_pattern w i x && may x) cost i held (with_pairs w list)
-      → r ≡ over_list may cost i held (tried_in which w i list)
+  pub night_found : (may : ℕ → Bool) (cost : ℕ → ℕ) (held : Best) {r : Best} → which ≡ Nights → r ≡ over_list (λ x. own_pattern w i x && may x) cost i held (with_pairs w (offered list))
+      → r ≡ over_list may cost i held (tried_in which w i (offered list))
   night_found may cost held e f =
-      f ∙ sym (over_filter (own_pattern w i) may cost i held (with_pairs w list)) ∙ ap (λ (s : Search). over_list may cost i held (tried_in s w i list)) (sym e)
+      f ∙ sym (over_filter (own_pattern w i) may cost i held (with_pairs w (offered list))) ∙ ap (λ (s : Search). over_list may cost i held (tried_in s w i (offered list))) (sym e)
 
-  pub day_found : (may : ℕ → Bool) (cost : ℕ → ℕ) (held : Best) {r : Best} → which ≡ Days → r ≡ over_list may cost i held (map unpaired list) → r ≡ over_list may cost i held (tried_in which w i list)
-  day_found may cost held e f = f ∙ ap (λ (s : Search). over_list may cost i held (tried_in s w i list)) (sym e)
+  pub day_found : (may : ℕ → Bool) (cost : ℕ → ℕ) (held : Best) {r : Best} → which ≡ Days → r ≡ over_list may cost i held (map unpaired (offered list)) → r ≡ over_list may cost i held (tried_in which w i (offered list))
+  day_found may cost held e f = f ∙ ap (λ (s : Search). over_list may cost i held (tried_in s w i (offered list))) (sym e)
 
 -- ---- no trial goes before what is held
 

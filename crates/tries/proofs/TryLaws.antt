@@ -1,22 +1,16 @@
 -- The loops over a nurse's patterns, by day and by night: what her trials cost, and what one pattern more makes of the best.
-use Prim.Native.Nat.{ℕ, suc, ◌+◌, ◌*◌, ◌/◌, ◌%◌, ◌^◌, ◌≤◌, ◌<◌}
-use mathlib.Core.Path.{◌≡◌, refl, sym, ap, ap₂, ◌∙◌, subst}
-use mathlib.Core.Bool.{Bool, true, false, ◌&&◌, ◌||◌, false≢true}
-use mathlib.Core.List.{List, [], ◌∷◌, ◌++◌, map}
-use native.Mathlib.Nat.{add-zero}
-use native.Mathlib.Omega.{arith}
-use native.Mathlib.Numerals.{add-one, add-two}
-use lib.Bits.{bit_or}
-use lib.Dec.{eqb}
-use lib.ListN.{length, get_or, take, length-map}
-use lib.Seq.{take-suc, take_all}
+use Rattle.std.specs.Prelude.{ℕ, suc, ◌+◌, ◌*◌, ◌/◌, ◌%◌, ◌^◌, ◌≤◌, ◌<◌, ◌≡◌, refl, Bool, true, false, ◌&&◌, ◌||◌, List, [], ◌∷◌, ◌++◌, map, bit_or, eqb, length, get_or, take}
+use Rattle.std.proofs.Common.{sym, ap, ap₂, ◌∙◌, subst, add-zero, arith, add-one, take-suc, take_all}
+use Rattle.std.proofs.lemmas.Bool.{false≢true}
+use Rattle.std.proofs.lemmas.List.{length-map, get_or-map}
+use Rattle.std.proofs.Math.Numerals.{add-two}
 use Rattle.numbers.specs.Range.{up_from}
 use Rattle.numbers.specs.Digits.{has, number_of}
 use Rattle.numbers.specs.Patterns.{pattern, unpaired}
 use Rattle.numbers.proofs.DigitLaws.{number_has, low_digit}
 use Rattle.numbers.proofs.SetLaws.{has_or, has_back}
 use Rattle.numbers.proofs.RangeLaws.{length_range, range_at}
-use Rattle.numbers.proofs.MemberLaws.{Each, each_map, get_or_map}
+use Rattle.numbers.proofs.MemberLaws.{Each, each_map}
 use Rattle.fields.specs.Fields.{Accepted, days, block, pair_count}
 use Rattle.rows.specs.Pairs.{pair_numbers, in_pair, pair_fits}
 use Rattle.nights.specs.Hers.{hers_of}
@@ -31,7 +25,7 @@ use Rattle.trials.specs.CodeTrials.{before_of, start_set, NightTrials}
 use Rattle.trials.proofs.WindowLaws.{busy_window}
 use Rattle.best.specs.CodeBest.{Best, over_list, considered, improves}
 use Rattle.best.proofs.BestLaws.{improves_less, over_nil, over_one, over_append, over_none, over_done, turn_barred, turn_worse, turn_considered}
-use Rattle.tries.specs.CodeTries.{Bars, NightNeeds, NightTable, DayTable, PatternNeeds}
+use Rattle.tries.specs.CodeTries.{Bars, NightTable, DayTable, PatternNeeds}
 
 -- ---- the set of starts
 
@@ -78,7 +72,7 @@ module _ (may : ℕ → Bool) (cost : ℕ → ℕ) (i : ℕ) (b₀ : Best) (list
   day_long = rw (length-map list unpaired) l
 
   day_here : get_or (map unpaired list) k 0 ≡ unpaired (get_or list k 0)
-  day_here = get_or_map unpaired 0 0 list k l
+  day_here = get_or-map unpaired list k 0 0 l
 
   -- one that does not improve
   pub day_worse : {c : ℕ} {t : Bool} {b'' : Best} → b'' ≡ b → c ≡ cost (unpaired (get_or list k 0)) → t ≡ improves b c → t ≡ false → b'' ≡ over_list may cost i b₀ (take (k + 1) (map unpaired list))
@@ -114,7 +108,7 @@ module _ {w : List ℕ} {n i x p : ℕ} {pairs : Pairs} (need : PatternNeeds w n
     pub paired_at : get_or (paired w p) k 0 ≡ pattern p (k + 1)
     paired_at =
         ap (λ (xs : List ℕ). get_or xs k 0) paired_is
-        ∙ get_or_map (pattern p) 0 0 (up_from 1 pairs.count) k (rw (length_range 1 pairs.count) l)
+        ∙ get_or-map (pattern p) (up_from 1 pairs.count) k 0 0 (rw (length_range 1 pairs.count) l)
         ∙ ap (pattern p) (range_at 1 pairs.count k l ∙ omega arith)
 
     inside : k + 1 ≤ pair_count w
@@ -195,12 +189,12 @@ module _ {G : Type 0} {w c t : List ℕ} {before others i : ℕ} {bars : List �
       z.so_far may cost h y g
       ∙ ap (λ (xs : List ℕ). over_list (λ x. own_pattern w i x && may x) (λ x. cost x + 10000000 * others) i held (with_pairs w xs)) (take_all k list l)
 
-  module _ (n : NightNeeds w c t before others i) (l : k < length list) where
+  module _ (ward : Accepted w) (l : k < length list) where
     abbrev here : ℕ
     here = get_or list k 0
 
     few : pair_count w < 2 ^ 32
-    few = omega (arith, n.ward.pairs_most)
+    few = omega (arith, ward.pairs_most)
 
     more : with_pairs w (take (k + 1) list) ≡ with_pairs w (take k list) ++ paired w here
     more =
@@ -247,11 +241,11 @@ module _ {G : Type 0} {w c t : List ℕ} {before others i : ℕ} {bars : List �
           stays j (λ may cost y g m h t. improves_less b (pair_costs_more y here others e (get_or (pair_numbers w) m 0) (pair_number_lt w few m h)) (sym q ∙ f))
 
       -- it does, and is hers
-      pub night_better : {h : Bool} {b' b'' : Best} → b'' ≡ b' → (G → h ≡ hers_of w i (get_or list k 0)) → h ≡ true
+      pub night_better : before ≡ before_of (block w i) → {h : Bool} {b' b'' : Best} → b'' ≡ b' → (G → h ≡ hers_of w i (get_or list k 0)) → h ≡ true
           → PatternBest w c bars (start_set before (get_or list k 0)) others i (get_or list k 0) r b b' → NightsTo G w c t before others i bars held list (k + 1) b''
-      night_better j q h f =
+      night_better e_before j q h f =
           turn j (λ may cost m y g.
-          f may cost m (ap (λ (v : ℕ). start_set v here) n.before_is) (sym (q g) ∙ h) (subst (λ (v : ℕ). NightTrials w v c cost) n.before_is y.trials) (alone_costs y here others e))
+          f may cost m (ap (λ (v : ℕ). start_set v here) e_before) (sym (q g) ∙ h) (subst (λ (v : ℕ). NightTrials w v c cost) e_before y.trials) (alone_costs y here others e))
 
 -- ---- a night pattern of hers
 

@@ -1,5 +1,6 @@
 -- What the loops over a nurse's list ask, and what they look at.
-use Rattle.std.specs.Prelude.{◌≡◌, Bool, true, false, not, List, map, ℕ, ◌≤◌, ◌<◌, eqb, length, get_or}
+use Rattle.std.specs.Prelude.{◌≡◌, Bool, true, not, List, map, ℕ, ◌≤◌, ◌<◌, eqb, length, get_or}
+use Rattle.std.proofs.Props.{props}
 use Rattle.fields.specs.Sizes.{nurse_places}
 use Rattle.numbers.specs.Range.{filter, any_of}
 use Rattle.numbers.specs.Patterns.{unpaired}
@@ -9,11 +10,14 @@ use Rattle.nights.specs.Hers.{hers_of}
 use Rattle.nights.specs.Own.{own_pattern, with_pairs}
 use Rattle.history.specs.declared.Search.{Search}
 use Rattle.history.specs.declared.Search.TheVariants.{Nights, Days}
-use Rattle.tables.specs.CodeTables.{Low, Small, Table}
-use Rattle.trials.specs.CodeTrials.{before_of, start_set, WorkableDays, NightTrials, DayTrials}
-use Rattle.tries.specs.declared.nurse.Counts.{Counts}
-use Rattle.tries.specs.declared.nurse.Tried.{Tried}
+use Rattle.penalty.specs.declared.columns.Columns.{Columns}
+use Rattle.tables.specs.CodeTables.{TableOf}
+use Rattle.margins.specs.declared.Margins.{Margins}
 use Rattle.margins.specs.CodeMargins.{SearchMargins}
+use Rattle.trials.specs.CodeTrials.{before_of, start_set, WorkableDays, NightTrials, DayTrials}
+use Rattle.tries.specs.declared.nurse.Offered.{Offered}
+use Rattle.tries.specs.declared.nurse.Offered.TheVariants.{Own, Common}
+use Rattle.tries.specs.declared.nurse.Tried.{Tried}
 
 -- she may take what is not barred
 abbrev pub Bars : (ℕ → Bool) → List ℕ → Type 0
@@ -27,22 +31,13 @@ Tells t w i list = (k : ℕ) (b : Bool) → k < length list → t (get_or list k
 abbrev pub AllHers : List ℕ → ℕ → List ℕ → Type 0
 AllHers w i list = (k : ℕ) → k < length list → hers_of w i (get_or list k 0) ≡ true
 
--- what the loops by night ask: nurse i's costs and table, and what stands before the month
-pub record NightNeeds (w c t : List ℕ) (before others i : ℕ) : Type 0 where
-  pub ward : Accepted w
-  pub nurse : i < nurses w
-  pub small : Small c (days w)
-  pub low : Low t 2227200
-  pub others_most : others ≤ nurse_places
-  pub before_is : before ≡ before_of (block w i)
-
 -- a table that her trials go by
 pub record NightTable (w : List ℕ) (before : ℕ) (c t : List ℕ) (cost : ℕ → ℕ) : Type 0 where
-  pub table : Table c (days w) t
+  pub table : TableOf c (days w) t
   pub trials : NightTrials w before c cost
 
 pub record DayTable (w c t : List ℕ) (cost : ℕ → ℕ) : Type 0 where
-  pub table : Table c (days w) t
+  pub table : TableOf c (days w) t
   pub trials : DayTrials w c cost
 
 -- a night pattern of hers, and the set by which its trials go
@@ -57,25 +52,33 @@ abbrev pub tried_in : Search → List ℕ → ℕ → List ℕ → List ℕ
 tried_in Nights w i list = filter (own_pattern w i) (with_pairs w list)
 tried_in Days w i list = map unpaired list
 
+-- the patterns of a list that is tried
+abbrev pub offered : Offered → List ℕ
+offered (Own list) = list.now
+offered (Common list) = list.now
+
 -- by night the list is all hers, or the common one
-pub record NightList (w list : List ℕ) (i : ℕ) (whole : Bool) : Type 0 where
-  pub when_whole : whole ≡ true → AllHers w i list
-  pub when_common : whole ≡ false → list ≡ common_of w
+abbrev pub NightList : List ℕ → ℕ → Offered → Type 0
+NightList w i (Own list) = AllHers w i list.now
+NightList w i (Common list) = list.now ≡ common_of w
 
-pub record ListNeeds (which : Search) (w list : List ℕ) (whole : Bool) (c t : List ℕ) (before others i : ℕ) : Type 0 where
-  pub ward : Accepted w
-  pub nurse : i < nurses w
-  pub listed : which ≡ Nights → NightList w list i whole
+pub record ListNeeds (which : Search) (w : List ℕ) (list : Offered) (c t : List ℕ) (before i : ℕ) : Type 0 where
+  pub listed : which ≡ Nights → NightList w i list
   pub before_is : which ≡ Nights → before ≡ before_of (block w i)
-  pub others_most : others ≤ nurse_places
-  pub small : Small c (days w)
-  pub table : Table c (days w) t
+  pub table : TableOf c (days w) t
 
-pub record NurseNeeds (which : Search) (w : List ℕ) (counts : Counts) (x : Tried) : Type 0 where
-  pub ward : Accepted w
-  pub nurse : x.number < nurses w
-  pub listed : which ≡ Nights → NightList w x.list.now x.number x.whole
-  pub before_is : which ≡ Nights → x.before ≡ before_of (block w x.number)
-  pub workable_are : which ≡ Nights → WorkableDays w x.number x.workable
+pub record NurseNeeds (which : Search) (w : List ℕ) (x : Tried) : Type 0 where
+  pub nurse : x.nurse < nurses w
+  pub listed : which ≡ Nights → NightList w x.nurse x.list
+  pub before_is : which ≡ Nights → x.before ≡ before_of (block w x.nurse)
+  pub workable_are : which ≡ Nights → WorkableDays w x.nurse x.workable
   pub others_most : x.others ≤ nurse_places
-  pub margins : SearchMargins which w counts.night.now counts.day.now counts.nightly.now counts.daily.now
+
+-- the margins are those of the columns
+abbrev pub MarginsIn : Search → List ℕ → Columns → Margins → Type 0
+MarginsIn which w cols m = SearchMargins which w cols.night cols.day m.nightly m.daily
+
+-- a fact with one proof at most, so that a struct may carry it
+pub margins_prop : (which : Search) (w : List ℕ) (cols : Columns) (m : Margins) → IsProp (MarginsIn which w cols m)
+margins_prop Nights w cols m = Prim.hlevel props
+margins_prop Days w cols m = Prim.hlevel props

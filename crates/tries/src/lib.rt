@@ -4,38 +4,44 @@
 pub mod nurse;
 mod pairs;
 
-ghost use Rattle.std.specs.Prelude.{◌≡◌, Bool, ◌&&◌, List, map, ℕ, ◌+◌, ◌*◌, ◌≤◌};
+ghost use Rattle.std.specs.Prelude.{◌≡◌, Bool, ◌&&◌, List, map, ℕ, ◌+◌, ◌*◌, ◌≤◌, ◌<◌};
 ghost use Rattle.fields.specs.Sizes.{nurse_places};
+ghost use Rattle.fields.specs.Fields.{nurses, days, block};
 ghost use Rattle.numbers.specs.Patterns.{unpaired};
 ghost use Rattle.nights.specs.Own.{own_pattern, with_pairs};
-ghost use Rattle.tables.specs.CodeTables.{Low, table_trial};
+ghost use Rattle.tables.specs.CodeTables.{table_trial};
+ghost use Rattle.trials.specs.CodeTrials.{before_of};
 ghost use Rattle.best.specs.CodeBest.{considered, over_list};
-ghost use Rattle.tries.specs.CodeTries.{Bars, Tells, NightNeeds, NightTable, DayTable};
+ghost use Rattle.tries.specs.CodeTries.{Bars, Tells, NightTable, DayTable};
 
 use best::Exchange;
+use fields::Body;
 use numbers::pattern;
 use penalty::Penalty;
-use tables::{COSTS, TABLE};
+use tables::Table;
+use tables::costs::Costs;
 
 // What one nurse's trials go by: her costs and their table, the starts before her month, and how many others are unplaced.
 #[derive(Clone, Copy)]
 pub(crate) struct Trials<'a> {
-    ward: &'a [u64],
-    costs: &'a [u32; COSTS],
-    table: &'a [u32; TABLE],
+    ward: &'a Body<'a>,
+    costs: &'a Costs,
+    table: &'a Table,
     barred: &'a [u64],
     before: u64,
     others: u64,
     nurse: usize,
+    ghost in_ward: { nurse < nurses ward.now.numbers.now },
+    ghost month: { costs.now.days ≡ days ward.now.numbers.now },
+    ghost others_most: { others ≤ nurse_places },
 }
 
 impl Trials<'_> {
     // What the trial by a set of starts costs.
     fn cost(&self, starts: u64) -> u64
-        requires { Low self.now.table.now 2227200 × (self.now.others ≤ nurse_places) }
         ensures { result ≡ table_trial self.now.table.now starts + 10000000 * self.now.others }
     {
-        tables::trial(self.table, starts) as u64 + Penalty::UNPLACED * self.others
+        self.table.trial(starts) as u64 + Penalty::UNPLACED * self.others
     }
 
     // The best with one exchange more, which counts if the pattern is not barred.
@@ -64,7 +70,6 @@ impl Trials<'_> {
 
     // The best of what is held and of her day list.
     fn over_days(&self, list: &[u32], held: Option<Exchange>) -> Option<Exchange>
-        requires { Low self.now.table.now 2227200 × (self.now.others ≤ nurse_places) }
         ensures { (w c : List ℕ) (may : ℕ → Bool) (cost : ℕ → ℕ) → Bars may self.now.barred.now → DayTable w c self.now.table.now cost →
             result ≡ over_list may (λ q. cost q + 10000000 * self.now.others) self.now.nurse held (map unpaired list.now) }
     {
@@ -85,11 +90,11 @@ impl Trials<'_> {
         hers: F,
         held: Option<Exchange>,
     ) -> Option<Exchange>
-        requires needs { NightNeeds self.now.ward.now self.now.costs.now self.now.table.now self.now.before self.now.others self.now.nurse }
+        requires before { self.now.before ≡ before_of (block self.now.ward.now.numbers.now self.now.nurse) }
         requires callable { F.IsAlwaysCallable hers }
-        ensures { (may : ℕ → Bool) (cost : ℕ → ℕ) → Bars may self.now.barred.now → NightTable self.now.ward.now self.now.before self.now.costs.now self.now.table.now cost →
-            Tells (F.post hers) self.now.ward.now self.now.nurse list.now →
-            result ≡ over_list (λ x. own_pattern self.now.ward.now self.now.nurse x && may x) (λ x. cost x + 10000000 * self.now.others) self.now.nurse held (with_pairs self.now.ward.now list.now) }
+        ensures { (may : ℕ → Bool) (cost : ℕ → ℕ) → Bars may self.now.barred.now → NightTable self.now.ward.now.numbers.now self.now.before self.now.costs.now.costs self.now.table.now cost →
+            Tells (F.post hers) self.now.ward.now.numbers.now self.now.nurse list.now →
+            result ≡ over_list (λ x. own_pattern self.now.ward.now.numbers.now self.now.nurse x && may x) (λ x. cost x + 10000000 * self.now.others) self.now.nurse held (with_pairs self.now.ward.now.numbers.now list.now) }
     {
         let mut best = held;
         for &nights in list {

@@ -1,114 +1,112 @@
 // The best exchange of one nurse.
 ghost use Rattle.std.specs.Prelude.{◌≡◌, Bool, ℕ, ◌+◌, ◌*◌};
-ghost use Rattle.fields.specs.Fields.{days};
 ghost use Rattle.history.specs.Slot.{Slot, exchanged};
 ghost use Rattle.penalty.specs.Penalty.{rest, parts_in};
-ghost use Rattle.penalty.specs.CodeColumns.{Shows, columns_of};
-ghost use Rattle.tables.specs.CodeTables.{Blank};
+ghost use Rattle.penalty.specs.CodeColumns.{Shows};
 ghost use Rattle.trials.specs.CodeTrials.{CostTrials};
 ghost use Rattle.best.specs.CodeBest.{over_list};
-ghost use Rattle.tries.specs.CodeTries.{Bars, ListNeeds, NurseNeeds, tried_in};
+ghost use Rattle.tries.specs.CodeTries.{Bars, offered, ListNeeds, NurseNeeds, MarginsIn, margins_prop, tried_in};
 
 use crate::Trials;
 use best::Exchange;
-use fields::sizes::DAYS;
+use fields::Body;
 use history::Search;
-use margins::MARGINS;
+use margins::Margins;
 use penalty::Penalty;
-use tables::TABLE;
+use penalty::columns::Columns;
+use tables::Table;
 
 // What a step counts by: the columns in force, and the margins made from them.
 #[derive(Clone, Copy)]
-pub struct Counts<'a> {
-    pub night: &'a [u64; DAYS],
-    pub day: &'a [u64; DAYS],
-    pub nightly: &'a [u32; MARGINS],
-    pub daily: &'a [u32; MARGINS],
+pub struct InForce<'a> {
+    pub ward: &'a Body<'a>,
+    pub search: Search,
+    pub cols: &'a Columns,
+    pub margins: &'a Margins,
+    pub ghost made: { MarginsIn search ward.now.numbers.now cols.now margins.now } by { margins_prop search ward.now.numbers.now cols.now margins.now },
 }
 
-// What is tried of nurse `number`: her list, of which by night all is hers where `whole` says so; the days that she may work where they are open; the
-// starts before her month; what is barred for her; and how many others are unplaced.
+// A list that a nurse tries: her own, or by night the common one with hers among it.
 #[derive(Clone, Copy)]
-pub struct Tried<'a> {
-    pub list: &'a [u32],
-    pub whole: bool,
-    pub workable: u32,
-    pub before: u64,
-    pub barred: &'a [u64],
-    pub others: u64,
-    pub number: usize,
+pub enum Offered<'a> {
+    Own(&'a [u32]),
+    Common(&'a [u32]),
 }
 
-impl Trials<'_> {
-    // The best of what is held and of her list; by night `whole` says whether all of the list is hers.
-    fn over_list(
-        &self,
-        list: &[u32],
-        whole: bool,
-        search: Search,
-        held: Option<Exchange>,
-    ) -> Option<Exchange>
-        requires { ListNeeds search self.now.ward.now list.now whole self.now.costs.now self.now.table.now self.now.before self.now.others self.now.nurse }
-        ensures { (may : ℕ → Bool) (cost : ℕ → ℕ) → Bars may self.now.barred.now → CostTrials search self.now.ward.now self.now.before self.now.costs.now cost →
-            result ≡ over_list may (λ x. cost x + 10000000 * self.now.others) self.now.nurse held (tried_in search self.now.ward.now self.now.nurse list.now) }
+impl<'a> Offered<'a> {
+    fn patterns(self) -> &'a [u32]
+        ensures { result.now ≡ offered self.entry }
     {
-        match search {
-            Search::Nights => {
-                if whole {
-                    self.over_nights(list, |_| true, held)
-                } else {
-                    let masks = nursemasks::masks::masks_of(self.ward, self.nurse);
-                    self.over_nights(
-                        list,
-                        |p| nursemasks::masks::passes(self.ward, masks, p),
-                        held,
-                    )
-                }
-            }
-            Search::Days => self.over_days(list, held),
+        match self {
+            Offered::Own(list) => list,
+            Offered::Common(list) => list,
         }
     }
 }
 
-// The best of what is held and of what a nurse tries. No trial of hers costs less than the least of each of her days: where that does not go before
-// what is held, neither her table is made nor her list looked at.
-pub fn over_nurse(
-    w: &[u64],
-    search: Search,
-    counts: &Counts,
-    t: &mut [u32; TABLE],
-    x: &Tried,
-    held: Option<Exchange>,
-) -> Option<Exchange>
-    requires { NurseNeeds search w.now counts.now x.now × Blank t.old (days w.now) }
-    ensures tried { (slots : ℕ → Slot) (may : ℕ → Bool) → Shows search w.now slots (columns_of counts.now.night.now counts.now.day.now) → Bars may x.now.barred.now →
-        result ≡ over_list may (λ p. rest (parts_in search w.now (exchanged slots x.now.number p)) + 10000000 * x.now.others) x.now.number held (tried_in search w.now x.now.number x.now.list.now) }
-    ensures blank { Blank t.new (days w.now) }
-{
-    let n = fields::days(w);
-    let c = margins::costs::nurse_costs(
-        w,
-        counts.night,
-        counts.day,
-        x.number,
-        counts.nightly,
-        counts.daily,
-        x.workable,
-        search,
-    );
-    let least = tables::plain::least(n, &c) as u64 + Penalty::UNPLACED * x.others;
-    if !best::improves(held, least) {
-        return held;
+// What is tried of a nurse: her list; the days that she may work where they are open; the starts before her month; what is barred for her; and how many
+// others are unplaced.
+#[derive(Clone, Copy)]
+pub struct Tried<'a> {
+    pub list: Offered<'a>,
+    pub workable: u32,
+    pub before: u64,
+    pub barred: &'a [u64],
+    pub others: u64,
+    pub nurse: usize,
+}
+
+impl Trials<'_> {
+    // The best of what is held and of her list.
+    // By `match`: each arm is a line or two over the same arguments, which closures handed in would carry all.
+    fn over_list(&self, list: Offered, search: Search, held: Option<Exchange>) -> Option<Exchange>
+        requires { ListNeeds search self.now.ward.now.numbers.now list self.now.costs.now.costs self.now.table.now self.now.before self.now.nurse }
+        ensures { (may : ℕ → Bool) (cost : ℕ → ℕ) → Bars may self.now.barred.now → CostTrials search self.now.ward.now.numbers.now self.now.before self.now.costs.now.costs cost →
+            result ≡ over_list may (λ x. cost x + 10000000 * self.now.others) self.now.nurse held (tried_in search self.now.ward.now.numbers.now self.now.nurse (offered list.entry)) }
+    {
+        match search {
+            Search::Days => self.over_days(list.patterns(), held),
+            Search::Nights => match list {
+                Offered::Own(own) => self.over_nights(own, |_| true, held),
+                Offered::Common(all) => {
+                    let hers = nursemasks::masks::masks_of(self.ward, self.nurse);
+                    self.over_nights(all, |p| hers.passes(p), held)
+                }
+            },
+        }
     }
-    tables::fill(n, &c, t);
-    let trials = Trials {
-        ward: w,
-        costs: &c,
-        table: t,
-        barred: x.barred,
-        before: x.before,
-        others: x.others,
-        nurse: x.number,
-    };
-    trials.over_list(x.list, x.whole, search, held)
+}
+
+impl InForce<'_> {
+    // The best of what is held and of what a nurse tries. No trial of hers costs less than the least of each of her days: where that does not go before
+    // what is held, neither her table is made nor her list looked at.
+    pub fn over_nurse(&self, t: &mut Table, x: &Tried, held: Option<Exchange>) -> Option<Exchange>
+        requires { NurseNeeds self.now.search self.now.ward.now.numbers.now x.now }
+        ensures { (slots : ℕ → Slot) (may : ℕ → Bool) → Shows self.now.search self.now.ward.now.numbers.now slots self.now.cols.now → Bars may x.now.barred.now →
+            result ≡ over_list may (λ p. rest (parts_in self.now.search self.now.ward.now.numbers.now (exchanged slots x.now.nurse p)) + 10000000 * x.now.others) x.now.nurse held (tried_in self.now.search self.now.ward.now.numbers.now x.now.nurse (offered x.now.list)) }
+    {
+        let costs = margins::costs::nurse_costs(
+            self.ward,
+            self.cols,
+            x.nurse,
+            self.margins,
+            x.workable,
+            self.search,
+        );
+        let least = costs.least() as u64 + Penalty::UNPLACED * x.others;
+        if !best::improves(held, least) {
+            return held;
+        }
+        t.fill(&costs);
+        let trials = Trials {
+            ward: self.ward,
+            costs: &costs,
+            table: t,
+            barred: x.barred,
+            before: x.before,
+            others: x.others,
+            nurse: x.nurse,
+        };
+        trials.over_list(x.list, self.search, held)
+    }
 }

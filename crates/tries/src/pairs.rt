@@ -1,13 +1,12 @@
 // A night pattern of hers with each pair that fits it.
 ghost use Rattle.std.specs.Prelude.{◌≡◌, Bool, true, ◌&&◌, List, map, ℕ, ◌+◌, ◌*◌, ◌^◌, ◌≤◌, ◌<◌};
-ghost use Rattle.fields.specs.Sizes.{nurse_places, pair_most};
-ghost use Rattle.fields.specs.Fields.{Accepted, nurses, days, block, pair_count};
+ghost use Rattle.fields.specs.Sizes.{pair_most};
+ghost use Rattle.fields.specs.Fields.{block, pair_count};
 ghost use Rattle.numbers.specs.Patterns.{pattern, unpaired};
 ghost use Rattle.rows.specs.Pairs.{pair_numbers};
 ghost use Rattle.nights.specs.Hers.{hers_of};
 ghost use Rattle.nights.specs.Own.{own_pattern};
 ghost use Rattle.nursemasks.specs.CodePairs.{PairsOf, BusyDays};
-ghost use Rattle.tables.specs.CodeTables.{Small};
 ghost use Rattle.trials.specs.CodeTrials.{before_of, start_set, NightTrials};
 ghost use Rattle.best.specs.CodeBest.{over_list};
 ghost use Rattle.tries.specs.CodeTries.{Bars, PatternNeeds};
@@ -29,17 +28,10 @@ fn busy_days(x: u64) -> u32
 
 impl Trials<'_> {
     // The best of what is held and of the night pattern p with each of the pairs.
-    fn over_pairs(
-        &self,
-        n: usize,
-        pairs: &Pairs,
-        x: u64,
-        p: u32,
-        held: Option<Exchange>,
-    ) -> Option<Exchange>
-        requires { Small self.now.costs.now n × (pairs.now.count ≤ pair_most) × (self.now.others ≤ nurse_places) × (x < 2 ^ 34) }
-        ensures { (w : List ℕ) (may : ℕ → Bool) (cost : ℕ → ℕ) → Bars may self.now.barred.now → PatternNeeds w n self.now.nurse x p → PairsOf w self.now.nurse pairs.now → 1 ≤ pair_count w →
-            NightTrials w (before_of (block w self.now.nurse)) self.now.costs.now cost →
+    fn over_pairs(&self, pairs: &Pairs, x: u64, p: u32, held: Option<Exchange>) -> Option<Exchange>
+        requires { (pairs.now.count ≤ pair_most) × (x < 2 ^ 34) }
+        ensures { (w : List ℕ) (may : ℕ → Bool) (cost : ℕ → ℕ) → Bars may self.now.barred.now → PatternNeeds w self.now.costs.now.days self.now.nurse x p → PairsOf w self.now.nurse pairs.now → 1 ≤ pair_count w →
+            NightTrials w (before_of (block w self.now.nurse)) self.now.costs.now.costs cost →
             result ≡ over_list (λ y. own_pattern w self.now.nurse y && may y) (λ y. cost y + 10000000 * self.now.others) self.now.nurse held (map (pattern p) (pair_numbers w)) }
     {
         let busy = busy_days(x);
@@ -49,8 +41,7 @@ impl Trials<'_> {
             let number = k + 1;
             let off = pairs.days[number];
             if pairs::fits(off, busy) {
-                let cost = tables::plain::without(n, self.costs, x, off) as u64
-                    + Penalty::UNPLACED * self.others;
+                let cost = self.costs.without(x, off) as u64 + Penalty::UNPLACED * self.others;
                 if best::improves(best, cost) {
                     best = self.consider(best, pattern::of(p, number as u32), cost);
                 }
@@ -68,16 +59,15 @@ impl Trials<'_> {
         cost: u64,
         held: Option<Exchange>,
     ) -> Option<Exchange>
-        requires { Accepted self.now.ward.now × (self.now.nurse < nurses self.now.ward.now) × Small self.now.costs.now (days self.now.ward.now) × (self.now.others ≤ nurse_places) × (x < 2 ^ 34) }
-        ensures { (may : ℕ → Bool) (price : ℕ → ℕ) → Bars may self.now.barred.now → x ≡ start_set (before_of (block self.now.ward.now self.now.nurse)) p → hers_of self.now.ward.now self.now.nurse p ≡ true →
-            NightTrials self.now.ward.now (before_of (block self.now.ward.now self.now.nurse)) self.now.costs.now price → cost ≡ price (unpaired p) + 10000000 * self.now.others →
-            result ≡ over_list (λ y. own_pattern self.now.ward.now self.now.nurse y && may y) (λ y. price y + 10000000 * self.now.others) self.now.nurse held (map (pattern p) (pair_numbers self.now.ward.now)) }
+        requires { x < 2 ^ 34 }
+        ensures { (may : ℕ → Bool) (price : ℕ → ℕ) → Bars may self.now.barred.now → x ≡ start_set (before_of (block self.now.ward.now.numbers.now self.now.nurse)) p → hers_of self.now.ward.now.numbers.now self.now.nurse p ≡ true →
+            NightTrials self.now.ward.now.numbers.now (before_of (block self.now.ward.now.numbers.now self.now.nurse)) self.now.costs.now.costs price → cost ≡ price (unpaired p) + 10000000 * self.now.others →
+            result ≡ over_list (λ y. own_pattern self.now.ward.now.numbers.now self.now.nurse y && may y) (λ y. price y + 10000000 * self.now.others) self.now.nurse held (map (pattern p) (pair_numbers self.now.ward.now.numbers.now)) }
     {
-        if fields::pair_count(self.ward) == 0 {
+        if self.ward.pair_count() == 0 {
             return self.consider(held, pattern::of(p, 0), cost);
         }
-        let n = fields::days(self.ward);
         let pairs = pairs::pairs_of(self.ward, self.nurse);
-        self.over_pairs(n, &pairs, x, p, held)
+        self.over_pairs(&pairs, x, p, held)
     }
 }

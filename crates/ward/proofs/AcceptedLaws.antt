@@ -1,16 +1,8 @@
 -- The reader's yes says that the ward's body is `Accepted`.
-use Prim.Native.Nat.{ℕ, zero, suc, ◌+◌, ◌-◌, ◌*◌, ◌^◌, ◌≤◌, ◌<◌}
-use mathlib.Core.Path.{◌≡◌, refl, sym, ap, ◌∙◌, subst}
-use mathlib.Core.Bool.{Bool, true, false, cond}
-use mathlib.Core.List.{List, [], ◌∷◌}
-use mathlib.Core.Logic.{◌⊎◌, inl, inr, ⊎_elim}
-use native.Mathlib.Omega.{arith}
-use native.Mathlib.Nat.{mul-le-mul_right, suc-mul}
-use native.Mathlib.Decide.{dec_lt}
-use lib.ListN.{length, get_or, take, drop, get_or-eq_default, length-take, length-drop}
-use lib.Seq.{length-take-le, get_or-take, get_or-drop}
-use lib.Pow.{pow_pos}
-use lib.Dec.{eqb}
+use Rattle.std.specs.Prelude.{ℕ, zero, suc, ◌+◌, ◌-◌, ◌*◌, ◌^◌, ◌≤◌, ◌<◌, ◌≡◌, refl, Bool, true, false, cond, List, [], ◌∷◌, ◌⊎◌, length, get_or, take, drop, eqb}
+use Rattle.std.proofs.Common.{sym, ap, ◌∙◌, subst, ⊎_elim, arith, mul-le-mul_right, suc-mul, length-take, length-drop, length-take-le, get_or-take, get_or-drop, pow_pos}
+use Rattle.std.proofs.lemmas.Bool.{cases_lt}
+use Rattle.std.proofs.Math.ListN.{get_or-eq_default}
 use Rattle.layout.specs.declared.Head.{Head}
 use Rattle.layout.specs.declared.Field.{Field}
 use Rattle.layout.specs.Grammar.{Grammar, number, failed_by, good, check}
@@ -24,13 +16,6 @@ use Rattle.layout.proofs.AcceptLaws.{let_through, accepted}
 use Rattle.layout.proofs.PairLaws.{FirstDay, Paired, paired}
 use Rattle.ward.proofs.FitsLaws.{ward_fits}
 use Rattle.layout.proofs.AccessLaws.{After, First, Both, Most, Takes, reached, number_has, numbers_have, after_at, past, takes_one, takes_both, takes_repeat, in_repeat, takes_day, takes_group, takes_nurse, nurse_duty, nurse_least_nights, nurse_most_nights, nurse_least_rests, nurse_most_rests, nurse_mark, day_in, day_pair}
-
-split : (a b : ℕ) → (a < b) ⊎ (b ≤ a)
-split a b = go (dec_lt a b)
-  where
-    go : Dec (a < b) → (a < b) ⊎ (b ≤ a)
-    go (yes q) = inl q
-    go (no q) = inr (omega arith)
 
 -- ---- the numbers after the head
 
@@ -304,8 +289,8 @@ module _ (m n r : ℕ) (ws us : List ℕ) (hm : Between 1 48 m) (hn : Between 1 
     pair_day_some = λ k l q. omega (arith, tail_at_lem k, (first_day k l q).above);
     pair_day_most = λ k l q. omega (arith, tail_at_lem k, (first_day k l q).inside, hn.0);
     blocks = block_is;
-    member_sets_most = λ g. ⊎_elim (set_in g) (set_out g) (split g r);
-    needs_most = λ d j l. ⊎_elim (need_in d j l) (need_out d j) (split j (4 * r + 2));
+    member_sets_most = λ g. ⊎_elim (set_in g) (set_out g) (cases_lt g r);
+    needs_most = λ d j l. ⊎_elim (need_in d j l) (need_out d j) (cases_lt j (4 * r + 2));
     low_high = low_under_high;
   }
 

@@ -1,8 +1,6 @@
 -- Questions 1 to 5 of a ward file, and of a list of numbers, are a no exactly where their fault is.
-use Prim.Native.Nat.{ℕ, ◌+◌}
-use mathlib.Core.Path.{◌≡◌, ap, ◌∙◌, subst}
-use mathlib.Core.List.{List}
-use native.Mathlib.Omega.{arith}
+use Rattle.std.specs.Prelude.{ℕ, ◌+◌, ◌≡◌, List}
+use Rattle.std.proofs.Common.{ap, ◌∙◌, subst, arith}
 use Rattle.fields.specs.Sizes.{number_places}
 use Rattle.refusals.specs.Refusals.{numbered}
 use Rattle.codec.proofs.NumberLaws.{AllBytes}

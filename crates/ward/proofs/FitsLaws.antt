@@ -1,5 +1,5 @@
 -- A ward's numbers fit the array that takes them.
-use lib.Dec.{lit≤}
+use Rattle.std.proofs.Common.{lit≤}
 use Rattle.fields.specs.Sizes.{number_places}
 use Rattle.layout.specs.CodeWant.{Within}
 use Rattle.layout.specs.Layout.{ward}

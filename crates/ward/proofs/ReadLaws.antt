@@ -1,26 +1,22 @@
 -- What the reader's loop keeps, and what each way out of it comes to.
-use Prim.Native.Nat.{ℕ, zero, suc, ◌+◌, ◌-◌, ◌≤◌, ◌<◌}
-use mathlib.Core.Path.{◌≡◌, refl, sym, ap, ◌∙◌, subst}
-use mathlib.Core.List.{List, [], ◌∷◌, ◌++◌, append-nil}
-use native.Mathlib.Numerals.{add-one}
-use native.Mathlib.Omega.{arith}
-use lib.ListN.{length, take, drop, set, replicate, length-drop, length-set, length-replicate, take-append-drop}
-use lib.Seq.{take-suc-set, drop-set-lt, drop-drop, length-take-le}
+use Rattle.std.specs.Prelude.{ℕ, zero, suc, ◌+◌, ◌-◌, ◌≤◌, ◌<◌, ◌≡◌, refl, List, [], ◌∷◌, ◌++◌, length, take, drop, set, replicate}
+use Rattle.std.proofs.Common.{sym, ap, ◌∙◌, subst, append-nil, add-one, arith, length-drop, length-set, take-append-drop, take-suc-set, drop-set-lt, drop-drop, length-take-le}
+use Rattle.std.proofs.lemmas.List.{length-replicate}
+use Rattle.std.specs.Result.{IfOk}
+use Rattle.std.specs.declared.option.Option.TheVariants.{None, Some}
+use Rattle.std.specs.declared.result.Result.{Result}
+use Rattle.std.specs.declared.result.Result.TheVariants.{Ok, Err}
 use Rattle.fields.specs.Sizes.{number_places}
 use Rattle.refusals.specs.Refusals.{numbered}
 use Rattle.refusals.specs.Questions as question
 use Rattle.layout.specs.declared.Field.{Field}
-use Rattle.std.specs.declared.result.Result.{Result}
-use Rattle.std.specs.declared.result.Result.TheVariants.{Ok, Err}
-use Rattle.std.specs.declared.option.Option.TheVariants.{None, Some}
-use Rattle.std.specs.Result.{IfOk}
 use Rattle.refusals.specs.declared.Refusal.{Refusal}
 use Rattle.codec.specs.declared.Number.{Number}
 use Rattle.codec.specs.declared.Fault.{Fault}
 use Rattle.codec.specs.declared.Fault.TheVariants.{Ended, Long}
 use Rattle.codec.specs.Groups.{value, decode}
 use Rattle.ward.specs.declared.Ward.{Ward}
-use Rattle.ward.specs.CodeChecked.{said, with_number, number_of}
+use Rattle.ward.specs.CodeChecked.{said, with_number, number_asked}
 use Rattle.layout.specs.Grammar.{Grammar, Read, failed_by, good, bad, prepend, read}
 use Rattle.layout.specs.CodeWant.{wanted, after, Within}
 use Rattle.layout.specs.Layout.{ward}
@@ -54,7 +50,7 @@ replicate_drop n h =
     ap (λ (i : ℕ). drop {A = ℕ} 1 (replicate i 0)) e
 
 -- a number that was asked at its place
-pub number_good : (f : Field) (at : ℕ) {n : Number} (d : Result Number Fault) → Ok n ≡ number_of f at d → (d ≡ Ok n) × (failed_by f n.value ≡ 0)
+pub number_good : (f : Field) (at : ℕ) {n : Number} (d : Result Number Fault) → Ok n ≡ number_asked f at d → (d ≡ Ok n) × (failed_by f n.value ≡ 0)
 number_good f at {n} (Ok m) e = go (failed_by f m.value) refl e
   where
     go : (q : ℕ) → failed_by f m.value ≡ q → Ok n ≡ with_number m (said q at) → (◌≡◌ {A = Result Number Fault} (Ok m) (Ok n)) × (failed_by f n.value ≡ 0)
@@ -104,7 +100,7 @@ module _ (file numbers : List ℕ) (count at : ℕ) (g : Grammar) (so : So file 
             onward =
                 rw (add-one count, take-suc-set numbers count v (subst (λ (n : ℕ). count < n) (sym so.long) space), drop-drop used at file)
 
-    refused : {n : Refusal} (d : Result Number Fault) → decode (drop at file) ≡ d → Err n ≡ number_of f at d → read g at (drop at file) ≡ bad n
+    refused : {n : Refusal} (d : Result Number Fault) → decode (drop at file) ≡ d → Err n ≡ number_asked f at d → read g at (drop at file) ≡ bad n
     refused {n} (Ok m) q x = go (failed_by f m.value) refl x
       where
         go : (p : ℕ) → failed_by f m.value ≡ p → Err n ≡ with_number m (said p at) → read g at (drop at file) ≡ bad n
@@ -117,7 +113,7 @@ module _ (file numbers : List ℕ) (count at : ℕ) (g : Grammar) (so : So file 
     refused {n} (Err Ended) q x = let s : numbered question.whole at ≡ n = cc in read_ended g f at (drop at file) e q ∙ ap bad s
     refused {n} (Err Long) q x = let s : numbered question.shortest at ≡ n = cc in read_long g f at (drop at file) e q ∙ ap bad s
 
-    pub failed : {n : Refusal} → Err n ≡ number_of f at (decode (drop at file)) → read_ward file ≡ bad n
+    pub failed : {n : Refusal} → Err n ≡ number_asked f at (decode (drop at file)) → read_ward file ≡ bad n
     failed x = so.same ∙ ap (prepend (take count numbers)) (refused (decode (drop at file)) refl x)
 
   module _ (e : wanted g ≡ None) where

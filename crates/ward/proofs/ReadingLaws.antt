@@ -1,10 +1,6 @@
 -- The body of the numbers that the reader gives with a yes is an accepted ward.
-use Prim.Native.Nat.{ℕ, ◌-◌, ◌≤◌, ◌<◌}
-use mathlib.Core.Path.{◌≡◌, refl, sym, ap, ◌∙◌, subst}
-use mathlib.Core.List.{List, ◌++◌}
-use native.Mathlib.Omega.{arith}
-use lib.ListN.{length, get_or, take, replicate, length-append}
-use lib.Seq.{take_at}
+use Rattle.std.specs.Prelude.{ℕ, ◌-◌, ◌≤◌, ◌<◌, ◌≡◌, refl, List, ◌++◌, length, get_or, take, replicate}
+use Rattle.std.proofs.Common.{sym, ap, ◌∙◌, subst, arith, length-append, take_at}
 use Rattle.std.specs.declared.result.Result.TheVariants.{Ok}
 use Rattle.ward.specs.declared.Ward.{Ward}
 use Rattle.layout.specs.Grammar.{Read, good, bad}
@@ -14,6 +10,7 @@ use Rattle.fields.specs.Fields.{body_of, Accepted}
 use Rattle.codec.proofs.NumberLaws.{all_bytes}
 use Rattle.layout.specs.Layout.{ward}
 use Rattle.layout.proofs.AcceptLaws.{read_checked}
+use Rattle.ward.specs.Body.{WardIn}
 use Rattle.ward.proofs.RoundTrip.{ward_back}
 use Rattle.ward.proofs.AcceptedLaws.{accepted_ward, long_ward}
 
@@ -58,3 +55,6 @@ reading_fits file w e = go (read_ward file) e
         let r : w ≡ record { numbers = ws ++ replicate (number_places - length ws) 0; count = length ws } = cc in
         subst (λ (y : Ward). y.count ≤ length y.numbers) (sym r) (simp length-append (omega arith))
     go (bad n) same = let z : ◌≡◌ {A = ℕ} 0 1 = cc in absurd (omega arith)
+
+pub ward_in : (file : List ℕ) (w : Ward) → ((i : ℕ) → get_or file i 0 < 256) → Ok w ≡ reading_of (read_ward file) → WardIn w.numbers w.count
+ward_in file w bytes e = record { fits = reading_fits file w e; long = reading_long file w bytes e; accepted = reading_accepted file w bytes e }

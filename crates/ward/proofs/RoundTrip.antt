@@ -1,7 +1,6 @@
 -- The ward's round trips.
-use mathlib.Core.Path.{◌≡◌, refl, sym}
-use mathlib.Core.List.{List}
-use Prim.Native.Nat.{ℕ}
+use Rattle.std.specs.Prelude.{◌≡◌, refl, List, ℕ}
+use Rattle.std.proofs.Common.{sym}
 use Rattle.fields.specs.Sizes.{number_places}
 use Rattle.codec.proofs.NumberLaws.{AllBytes}
 use Rattle.layout.specs.Grammar.{good, bytes_of}

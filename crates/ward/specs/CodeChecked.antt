@@ -14,9 +14,9 @@ use Rattle.layout.specs.declared.Field.{Field}
 use Rattle.layout.specs.Grammar.{Read, good, bad, failed_by, bytes_of}
 
 -- the question that bytes without a number fail
-abbrev pub question_of : Fault → Question
-question_of Ended = named.Whole
-question_of Long = named.Shortest
+abbrev pub fault_question : Fault → Question
+fault_question Ended = named.Whole
+fault_question Long = named.Shortest
 
 -- an answer by a question's number, 0 for none
 abbrev pub said : ℕ → ℕ → Result (Unit {0}) Refusal
@@ -29,9 +29,9 @@ with_number n (Ok _) = Ok n
 with_number n (Err refusal) = Err refusal
 
 -- questions 1 to 4 of a number that was decoded at the offset `at`
-abbrev pub number_of : Field → ℕ → Result Number Fault → Result Number Refusal
-number_of f at (Ok n) = with_number n (said (failed_by f n.value) at)
-number_of f at (Err fault) = Err (numbered (number (question_of fault)) at)
+abbrev pub number_asked : Field → ℕ → Result Number Fault → Result Number Refusal
+number_asked f at (Ok n) = with_number n (said (failed_by f n.value) at)
+number_asked f at (Err fault) = Err (numbered (number (fault_question fault)) at)
 
 -- the answer to 1, 3, 4 and 5, and how many bytes the numbers take
 unfoldable pub checked_of : Read → Result ℕ Refusal

@@ -1,3 +1,4 @@
 pub mod Answers
 pub mod BothWays
 pub mod CodeChecked
+pub mod Body

@@ -6,7 +6,8 @@ ghost use Rattle.codec.specs.Groups.{decode};
 ghost use Rattle.fields.specs.Sizes.{number_places};
 ghost use Rattle.layout.specs.Grammar.{failed_by};
 ghost use Rattle.ward.specs.Answers.{reading_of, count_of, read_ward, counted, check_ward, writing_of, left_of};
-ghost use Rattle.ward.specs.CodeChecked.{checked_of, question_of, said, number_of};
+ghost use Rattle.ward.specs.Body.{WardIn};
+ghost use Rattle.ward.specs.CodeChecked.{checked_of, fault_question, said, number_asked};
 
 use codec::{Fault, Number};
 use fields::sizes::NUMBERS;
@@ -14,15 +15,16 @@ use layout::Field;
 use refusals::Refusal;
 use refusals::question::Question;
 
+// The numbers of a file, in its order, and how many there are. An array with its count: there is no heap, and C hands over the same.
 #[derive(Clone, Copy, Default)]
 pub struct Ward {
     pub numbers: [u64; NUMBERS],
     pub count: usize,
 }
 
-// The question that bytes without a number fail.
-fn question_of(fault: Fault) -> Question
-    ensures { result ≡ question_of fault }
+// The question that bytes without a number fail. A function: by a `From` one of `codec` and `refusals` would need the other.
+fn fault_question(fault: Fault) -> Question
+    ensures { result ≡ fault_question fault }
 {
     match fault {
         Fault::Ended => Question::Whole,
@@ -40,9 +42,9 @@ fn ask(field: Field, v: u64, place: usize) -> Result<(), Refusal>
 // Questions 1 to 4 of the number that starts at `at`.
 fn number_at(file: &[u8], at: usize, field: Field) -> Result<Number, Refusal>
     requires { at ≤ length file.now }
-    ensures { result ≡ number_of field at (decode (drop at file.now)) }
+    ensures { result ≡ number_asked field at (decode (drop at file.now)) }
 {
-    let number = codec::number_at(file, at).map_err(|fault| question_of(fault).at(at))?;
+    let number = codec::number_at(file, at).map_err(|fault| fault_question(fault).at(at))?;
     ask(field, number.value, at)?;
     Ok(number)
 }
@@ -52,6 +54,7 @@ pub fn read_into(file: &[u8], numbers: &mut [u64; NUMBERS]) -> Result<usize, Ref
     requires { numbers.old ≡ replicate number_places 0 }
     ensures says { result ≡ count_of (reading_of (read_ward file.now)) }
     ensures leaves { IfOk (reading_of (read_ward file.now)) (λ w. numbers.new ≡ w.numbers) }
+    ensures ward { IfOk result (WardIn numbers.new) }
 {
     let mut count: usize = 0;
     let mut at: usize = 0;
@@ -72,7 +75,8 @@ pub fn read_into(file: &[u8], numbers: &mut [u64; NUMBERS]) -> Result<usize, Ref
 
 // The ward of a file, or the first question that it fails.
 pub fn read(file: &[u8]) -> Result<Ward, Refusal>
-    ensures { result ≡ reading_of (read_ward file.now) }
+    ensures says { result ≡ reading_of (read_ward file.now) }
+    ensures ward { IfOk result (λ w. WardIn w.numbers w.count) }
 {
     let mut numbers = [0u64; NUMBERS];
     let count = read_into(file, &mut numbers)?;

@@ -1,6 +1,9 @@
 // Reads a ward file from standard input, and damaged copies of it, and prints what the reader and the writer say.
 #![tactic(auto)]
 
+ghost use Rattle.ward.specs.Answers.{read_ward, reading_of};
+ghost use Rattle.ward_run.specs.Standing.{Standing};
+
 use refusals::Refusal;
 use std::io::{Read, Write};
 use std::{fmt, io};
@@ -71,7 +74,9 @@ fn replaced(file: &mut [u8], byte: u8) -> Tally {
 }
 
 // The ward of a file, or one of no numbers where it is refused.
-fn ward_of(file: &[u8]) -> Ward {
+fn ward_of(file: &[u8]) -> Ward
+    ensures { Standing (reading_of (read_ward file.now)) result }
+{
     ward::read(file).unwrap_or_default()
 }
 

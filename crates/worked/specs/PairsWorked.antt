@@ -21,7 +21,7 @@ use Rattle.daylists.specs.Lists.{up_to, first_over}
 use Rattle.penalty.specs.Penalty.{on_duty, members, short_on, over_on, unplaced_in, night_parts, night_penalty, day_parts, day_penalty}
 use Rattle.letters.specs.Letters.{letters, row_letters_of, letter, is_letter, first_bad, misplaced}
 use Rattle.rostercheck.specs.Check.{lettered}
-use Rattle.rostercheck.specs.CodeCheck.{letters_in, same_row, row_holds, rows_hold, group_holds, duty_holds, day_holds, days_hold, holds}
+use Rattle.rostercheck.specs.CodeCheck.{letters_in, same_row, row_holds, group_holds, duty_holds, day_holds, holds}
 use Rattle.history.specs.Phase.{Step, ended, end_zero, end_asked, end_none, run, refusal, given}
 use Rattle.history.specs.History.{penalty, allowed, next, extend, reply, advance}
 use Rattle.history.specs.Session.{advanced, act, answers, session}
@@ -94,7 +94,7 @@ pub record PairsWorked : Type 0 where
   pub none_steps : history_of (night_phase worked_pair) (call 9 4 ∷ []) ≡ did 1 0 1 ∷ did 0 0 1 ∷ []
 
 pub pairs_worked : PairsWorked
-unfolding to_pairs worked_ward encode decode read check failed_by bytes_of read_ward body_of night_phase day_phase nights_open common_fits lists_fit first_over up_to act answers session advance reply extend run refusal given next penalty allowed common hers in_common starts follow shifted through last_run marks_allow sum_to number_of filter all up_from block_at block groups_at member_sets needs_at needs tail_at pattern days_of pair_of pair_numbers in_pair at_rest_on pair_fits free_on own_pattern with_pairs pattern_list row_state available_on duty_on on_duty members short_on over_on unplaced_in night_parts night_penalty day_parts day_penalty day_list day_rule choice row_duty same any_of free_of windows_hold rests letters row_letters_of letter is_letter first_bad misplaced check_letters check_over holds rows_hold row_holds letters_in same_row days_hold day_holds duty_holds group_holds lettered
+unfolding to_pairs worked_ward encode decode read check failed_by bytes_of read_ward body_of night_phase day_phase nights_open common_fits lists_fit first_over up_to act answers session advance reply extend run refusal given next penalty allowed common hers in_common starts follow shifted through last_run marks_allow sum_to number_of filter all up_from block_at block groups_at member_sets needs_at needs tail_at pattern days_of pair_of pair_numbers in_pair at_rest_on pair_fits free_on own_pattern with_pairs pattern_list row_state available_on duty_on on_duty members short_on over_on unplaced_in night_parts night_penalty day_parts day_penalty day_list day_rule choice row_duty same any_of free_of windows_hold rests letters row_letters_of letter is_letter first_bad misplaced check_letters check_over holds row_holds letters_in same_row day_holds duty_holds group_holds lettered
 pairs_worked = record {
   file_read = refl;
   common_list = refl;

@@ -20,7 +20,7 @@ use Rattle.daylists.specs.Lists.{up_to, first_over}
 use Rattle.penalty.specs.Penalty.{on_duty, members, short_on, over_on, unplaced_in, night_parts, night_penalty, day_parts, day_penalty}
 use Rattle.letters.specs.Letters.{letters, row_letters_of, letter, is_letter, first_bad, misplaced}
 use Rattle.rostercheck.specs.Check.{lettered}
-use Rattle.rostercheck.specs.CodeCheck.{letters_in, same_row, row_holds, rows_hold, group_holds, duty_holds, day_holds, days_hold, holds}
+use Rattle.rostercheck.specs.CodeCheck.{letters_in, same_row, row_holds, group_holds, duty_holds, day_holds, holds}
 use Rattle.refusals.specs.Refusals.{numbered}
 use Rattle.history.specs.Phase.{Step, Phase, Call, Answer, refused, ended, end_zero, end_asked, end_none, run, refusal, given, in_turn}
 use Rattle.history.specs.History.{History, penalty, allowed, next, extend, reply, advance}
@@ -111,7 +111,7 @@ pub record WorkedThrough : Type 0 where
   pub row_unfollowed : check_says worked_ward (78 ∷ 110 ∷ 43 ∷ 45 ∷ 45 ∷ 47 ∷ []) ≡ Ok Broken
 
 pub worked_through : WorkedThrough
-unfolding worked_ward encode decode read check failed_by bytes_of read_ward check_ward night_phase day_phase nights_open common_fits lists_fit first_over up_to act answers session advance reply extend run refusal given next penalty allowed advance_over advance_stored refusal_stored reply_stored sound_stored unused_zero view store record_of proceed reply_of best total may_take stepped sound common night_list hers in_common starts follow shifted through last_run marks_allow sum_to number_of filter all up_from block_at block groups_at member_sets needs_at needs tail_at body_of pattern days_of pair_of pair_numbers in_pair at_rest_on pair_fits free_on own_pattern with_pairs pattern_list row_state available_on duty_on on_duty members short_on over_on unplaced_in night_parts night_penalty day_parts day_penalty day_list day_rule choice row_duty same any_of free_of windows_hold rests letters row_letters_of letter is_letter first_bad misplaced check_letters check_over holds rows_hold row_holds letters_in same_row days_hold day_holds duty_holds group_holds lettered
+unfolding worked_ward encode decode read check failed_by bytes_of read_ward check_ward night_phase day_phase nights_open common_fits lists_fit first_over up_to act answers session advance reply extend run refusal given next penalty allowed advance_over advance_stored refusal_stored reply_stored sound_stored unused_zero view store record_of proceed reply_of best total may_take stepped sound common night_list hers in_common starts follow shifted through last_run marks_allow sum_to number_of filter all up_from block_at block groups_at member_sets needs_at needs tail_at body_of pattern days_of pair_of pair_numbers in_pair at_rest_on pair_fits free_on own_pattern with_pairs pattern_list row_state available_on duty_on on_duty members short_on over_on unplaced_in night_parts night_penalty day_parts day_penalty day_list day_rule choice row_duty same any_of free_of windows_hold rests letters row_letters_of letter is_letter first_bad misplaced check_letters check_over holds row_holds letters_in same_row day_holds duty_holds group_holds lettered
 worked_through = record {
   file_read = refl;
   numbers_checked = refl;
@@ -224,7 +224,7 @@ pub record SecondWorked : Type 0 where
   pub above_high : check_says redated_ward (set second_roster 16 45) ≡ Ok Broken
 
 pub second_worked : SecondWorked
-unfolding second_ward encode decode read check failed_by bytes_of read_ward check_ward night_phase day_phase nights_open common_fits lists_fit first_over up_to act answers session advance reply extend run refusal given next penalty allowed advance_over advance_stored refusal_stored reply_stored sound_stored unused_zero view store record_of proceed reply_of best total may_take stepped sound common night_list hers in_common starts follow shifted through last_run marks_allow sum_to number_of filter all up_from block_at block groups_at member_sets needs_at needs tail_at body_of pattern days_of pair_of pair_numbers in_pair at_rest_on pair_fits free_on own_pattern with_pairs pattern_list row_state available_on duty_on on_duty members short_on over_on unplaced_in night_parts night_penalty day_parts day_penalty day_list day_rule choice row_duty same any_of free_of windows_hold rests letters row_letters_of letter is_letter first_bad misplaced check_letters check_over holds rows_hold row_holds letters_in same_row days_hold day_holds duty_holds group_holds lettered
+unfolding second_ward encode decode read check failed_by bytes_of read_ward check_ward night_phase day_phase nights_open common_fits lists_fit first_over up_to act answers session advance reply extend run refusal given next penalty allowed advance_over advance_stored refusal_stored reply_stored sound_stored unused_zero view store record_of proceed reply_of best total may_take stepped sound common night_list hers in_common starts follow shifted through last_run marks_allow sum_to number_of filter all up_from block_at block groups_at member_sets needs_at needs tail_at body_of pattern days_of pair_of pair_numbers in_pair at_rest_on pair_fits free_on own_pattern with_pairs pattern_list row_state available_on duty_on on_duty members short_on over_on unplaced_in night_parts night_penalty day_parts day_penalty day_list day_rule choice row_duty same any_of free_of windows_hold rests letters row_letters_of letter is_letter first_bad misplaced check_letters check_over holds row_holds letters_in same_row day_holds duty_holds group_holds lettered
 second_worked = record {
   file_read = refl;
   written_back = refl;

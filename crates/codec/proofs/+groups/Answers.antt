@@ -1,8 +1,6 @@
-use Rattle.std.proofs.Common.{◌≡◌, ◌-◌}
+use Rattle.std.specs.Prelude.{suc}
+use Rattle.std.proofs.Common.{◌≡◌, ◌-◌, ◌∙◌, arith}
 use Rattle.codec.proofs.+groups.Goals as goal
-use Prim.Native.Nat.{suc}
-use mathlib.Core.Path.{◌∙◌}
-use native.Mathlib.Omega.{arith}
 use Rattle.codec.specs.Groups.{under}
 use Rattle.codec.proofs.CodecLaws.{at_end, last_low, last_good, too_long, further, below_first, pow_most, passed_on}
 

@@ -1,4 +1,4 @@
-use native.Mathlib.Omega.{arith}
+use Rattle.std.proofs.Common.{arith}
 use Rattle.codec.proofs.PutLaws.{put_in, put_more, last_in, put_last, one_byte}
 use Rattle.codec.proofs.put.Goals as goal
 

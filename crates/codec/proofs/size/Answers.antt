@@ -1,4 +1,4 @@
-use native.Mathlib.Omega.{arith}
+use Rattle.std.proofs.Common.{arith}
 use Rattle.codec.proofs.EncodeLaws.{encode_most}
 use Rattle.codec.proofs.PutLaws.{one_byte, byte_more}
 use Rattle.codec.proofs.size.Goals as goal

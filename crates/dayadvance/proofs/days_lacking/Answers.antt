@@ -1,5 +1,5 @@
 use Rattle.std.proofs.Common.{ap, ◌∙◌}
-use mathlib.Core.Option.{some}
+use Rattle.std.proofs.Math.Option.{some}
 use Rattle.phases.proofs.QuestionLaws.{lacking_more, lacking_stop, lacking_end}
 use Rattle.dayadvance.proofs.DayLaws.{stretch_some, stretch_none}
 use Rattle.dayadvance.proofs.days_lacking.Goals as goal

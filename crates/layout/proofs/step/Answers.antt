@@ -1,5 +1,4 @@
-use Rattle.std.proofs.Common.{ap}
-use mathlib.Core.Path.{◌∙◌}
+use Rattle.std.proofs.Common.{ap, ◌∙◌}
 use Rattle.layout.specs.CodePlace.{tree}
 use Rattle.layout.proofs.PlaceLaws.{after_at, gaps_left, weights_left, duties_left, marks_left, bounds_left}
 use Rattle.layout.proofs.step.Goals as goal

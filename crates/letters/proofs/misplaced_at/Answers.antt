@@ -1,6 +1,5 @@
-use Rattle.std.proofs.Common.{◌≡◌, ap, sym, ◌∙◌}
+use Rattle.std.proofs.Common.{◌≡◌, ap, sym, ◌∙◌, ne_eqb}
 use Rattle.std.proofs.Math.Option.{none}
-use borrow.Author.Tests.{ne_eqb}
 use Rattle.letters.specs.Letters.{first_bad, misplaced}
 use Rattle.letters.specs.CodeLetters.{found_of}
 use Rattle.letters.proofs.LetterLaws.{found_at}

@@ -8,7 +8,7 @@ loop-i-init c = (omega arith, omega arith, lately_all _)
 
 pub loop-i-preserved : goal.loop-i-preserved
 loop-i-preserved c =
-    let b = c.args.b.now in
+    let b = c.args.numbers.now in
     let l = c.loop-i in
     elim c.if-duty-eq2.branch [
       | then-duty-eq2 w ↦
@@ -24,5 +24,5 @@ loop-i-preserved c =
 pub returns-clause-prev_value : goal.returns-clause-prev_value
 returns-clause-prev_value c =
     let l = c.loop-i in
-    let e = l.invariant.2 ∙ through_done c.args.b.now l.last.prev l.last.run l.i c.loop-i-test.false in
+    let e = l.invariant.2 ∙ through_done c.args.numbers.now l.last.prev l.last.run l.i c.loop-i-test.false in
     (sym (ap (λ (x : ℕ × ℕ). x.0) e), sym (ap (λ (x : ℕ × ℕ). x.1) e))

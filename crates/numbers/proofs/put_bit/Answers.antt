@@ -1,5 +1,5 @@
+use Rattle.std.proofs.Math.Path.{fun_ext}
 use Rattle.numbers.proofs.put_bit.Goals as goal
-use mathlib.Core.Path.{fun_ext}
 use Rattle.numbers.proofs.DigitLaws.{has_set, has_clear}
 
 pub returns-then-on : goal.returns-then-on

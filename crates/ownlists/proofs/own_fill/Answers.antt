@@ -1,22 +1,19 @@
-use Rattle.std.proofs.Common.{◌≡◌, ℕ}
-use Rattle.fields.specs.Fields.{days, block}
-use Rattle.fields.specs.Rules.{rules_of}
+use Rattle.std.proofs.Common.{◌≡◌, ◌∙◌, get_or}
 use Rattle.nights.specs.Hers.{hers_of}
-use Rattle.nursemasks.specs.CodeMasks.{masks_of}
-use Rattle.std.proofs.Common.{◌∙◌, get_or}
 use Rattle.nights.proofs.ListLaws.{common_at}
-use Rattle.ownlists.proofs.OwnListLaws.{own_start, own_stored, own_full, own_passed, own_counted, own_written}
+use Rattle.ownlists.proofs.OwnListLaws.{own_start, own_stored, own_full, own_passed, own_counted}
 use Rattle.ownlists.proofs.own_fill.Goals.{then-passes, then-at-own, else-at-own, else-passes}
 use Rattle.ownlists.proofs.own_fill.Goals as goal
 
 pub loop-p-init : goal.loop-p-init
-loop-p-init c = own_start _ _ _ _
+loop-p-init c = own_start _ _ _
 
 pub loop-p-preserved : goal.loop-p-preserved
 loop-p-preserved c =
-    let is : (i : ℕ) → c.args.masks ≡ masks_of (rules_of c.args.w.now) (days c.args.w.now) (block c.args.w.now i) → c.passes.result ≡ hers_of c.args.w.now i (get_or c.args.list.now c.loop-p.p-index 0) = λ i m.
-    let there = common_at c.args.w.now c.args.list.now c.loop-p.p-index c.requires.2 c.loop-p-test.true in
-    c.passes.ensures i m there.0 there.1 in
+    let her = c.args.her.now in
+    let w = her.ward.now.numbers.now in
+    let there = common_at w c.args.list.now c.loop-p.p-index c.requires c.loop-p-test.true in
+    let is : c.passes.result ≡ hers_of w her.nurse (get_or c.args.list.now c.loop-p.p-index 0) = c.passes.ensures there.0 there.1 in
     elim c.if-passes.branch [
       | then-passes x ↦ elim x.if-at-own.branch [
         | then-at-own y ↦ own_stored c.loop-p.invariant c.loop-p-test.true is x.if-passes.true y.if-at-own.true (x.own-is ∙ y.own-is) x.at-is
@@ -27,6 +24,3 @@ loop-p-preserved c =
 
 pub returns-clause-counted : goal.returns-clause-counted
 returns-clause-counted c = own_counted c.loop-p.invariant c.loop-p-test.false
-
-pub returns-clause-written : goal.returns-clause-written
-returns-clause-written c = λ i m. own_written c.loop-p.invariant c.loop-p-test.false i m

@@ -1,8 +1,5 @@
-use Rattle.std.proofs.Common.{refl, sym, subst, ◌∙◌}
-use lib.Seq.{length-take-le}
-use Rattle.fields.specs.Fields.{Accepted}
+use Rattle.std.proofs.Common.{refl, sym, ◌∙◌}
 use Rattle.ward.proofs.ReadLaws.{lent_reading, lent_bad}
-use Rattle.ward.proofs.ReadingLaws.{reading_accepted, reading_long, reading_fits}
 use Rattle.phases.proofs.ExitLaws.{exit_err}
 use Rattle.planner.proofs.AnswerLaws.{reading_good}
 use Rattle.planner.proofs.FileLaws.{file_refused, file_advanced}
@@ -11,45 +8,17 @@ use Rattle.phases.specs.Phases.{night_phase}
 use Rattle.planner.specs.Left.{list_of, night_left}
 use Rattle.planner.proofs.advance_nights.Goals as goal
 
-pub slice_bounds-numbers-end : goal.slice_bounds-numbers-end
-slice_bounds-numbers-end c =
-    let reading = lent_reading c.args.file.now _ (sym c.in_ok-count.was ∙ c.read_into.ensures.says, c.read_into.ensures.leaves) in
-    reading_fits _ _ reading
-
-pub slice_bounds-body-end : goal.slice_bounds-body-end
-slice_bounds-body-end c =
-    let reading = lent_reading c.args.file.now _ (sym c.in_ok-count.was ∙ c.read_into.ensures.says, c.read_into.ensures.leaves) in
-    sym (length-take-le _ _ (reading_fits _ _ reading))
-
-pub body-requires : goal.body-requires
-body-requires c =
-    let reading = lent_reading c.args.file.now _ (sym c.in_ok-count.was ∙ c.read_into.ensures.says, c.read_into.ensures.leaves) in
-    reading_long c.args.file.now _ (λ i. (c.type_inv.file i).fits) reading
-
-pub advance_on-requires : goal.advance_on-requires
-advance_on-requires c =
-    let reading = lent_reading c.args.file.now _ (sym c.in_ok-count.was ∙ c.read_into.ensures.says, c.read_into.ensures.leaves) in
-    subst Accepted (sym c.body.ensures) (reading_accepted c.args.file.now _ (λ i. (c.type_inv.file i).fits) reading)
-
-pub returns-in_err-count-clause-says : goal.returns-in_err-count-clause-says
-returns-in_err-count-clause-says c =
-    exit_err c.from_residual.ensures.1
-    ∙ (file_refused night_phase list_of c.args.file.now c.args.rec c.args.k c.args.past c.args.buffer.now (lent_bad c.args.file.now (sym c.in_err-count.was ∙ c.read_into.ensures.says))).0
-
-pub returns-in_err-count-clause-leaves : goal.returns-in_err-count-clause-leaves
+pub returns-in_err-count : goal.returns-in_err-count
 unfolding night_left
-returns-in_err-count-clause-leaves c =
-    (file_refused night_phase list_of c.args.file.now c.args.rec c.args.k c.args.past c.args.buffer.now (lent_bad c.args.file.now (sym c.in_err-count.was ∙ c.read_into.ensures.says))).1
+returns-in_err-count c =
+    let s = c.args in
+    let told = file_refused night_phase list_of s.file.now s.rec s.k s.past s.buffer.now (lent_bad s.file.now (sym c.in_err-count.was ∙ c.read_into.ensures.says)) in
+    record { says = exit_err c.from_residual.ensures.1 ∙ told.0; leaves = told.1 }
 
-pub returns-clause-says : goal.returns-clause-says
-returns-clause-says c =
-    let reading = lent_reading c.args.file.now _ (sym c.in_ok-count.was ∙ c.read_into.ensures.says, c.read_into.ensures.leaves) in
-    (file_advanced night_phase list_of c.args.file.now c.args.rec c.args.k c.args.past c.args.buffer.now
-    common_of (λ ws. refl) (reading_good c.args.file.now _ reading) c.body.ensures (c.advance_on.ensures.says, c.advance_on.ensures.leaves)).0
-
-pub returns-clause-leaves : goal.returns-clause-leaves
+pub returns : goal.returns
 unfolding night_left
-returns-clause-leaves c =
-    let reading = lent_reading c.args.file.now _ (sym c.in_ok-count.was ∙ c.read_into.ensures.says, c.read_into.ensures.leaves) in
-    (file_advanced night_phase list_of c.args.file.now c.args.rec c.args.k c.args.past c.args.buffer.now
-    common_of (λ ws. refl) (reading_good c.args.file.now _ reading) c.body.ensures (c.advance_on.ensures.says, c.advance_on.ensures.leaves)).1
+returns c =
+    let s = c.args in
+    let reading = lent_reading s.file.now _ (sym c.in_ok-count.was ∙ c.read_into.ensures.says, c.read_into.ensures.leaves) in
+    let told = file_advanced night_phase list_of s.file.now s.rec s.k s.past s.buffer.now common_of (λ ws. refl) (reading_good s.file.now _ reading) c.of.ensures (c.advance_on.ensures.says, c.advance_on.ensures.leaves) in
+    record { says = told.0; leaves = told.1 }

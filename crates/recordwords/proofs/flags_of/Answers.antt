@@ -1,7 +1,7 @@
 use Rattle.std.proofs.Common.{rules, false, map, take, drop}
 use Rattle.fields.specs.Sizes.{nurse_places}
 use Rattle.recordwords.specs.Words.{flags_at, flag_of}
-use Rattle.recordwords.proofs.MadeLaws.{made}
+use Rattle.numbers.proofs.MadeLaws.{made}
 use Rattle.recordwords.proofs.WordLaws.{flags_long, flag_read}
 use Rattle.recordwords.proofs.flags_of.Goals as goal
 

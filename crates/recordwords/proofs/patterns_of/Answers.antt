@@ -1,6 +1,6 @@
 use Rattle.std.proofs.Common.{rules}
 use Rattle.recordwords.specs.Words.{patterns_of_words}
-use Rattle.recordwords.proofs.MadeLaws.{made}
+use Rattle.numbers.proofs.MadeLaws.{made}
 use Rattle.recordwords.proofs.WordLaws.{patterns_long, pattern_read}
 use Rattle.recordwords.proofs.patterns_of.Goals as goal
 

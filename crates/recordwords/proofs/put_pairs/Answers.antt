@@ -1,8 +1,10 @@
-use Rattle.std.proofs.Common.{arith, sym, ◌∙◌}
+use Rattle.std.proofs.Common.{rules, arith, sym, ◌∙◌}
+use Rattle.search.specs.Stored.{Sized}
 use Rattle.recordwords.proofs.WrittenLaws.{written_more}
 use Rattle.recordwords.proofs.WordLaws.{pair_place}
 use Rattle.recordwords.proofs.put_pairs.Goals as goal
 
 pub loop-i-preserved : goal.loop-i-preserved
 loop-i-preserved c =
-    λ w. written_more (c.loop-i.invariant w) (omega arith) (omega arith) (c.pair_of.ensures ∙ sym (pair_place c.args.rec.now c.requires c.loop-i.i c.loop-i-test.true))
+    let z : Sized c.args.rec = search rules in
+    λ w. written_more (c.loop-i.invariant w) (omega arith) (omega arith) (c.pair_of.ensures ∙ sym (pair_place c.args.rec z c.loop-i.i c.loop-i-test.true))

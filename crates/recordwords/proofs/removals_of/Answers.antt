@@ -3,7 +3,7 @@ use Rattle.fields.specs.Sizes.{removal_places}
 use Rattle.numbers.specs.Range.{up_from}
 use Rattle.removals.specs.Removals.{no_removal}
 use Rattle.recordwords.specs.Words.{removal_at}
-use Rattle.recordwords.proofs.MadeLaws.{made}
+use Rattle.numbers.proofs.MadeLaws.{made}
 use Rattle.recordwords.proofs.WordLaws.{removals_long, removal_read}
 use Rattle.recordwords.proofs.removals_of.Goals as goal
 

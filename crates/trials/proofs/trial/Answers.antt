@@ -8,4 +8,4 @@ returns-clause-afresh c =
     let a = c.args in
     λ slots p s k.
     c.over_days.ensures.parts (exchanged slots a.i p)
-    (λ d e h g. exchange_shows a.w.now a.night.now a.day.now a.i a.nights a.available slots p d e.0 e.1 c.requires.1 h (search rules) (search rules) a.search s k)
+    (λ d e h g. exchange_shows a.w.now.numbers.now a.cols.now.night a.cols.now.day a.i a.sets.nights a.sets.available slots p d e.0 e.1 c.requires.0 h (search rules) (search rules) a.search s k)

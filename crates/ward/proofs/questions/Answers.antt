@@ -1,5 +1,4 @@
-use Rattle.std.proofs.Common.{◌≡◌, length, get_or, sym, arith, rules}
-use mathlib.Core.Path.{◌∙◌, subst}
+use Rattle.std.proofs.Common.{◌≡◌, length, get_or, sym, arith, rules, ◌∙◌, subst}
 use Rattle.fields.specs.Sizes.{number_places}
 use Rattle.codec.proofs.CodecLaws.{passed_on}
 use Rattle.codec.proofs.EncodeLaws.{encode_most}

@@ -1,7 +1,7 @@
-use Rattle.std.proofs.Common.{sym, arith}
-use mathlib.Core.Path.{◌∙◌, subst}
+use Rattle.std.proofs.Common.{sym, arith, ◌∙◌, subst}
 use Rattle.codec.proofs.CodecLaws.{passed_on}
-use Rattle.ward.proofs.ReadLaws.{So, begin, number_good, past_end, moves, failed, turn, extra, whole, said_no, said_yes}
+use Rattle.ward.proofs.ReadLaws.{So, begin, number_good, past_end, moves, failed, turn, extra, whole, said_no, said_yes, lent_reading}
+use Rattle.ward.proofs.ReadingLaws.{ward_in}
 use Rattle.ward.proofs.read_into.Goals as goal
 
 pub loop-field-init : goal.loop-field-init
@@ -49,3 +49,8 @@ returns-clause-says c = (said_yes c.args.file.now c.loop-field.numbers (whole _ 
 
 pub returns-clause-leaves : goal.returns-clause-leaves
 returns-clause-leaves c = (said_yes c.args.file.now c.loop-field.numbers (whole _ _ _ _ _ c.loop-field.invariant (sym c.wanted_at.ensures ∙ c.in_default.is) c.if-at-file.false)).1
+
+pub returns-clause-ward : goal.returns-clause-ward
+returns-clause-ward c =
+    let all = whole _ _ _ _ _ c.loop-field.invariant (sym c.wanted_at.ensures ∙ c.in_default.is) c.if-at-file.false in
+    ward_in c.args.file.now _ (λ i. (c.type_inv.file i).fits) (lent_reading c.args.file.now _ (said_yes c.args.file.now c.loop-field.numbers all))

@@ -1,5 +1,4 @@
-use Rattle.std.proofs.Common.{◌≡◌, length, rules}
-use mathlib.Core.Path.{◌∙◌}
+use Rattle.std.proofs.Common.{◌≡◌, length, rules, ◌∙◌}
 use Rattle.fields.specs.Sizes.{number_places}
 use Rattle.codec.proofs.CodecLaws.{passed_on}
 use Rattle.ward.proofs.BufLaws.{few, counted_is, begin, refused, short, number_small, number_fits, turn, whole}

@@ -8,15 +8,15 @@ loop-i-init c = count_start _ _ _ _ refl refl
 
 pub returns-then-room-found : goal.returns-then-room-found
 returns-then-room-found c =
-    let below : c.loop-i.i < nurses c.args.w.now = subst (λ (m : ℕ). c.loop-i.i < m) c.nurses-m.ensures.0 c.loop-i-test.true in
+    let below : c.loop-i.i < nurses c.args.w.now.numbers.now = subst (λ (m : ℕ). c.loop-i.i < m) c.nurses-m.ensures.0 c.loop-i-test.true in
     counted_over _ _ _ _ _ _ c.loop-i.invariant below c.day_count-found.ensures c.if-room-found.true
 
 pub loop-i-preserved : goal.loop-i-preserved
 loop-i-preserved c =
-    let below : c.loop-i.i < nurses c.args.w.now = subst (λ (m : ℕ). c.loop-i.i < m) c.nurses-m.ensures.0 c.loop-i-test.true in
-    count_turn _ _ _ _ _ _ c.loop-i.invariant c.requires.accepted.nurses_most below c.day_count-found.ensures c.if-room-found.false
+    let below : c.loop-i.i < nurses c.args.w.now.numbers.now = subst (λ (m : ℕ). c.loop-i.i < m) c.nurses-m.ensures.0 c.loop-i-test.true in
+    count_turn _ _ _ _ _ _ c.loop-i.invariant c.args.w.now.accepted.nurses_most below c.day_count-found.ensures c.if-room-found.false
 
 pub returns : goal.returns
 returns c =
-    let past : nurses c.args.w.now ≤ c.loop-i.i = omega (arith, c.nurses-m.ensures.0) in
-    counted_all _ _ _ _ _ _ c.loop-i.invariant past c.nurses-m.ensures.0
+    let past : nurses c.args.w.now.numbers.now ≤ c.loop-i.i = omega (arith, c.nurses-m.ensures.0) in
+    counted_all _ _ _ _ _ _ c.loop-i.invariant past

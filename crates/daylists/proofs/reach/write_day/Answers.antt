@@ -1,8 +1,7 @@
-use Rattle.std.proofs.Common.{arith, ap, ◌-◌, ◌∙◌}
-use lib.ListN.{length-set}
+use Rattle.std.proofs.Common.{arith, ap, ◌-◌, ◌∙◌, length-set}
 use Rattle.numbers.specs.Sum.{one_if}
 use Rattle.days.specs.CodeMonth.{rest_on}
-use Rattle.daylists.proofs.WalkLaws.{top_is, choice_small, choice_inside, filled_less, filled_turn, filled_end}
+use Rattle.daylists.proofs.WalkLaws.{choice_small, filled_less, filled_turn}
 use Rattle.daylists.proofs.reach.write_day.Goals.{then-d-gt0, else-d-gt0}
 use Rattle.daylists.proofs.reach.write_day.Goals as goal
 
@@ -10,19 +9,6 @@ pub reached-found-requires-clause-rest_is : goal.reached-found-requires-clause-r
 unfolding rest_on
 reached-found-requires-clause-rest_is c =
     elim c.if-d-gt0.branch [ then-d-gt0 w ↦ λ l. ap one_if (w.rest-is ∙ w.rests_on-rest.ensures) | else-d-gt0 w ↦ λ l. absurd (omega arith) ]
-
-pub reached-found-requires-clause-s_bound : goal.reached-found-requires-clause-s_bound
-reached-found-requires-clause-s_bound c = choice_small (c.args.sheet.now.month.days - c.args.d) (omega (arith, c.args.sheet.now.small.few_days)) c.min-top.ensures c.loop-s-test.true
-
-pub reached-found-requires-clause-in_month : goal.reached-found-requires-clause-in_month
-reached-found-requires-clause-in_month c = choice_inside (c.args.sheet.now.month.days - c.args.d) (omega (arith, c.args.sheet.now.small.few_days)) c.min-top.ensures c.loop-s-test.true
-
-pub reached-found-requires-clause-filled : goal.reached-found-requires-clause-filled
-reached-found-requires-clause-filled c = filled_less _ _ _ _ _ c.loop-s.invariant.1 (omega arith)
-
-pub kept-requires-in-loop-s-clause-x_bound : goal.kept-requires-in-loop-s-clause-x_bound
-kept-requires-in-loop-s-clause-x_bound c =
-    omega (arith, choice_small (c.args.sheet.now.month.days - c.args.d) (omega (arith, c.args.sheet.now.small.few_days)) c.min-top.ensures c.loop-s-test.true)
 
 pub loop-s-preserved : goal.loop-s-preserved
 loop-s-preserved c =
@@ -33,6 +19,3 @@ loop-s-preserved c =
     filled_turn sheet.month sheet.row l.ways c.args.d l.s small l.invariant.1 (omega (arith, l.invariant.0, small, sheet.small.few_days))
     c.reached-found.ensures c.kept.ensures c.kept-in-loop-s.ensures in
     (simp length-set l.invariant.0, filled_less _ _ _ _ _ after (omega arith))
-
-pub returns : goal.returns
-returns c = filled_end _ _ _ _ _ (top_is (c.args.sheet.now.month.days - c.args.d) (omega (arith, c.args.sheet.now.small.few_days)) c.min-top.ensures) c.loop-s-test.false c.loop-s.invariant.1

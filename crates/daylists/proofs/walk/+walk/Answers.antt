@@ -1,68 +1,49 @@
-use Rattle.std.proofs.Common.{ap, arith, length, length-append, ◌-◌, ◌^◌, ◌∙◌}
-use native.Mathlib.Nat.{one-mul}
-use lib.Pow.{shl_exact}
-use Rattle.daylists.proofs.WalkLaws.{node_yes, leaf_lists, stop_lists, node_lists, low_inside, high_inside, none_put, one_put, more_put}
+use Rattle.std.proofs.Common.{ap, arith, length, length-append}
+use Rattle.daylists.proofs.WalkLaws.{node_yes, day_bit, leaf_lists, stop_lists, node_lists, low_inside, high_inside, none_put, one_put, more_put}
 use Rattle.daylists.proofs.walk.+walk.Goals as goal
 
-pub returns-then-at-places-clause-value : goal.returns-then-at-places-clause-value
-returns-then-at-places-clause-value g t c = omega (arith, c.if-at-places.true, c.places.ensures)
-
 pub returns-then-at-places-clause-written : goal.returns-then-at-places-clause-written
-returns-then-at-places-clause-written g t c = λ fits. none_put g.R.Room.Put _ _ _ (omega (arith, fits, c.if-at-places.true, c.places.ensures))
+returns-then-at-places-clause-written g t c = λ fits. none_put g.L.Listing.Put _ _ _ (omega (arith, fits, c.if-at-places.true, c.places.ensures))
 
 pub returns-then-not-goes_on-clause-value : goal.returns-then-not-goes_on-clause-value
 returns-then-not-goes_on-clause-value g t c =
-    let s = c.args in
-    let none = stop_lists s.ways.now s.idle s.left s.from s.rests c.goes_on.ensures c.if-not-goes_on.true in
+    let none = stop_lists _ c.args.idle _ _ _ c.goes_on.ensures c.if-not-goes_on.true in
     omega (arith, ap length none, c.requires.at_most)
 
 pub returns-then-not-goes_on-clause-written : goal.returns-then-not-goes_on-clause-written
 returns-then-not-goes_on-clause-written g t c =
-    let s = c.args in
-    let none = stop_lists s.ways.now s.idle s.left s.from s.rests c.goes_on.ensures c.if-not-goes_on.true in
-    λ fits. none_put g.R.Room.Put _ _ _ (ap length none)
+    let none = stop_lists _ c.args.idle _ _ _ c.goes_on.ensures c.if-not-goes_on.true in
+    λ fits. none_put g.L.Listing.Put _ _ _ (ap length none)
 
 pub returns-then-left-eq0-clause-value : goal.returns-then-left-eq0-clause-value
 returns-then-left-eq0-clause-value g t c =
-    let s = c.args in
-    let one = leaf_lists s.ways.now s.idle s.left s.from s.rests c.goes_on.ensures c.if-not-goes_on.false c.if-left-eq0.true in
+    let one = leaf_lists _ c.args.idle _ _ _ c.goes_on.ensures c.if-not-goes_on.false c.if-left-eq0.true in
     omega (arith, ap length one, c.requires.at_most, c.if-at-places.false, c.places.ensures)
 
 pub returns-then-left-eq0-clause-written : goal.returns-then-left-eq0-clause-written
 returns-then-left-eq0-clause-written g t c =
-    let s = c.args in
-    let one = leaf_lists s.ways.now s.idle s.left s.from s.rests c.goes_on.ensures c.if-not-goes_on.false c.if-left-eq0.true in
-    λ fits. one_put g.R.Room.Put _ _ _ _ _ one c.put.ensures
+    let one = leaf_lists _ c.args.idle _ _ _ c.goes_on.ensures c.if-not-goes_on.false c.if-left-eq0.true in
+    λ fits. one_put g.L.Listing.Put _ _ _ _ _ one c.put.ensures
 
 pub walk-next-requires : goal.walk-next-requires
 walk-next-requires g t c κs within =
-    let s = c.args in
     let node = node_yes c.goes_on.ensures c.if-not-goes_on.false c.if-left-eq0.false in
-    let bit = shl_exact {a = 1} 1 (s.left - 1) 64 (omega arith) (omega (arith, c.requires.inside.days_left)) ∙ one-mul (2 ^ (s.left - 1)) in
-    (omega (arith, c.decreases, c.if-left-eq0.false), (within, (low_inside s.idle node c.requires.inside, c.requires.at_most)))
+    (omega (arith, c.decreases, c.if-left-eq0.false), (within, (low_inside c.args.idle node c.requires.inside, c.requires.at_most)))
 
 pub walk-requires : goal.walk-requires
 walk-requires g t c κs within =
-    let s = c.args in
     let node = node_yes c.goes_on.ensures c.if-not-goes_on.false c.if-left-eq0.false in
-    let bit = shl_exact {a = 1} 1 (s.left - 1) 64 (omega arith) (omega (arith, c.requires.inside.days_left)) ∙ one-mul (2 ^ (s.left - 1)) in
-    (omega (arith, c.decreases, c.if-left-eq0.false), (within, (high_inside s.idle node c.requires.inside bit, omega (arith, c.walk-next.ensures.value, c.walk-next.ensures.places))))
+    (omega (arith, c.decreases, c.if-left-eq0.false), (within, (high_inside c.args.idle node c.requires.inside (day_bit c.requires.inside), omega (arith, c.walk-next.ensures.value, c.walk-next.ensures.places))))
 
 pub returns-clause-value : goal.returns-clause-value
 returns-clause-value g t c =
-    let s = c.args in
-    let node = node_yes c.goes_on.ensures c.if-not-goes_on.false c.if-left-eq0.false in
-    let bit = shl_exact {a = 1} 1 (s.left - 1) 64 (omega arith) (omega (arith, c.requires.inside.days_left)) ∙ one-mul (2 ^ (s.left - 1)) in
-    let whole = node_lists s.idle node bit in
+    let whole = node_lists c.args.idle (node_yes c.goes_on.ensures c.if-not-goes_on.false c.if-left-eq0.false) (day_bit c.requires.inside) in
     omega (arith, c.walk-next.ensures.value, c.walk-next.ensures.places, c.walk.ensures.value, simp length-append at (ap length whole))
 
 pub returns-clause-written : goal.returns-clause-written
 returns-clause-written g t c =
-    let s = c.args in
-    let node = node_yes c.goes_on.ensures c.if-not-goes_on.false c.if-left-eq0.false in
-    let bit = shl_exact {a = 1} 1 (s.left - 1) 64 (omega arith) (omega (arith, c.requires.inside.days_left)) ∙ one-mul (2 ^ (s.left - 1)) in
-    let whole = node_lists s.idle node bit in
+    let whole = node_lists c.args.idle (node_yes c.goes_on.ensures c.if-not-goes_on.false c.if-left-eq0.false) (day_bit c.requires.inside) in
     let long = simp length-append at (ap length whole) in
     λ fits.
-    more_put g.R.Room.Put _ _ _ _ _ _ _ _ whole (c.walk-next.ensures.written (omega (arith, long, fits))) (omega (arith, long, fits, c.walk-next.ensures.value))
+    more_put g.L.Listing.Put _ _ _ _ _ _ _ _ whole (c.walk-next.ensures.written (omega (arith, long, fits))) (omega (arith, long, fits, c.walk-next.ensures.value))
     (c.walk.ensures.written (omega (arith, long, fits, c.walk-next.ensures.value, c.walk-next.ensures.places)))

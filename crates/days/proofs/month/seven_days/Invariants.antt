@@ -4,4 +4,4 @@ use Rattle.fields.specs.Fields.{duty}
 use Rattle.days.proofs.month.seven_days.Given as goal
 
 abbrev pub invariant-loop-t : goal.invariant-loop-t
-invariant-loop-t l = (length l.row ≡ row_places) × ((k : ℕ) → k < l.t → get_or l.row k 0 ≡ duty l.b k)
+invariant-loop-t l = (length l.row ≡ row_places) × ((k : ℕ) → k < l.t → get_or l.row k 0 ≡ duty l.b.numbers.now k)

@@ -6,4 +6,4 @@ pub loop-i-init : goal.loop-i-init
 loop-i-init c = written_start _ _ _ _ refl refl
 
 pub loop-i-preserved : goal.loop-i-preserved
-loop-i-preserved c = written_turn _ _ _ _ c.loop-i.invariant _ _ _ _ _ c.requires (omega arith) c.block.ensures c.days-n.ensures.0 c.days_of-p.ensures c.days_of-q.ensures c.add_row.ensures.0 c.add_row.ensures.1
+loop-i-preserved c = written_turn _ _ _ _ c.loop-i.invariant _ _ _ _ _ c.args.w.now.accepted (omega arith) c.nurse.ensures.0 c.nurse.ensures.1 c.days_of-p.ensures c.days_of-q.ensures c.add_row.ensures.0 c.add_row.ensures.1

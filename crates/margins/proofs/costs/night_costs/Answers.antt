@@ -8,9 +8,9 @@ loop-d-init c = night_start _ _ _ _
 
 pub loop-d-preserved : goal.loop-d-preserved
 loop-d-preserved c =
-    let y = c.args.y.now in
+    let y = c.args.y.now.sides in
     let free : c.if-has.free ≡ cond c.has.result (get_or y c.loop-d.d 0) (get_or y (32 + c.loop-d.d) 0) = elim c.if-has.branch [
       | then-has w ↦ rw w.if-has.true w.free-is
       | else-has w ↦ rw w.if-has.false w.free-is
     ] in
-    night_turn _ _ _ _ _ c.requires.1 c.requires.2 c.has.ensures free c.loop-d.invariant c.loop-d-test.true c.requires.0
+    night_turn _ _ _ _ _ c.args.x.now.small c.args.y.now.small c.has.ensures free c.loop-d.invariant c.loop-d-test.true c.requires

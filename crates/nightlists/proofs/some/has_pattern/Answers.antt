@@ -1,11 +1,12 @@
 use Rattle.fields.specs.Fields.{days}
 use Rattle.fields.specs.Rules.{rules_of}
-use Rattle.std.proofs.Common.{◌∙◌}
+use Rattle.std.proofs.Common.{ap, ◌∙◌}
 use Rattle.nightlists.proofs.CommonLaws.{walk_from}
-use Rattle.nightlists.proofs.SomeLaws.{some_of_list}
+use Rattle.nightlists.proofs.SomeLaws.{some_of_list, says_as}
 use Rattle.nightlists.proofs.some.has_pattern.Goals as goal
 
 pub returns : goal.returns
-returns c = some_of_list c.args.w.now c.args.i _ _ c.requires.accepted
-    (walk_from (rules_of c.args.w.now) (days c.args.w.now) c.requires.accepted.run_some c.default.result (c.walk_by-k.ensures.rules ∙ c.rules_of.ensures) c.days-n.ensures.0 c.default.ensures)
-    (c.some.ensures c.args.i c.masks_of-m.ensures.is c.pairs_of-x.ensures)
+returns c =
+    let w = c.args.w.now in
+    let all = walk_from (rules_of w.numbers.now) (days w.numbers.now) w.accepted.run_some c.default.result (c.of-k.ensures ∙ c.rules.ensures) c.days.ensures.0 c.default.ensures in
+    some_of_list w.numbers.now c.args.i _ _ w.accepted all (says_as _ _ (ap (λ b. b.numbers.now) c.masks_of.ensures.0) c.masks_of.ensures.1 c.some.ensures)

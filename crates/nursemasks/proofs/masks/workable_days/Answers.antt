@@ -5,5 +5,5 @@ use Rattle.nursemasks.proofs.masks.workable_days.Goals as goal
 
 pub returns : goal.returns
 returns c =
-    let t = workable c.args.b.now in
-    c.set_of.ensures.set t (λ i ok l k. search (rules, tests)) ∙ ap (number_of t) (add-one c.args.n)
+    let t = workable c.args.b.now.numbers.now in
+    c.set_of.ensures.set t (λ i ok l k. search (rules, tests)) ∙ ap (number_of t) (add-one c.args.b.now.days)

@@ -1,5 +1,4 @@
-use Rattle.std.proofs.Common.{sym, ◌∙◌}
-use borrow.Author.Tests.{ne_eqb}
+use Rattle.std.proofs.Common.{sym, ◌∙◌, ne_eqb}
 use Rattle.phases.proofs.QuestionLaws.{days_own, days_paired}
 use Rattle.phases.proofs.questions.is_days_own.Goals as goal
 

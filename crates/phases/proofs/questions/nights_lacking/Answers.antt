@@ -1,5 +1,5 @@
 use Rattle.std.proofs.Common.{arith, sym, ap, ◌∙◌}
-use mathlib.Core.Option.{some}
+use Rattle.std.proofs.Math.Option.{some}
 use Rattle.phases.proofs.QuestionLaws.{lacking_more, lacking_stop, lacking_end}
 use Rattle.phases.proofs.questions.nights_lacking.Goals as goal
 

@@ -6,4 +6,4 @@ use Rattle.history.specs.Record.{lacking}
 use Rattle.phases.proofs.questions.nights_lacking.Given as goal
 
 abbrev pub invariant-loop-i : goal.invariant-loop-i
-invariant-loop-i l = lacking (pattern_list l.w) (up_from 0 (nurses l.w)) ≡ lacking (pattern_list l.w) (up_from l.i (nurses l.w - l.i))
+invariant-loop-i l = lacking (pattern_list l.w.numbers.now) (up_from 0 (nurses l.w.numbers.now)) ≡ lacking (pattern_list l.w.numbers.now) (up_from l.i (nurses l.w.numbers.now - l.i))

@@ -6,27 +6,27 @@ pub returns-then-is_at_rest : goal.returns-then-is_at_rest
 returns-then-is_at_rest c =
     let s = c.args in
     let day = c.pair_day-second.ensures in
-    let first : c.pair_day-second.result - 1 < c.days.result = omega (arith, c.days.ensures.0, day.2) in
-    let second : c.pair_day-second.result < c.days.result = omega (arith, c.days.ensures.0, day.2) in
+    let first : c.pair_day-second.result - 1 < c.nurse-b.result.days = omega (arith, c.nurse-b.ensures.1, day.2) in
+    let second : c.pair_day-second.result < c.nurse-b.result.days = omega (arith, c.nurse-b.ensures.1, day.2) in
     rw (
-      fits_days s.w.now s.i s.p s.k c.if-k-eq0.false c.if-count-k.false c.pair_count-count.ensures.0 c.block-b.ensures day.0 day.1,
+      fits_days s.w.now.numbers.now s.i s.p s.k c.if-k-eq0.false c.if-count-k.false c.pair_count-count.ensures.0 c.nurse-b.ensures.0 day.0 day.1,
       ← c.mark.ensures.is,
-      ← c.states-states.ensures.are _ first,
+      ← c.states-states.ensures _ first,
       ← c.is_at_rest.ensures,
       c.if-is_at_rest.true,
       ← c.mark-then-is_at_rest.ensures.is,
-      ← c.states-states.ensures.are _ second,
+      ← c.states-states.ensures _ second,
     ) c.is_at_rest-then-is_at_rest.ensures
 
 pub returns-else-is_at_rest : goal.returns-else-is_at_rest
 returns-else-is_at_rest c =
     let s = c.args in
     let day = c.pair_day-second.ensures in
-    let first : c.pair_day-second.result - 1 < c.days.result = omega (arith, c.days.ensures.0, day.2) in
+    let first : c.pair_day-second.result - 1 < c.nurse-b.result.days = omega (arith, c.nurse-b.ensures.1, day.2) in
     rw (
-      fits_days s.w.now s.i s.p s.k c.if-k-eq0.false c.if-count-k.false c.pair_count-count.ensures.0 c.block-b.ensures day.0 day.1,
+      fits_days s.w.now.numbers.now s.i s.p s.k c.if-k-eq0.false c.if-count-k.false c.pair_count-count.ensures.0 c.nurse-b.ensures.0 day.0 day.1,
       ← c.mark.ensures.is,
-      ← c.states-states.ensures.are _ first,
+      ← c.states-states.ensures _ first,
       ← c.is_at_rest.ensures,
       c.if-is_at_rest.false,
     )

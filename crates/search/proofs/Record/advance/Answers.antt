@@ -1,4 +1,4 @@
--- `Record::advance` with no steps to make is the advance of none.
+-- With no steps to make the advance is that of none.
 use Rattle.search.proofs.Record.advance.Goals as goal
 
 pub returns-then-k-eq0 : goal.returns-then-k-eq0

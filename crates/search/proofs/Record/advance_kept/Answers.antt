@@ -2,11 +2,11 @@ use Rattle.std.proofs.Common.{[]}
 use Rattle.search.proofs.PlanLaws.{own_tries, own_sought}
 use Rattle.search.proofs.Record.advance_kept.Goals as goal
 
-pub advance_over-requires-clause-accepted : goal.advance_over-requires-clause-accepted
-advance_over-requires-clause-accepted g c = (c.requires.accepted.0, own_tries c.own_lists-plan.ensures c.requires.accepted.1, c.requires.accepted.2)
+pub advance_over-requires-clause-offered : goal.advance_over-requires-clause-offered
+advance_over-requires-clause-offered g c = (own_tries c.own_lists-plan.ensures c.requires.common.0, c.requires.common.1)
 
 pub advance_over-requires-clause-sought_sound : goal.advance_over-requires-clause-sought_sound
-advance_over-requires-clause-sought_sound g c = let served = c.requires.sought_sound in (served.0, own_sought c.own_lists-plan.ensures [] c.requires.accepted.0 served.1, served.2)
+advance_over-requires-clause-sought_sound g c = let served = c.requires.sought_sound in (served.0, own_sought c.own_lists-plan.ensures [] c.args.w.now.accepted served.1, served.2)
 
 pub returns : goal.returns
-returns g c = λ P s e. c.advance_over.ensures P (own_sought c.own_lists-plan.ensures [] c.requires.accepted.0 s) e
+returns g c = λ P s e. c.advance_over.ensures P (own_sought c.own_lists-plan.ensures [] c.args.w.now.accepted s) e

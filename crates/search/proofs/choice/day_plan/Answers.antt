@@ -1,13 +1,14 @@
-use Rattle.std.proofs.Common.{rules, ◌≡◌, length, arith, sym}
-use Rattle.std.proofs.lemmas.List.{length-take-le}
-use Rattle.search.proofs.PlanLaws.{day_planned}
+use Rattle.std.proofs.Common.{rules, ap, ◌+◌, get_or}
+use Rattle.numbers.proofs.MadeLaws.{made_at}
+use Rattle.ownlists.specs.declared.OwnList.{OwnList}
+use Rattle.ownlists.specs.declared.Source.TheVariants.{Kept}
+use Rattle.ownlists.specs.CodeOwn.{no_list}
 use Rattle.search.proofs.choice.day_plan.Goals as goal
 
-pub slice_bounds-copy_from_slice-end-2 : goal.slice_bounds-copy_from_slice-end-2
-slice_bounds-copy_from_slice-end-2 c = let long : length c.args.ends ≡ 49 = search rules in sym (length-take-le 48 c.args.ends (omega (arith, long)))
-
-pub copy_from_slice-requires : goal.copy_from_slice-requires
-copy_from_slice-requires c = let long : length c.args.ends ≡ 49 = search rules in sym (length-take-le 48 c.args.ends (omega (arith, long)))
-
 pub returns : goal.returns
-returns c = day_planned c.copy_from_slice.ensures.after c.copy_from_slice-2.ensures.after
+returns c =
+    let ends = c.args.ends in
+    record {
+      sources_are = λ i l. ap (λ (x : OwnList). x.source)
+          (made_at _ (λ j. record { source = Kept (get_or ends j 0) (get_or ends (j + 1) 0); workable = 0; before = 0 }) no_list (λ j x q h k. (search rules, search rules)) c.from_fn.ensures.items i l);
+    }

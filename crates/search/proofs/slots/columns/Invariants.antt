@@ -5,4 +5,4 @@ use Rattle.search.specs.CodeSeek.{Agree}
 use Rattle.search.proofs.slots.columns.Given as goal
 
 abbrev pub invariant-loop-i : goal.invariant-loop-i
-invariant-loop-i l = (slots : ℕ → Slot) → Agree l.w l.rec slots → Shown l.search l.w slots l.i l.cols
+invariant-loop-i l = (slots : ℕ → Slot) → Agree l.w.numbers.now l.rec slots → Shown l.search l.w.numbers.now slots l.i l.cols

@@ -13,6 +13,6 @@ use Rattle.tries.proofs.Trials.over_pairs.Given as goal
 abbrev pub invariant-loop-k : goal.invariant-loop-k
 invariant-loop-k l =
     (l.k ≤ l.pairs.count)
-    × ((w : List ℕ) (may : ℕ → Bool) (cost : ℕ → ℕ) → Bars may l.self.barred.now → PatternNeeds w l.n l.self.nurse l.x l.p → PairsOf w l.self.nurse l.pairs → BusyDays (block w l.self.nurse) l.p l.busy → 1 ≤ pair_count w
-    → NightTrials w (before_of (block w l.self.nurse)) l.self.costs.now cost
+    × ((w : List ℕ) (may : ℕ → Bool) (cost : ℕ → ℕ) → Bars may l.self.barred.now → PatternNeeds w l.self.costs.now.days l.self.nurse l.x l.p → PairsOf w l.self.nurse l.pairs → BusyDays (block w l.self.nurse) l.p l.busy → 1 ≤ pair_count w
+    → NightTrials w (before_of (block w l.self.nurse)) l.self.costs.now.costs cost
     → l.best ≡ over_list (λ y. own_pattern w l.self.nurse y && may y) (λ y. cost y + 10000000 * l.self.others) l.self.nurse l.initial.best (take l.k (map (pattern l.p) (pair_numbers w))))

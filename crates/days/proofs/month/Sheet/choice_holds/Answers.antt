@@ -1,6 +1,4 @@
-use Rattle.std.proofs.Common.{rules, tests, refl, arith, ◌∙◌, ◌^◌, cond, not}
-use lib.Pow.{shl_exact}
-use borrow.Author.Tests.{lt-ltb, le-ltb}
+use Rattle.std.proofs.Common.{rules, tests, refl, arith, ◌∙◌, ◌^◌, cond, not, shl_exact, lt-ltb, le-ltb}
 use Rattle.numbers.specs.Digits.{has}
 use Rattle.numbers.proofs.IterLaws.{all_below}
 use Rattle.days.specs.CodeMonth.{choice_of}

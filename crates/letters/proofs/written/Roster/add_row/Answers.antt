@@ -8,4 +8,5 @@ returns c =
     let s = c.args in
     let old = s.self.now in
     let long : length c.row_letters-row.result ≡ day_places = search rules in
-    (row_put old.letters old.count s.b.now s.n s.p s.q (c.copy_from_slice.ensures.after ∙ row_is s.b.now s.n s.p s.q _ (omega (arith, long)) c.row_letters-row.ensures), refl)
+    let b = s.b.now in
+    (row_put old.letters old.count b.numbers.now b.days s.p s.q (c.copy_from_slice.ensures.after ∙ row_is b.numbers.now b.days s.p s.q _ (omega (arith, long, b.month)) c.row_letters-row.ensures), refl)

@@ -3,4 +3,4 @@ use Rattle.nightlists.proofs.LastLaws.{length_leaves}
 use Rattle.nightlists.proofs.listing.CountingListing.add_leaves.Goals as goal
 
 pub returns : goal.returns
-returns c = omega (arith, length_leaves c.args.from c.args.shut)
+returns c = omega (arith, length_leaves c.args._from c.args.shut)

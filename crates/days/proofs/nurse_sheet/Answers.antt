@@ -1,0 +1,7 @@
+use Rattle.std.proofs.Common.{suc, ap, ◌∙◌}
+use Rattle.rows.specs.Pairs.{in_pair}
+use Rattle.days.proofs.MonthLaws.{sheet_as}
+use Rattle.days.proofs.nurse_sheet.Goals as goal
+
+pub returns : goal.returns
+returns c = sheet_as c.nurse.ensures.0 c.nurse.ensures.1 c.longest_days-longest.ensures.0 c.days_of-p.ensures (λ d. c.pair_days-off.ensures d ∙ ap (λ k. in_pair c.args.w.now.numbers.now k (suc d)) c.pair_of-k.ensures) c.sheet_of.ensures

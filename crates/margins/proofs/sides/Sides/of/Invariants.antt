@@ -1,0 +1,5 @@
+use Rattle.margins.proofs.SideLaws.{SidesTo}
+use Rattle.margins.proofs.sides.Sides.of.Given as goal
+
+abbrev pub invariant-loop-d : goal.invariant-loop-d
+invariant-loop-d l = SidesTo l.w.numbers.now l.cols l.i l.part l.n l.d l.sides

@@ -1,5 +1,0 @@
-use Rattle.margins.proofs.SideLaws.{SidesTo}
-use Rattle.margins.proofs.sides.sides.Given as goal
-
-abbrev pub invariant-loop-d : goal.invariant-loop-d
-invariant-loop-d l = SidesTo l.w l.cols l.i l.part l.n l.d l.r

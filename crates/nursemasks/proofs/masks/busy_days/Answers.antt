@@ -1,6 +1,0 @@
-use Rattle.nursemasks.proofs.MaskLaws.{masks_row}
-use Rattle.nursemasks.proofs.PairMaskLaws.{busy_row}
-use Rattle.nursemasks.proofs.masks.busy_days.Goals as goal
-
-pub returns : goal.returns
-returns c = λ r n b small is. busy_row b c.args.p c.row_of-row.result (masks_row r n c.args.p b c.args.m is c.row_of-row.result (c.row_of-row.ensures b))

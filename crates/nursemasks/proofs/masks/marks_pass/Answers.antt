@@ -1,5 +1,0 @@
-use Rattle.nursemasks.proofs.MaskLaws.{masks_row, masks_allow}
-use Rattle.nursemasks.proofs.masks.marks_pass.Goals as goal
-
-pub returns : goal.returns
-returns c = λ r n b small is. masks_allow r n c.args.p b c.args.m is small c.row_of-row.result (masks_row r n c.args.p b c.args.m is c.row_of-row.result (c.row_of-row.ensures b))

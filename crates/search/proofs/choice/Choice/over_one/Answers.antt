@@ -1,0 +1,17 @@
+use Rattle.std.proofs.Common.{ap, ◌∙◌, min, take, get_or}
+use Rattle.history.specs.Slot.{exchanged}
+use Rattle.penalty.specs.Penalty.{rest, parts_in}
+use Rattle.ownlists.specs.CodeOwn.{no_list}
+use Rattle.search.proofs.ChoiceLaws.{bars_are, found_in, offered_is}
+use Rattle.search.proofs.choice.Choice.over_one.Goals as goal
+
+pub returns : goal.returns
+returns c = λ slots may a s m u.
+    let x = c.args.self.now in
+    let o = x.offers.now in
+    let w = o.ward.now.numbers.now in
+    let is = offered_is o.lists.now o.own.now (get_or o.plan.now c.args.i no_list).source _ c.list.ensures in
+    found_in o.search w may (λ p. rest (parts_in o.search w (exchanged slots c.args.i p))) c.args.i c.args.held (c.others_than.ensures.is a u) is
+    (c.over_nurse.ensures slots may s
+    (bars_are may w c.args.i x.rec.now _ m c.then_some-current.ensures
+    (ap (λ k. take k x.rec.now.removals) (c.min-count.ensures ∙ ap (min _) c.tabu.ensures.0)) c.bars_of-barred.ensures.bars))
