@@ -27,7 +27,7 @@ pub fn count_words(counted: Result<u64, Refusal>) -> [u64; 6]
     }
 }
 
-// An advance's.
+// An advance's. The ends' numbers are C's, said here alone, where the words are made, as are the check's below.
 pub fn advance_words(done: &Result<Advance, Refusal>) -> [u64; 6]
     ensures { result ≡ result_words done.now }
 {

@@ -1,6 +1,6 @@
 -- What `decode_groups` is at each return of `groups`.
-use Rattle.std.specs.Prelude.{ℕ, zero, suc, ◌+◌, ◌-◌, ◌*◌, ◌^◌, ◌≤◌, ◌<◌, ◌≡◌, refl, List, [], ◌∷◌, length, get_or, drop}
-use Rattle.std.proofs.Common.{ap, ◌∙◌, le_trans, add-one, arith, lt-ltb, le-ltb, drop_of_length-le, drop-cons, lit≤}
+use Rattle.std.specs.Prelude.{ℕ, zero, suc, ◌+◌, ◌-◌, ◌*◌, ◌^◌, ◌≤◌, ◌<◌, ◌≡◌, refl, List, [], ◌∷◌, length, get_or}
+use Rattle.std.proofs.Common.{ap, ◌∙◌, le_trans, add-one, arith, lt-ltb, le-ltb, lit≤}
 use Rattle.std.proofs.lemmas.Result.{err_from_is_err_and}
 use Rattle.std.proofs.Math.Nat.{pow-succ', pow-le-pow_right}
 use Rattle.std.specs.Result.{IsErrAnd}
@@ -24,33 +24,34 @@ unfolding decode_groups
 last_group zero least b bs h = simp (lt-ltb b 128 h)
 last_group (suc k) least b bs h = simp (lt-ltb b 128 h)
 
-module _ (file : List ℕ) (at more least : ℕ) where
-  pub at_end : length file ≤ at → Err Ended ≡ decode_groups more least (drop at file)
+pub at_end : (more least : ℕ) (file : List ℕ) → length file ≡ 0 → Err Ended ≡ decode_groups more least file
+unfolding decode_groups
+at_end zero least [] e = refl
+at_end (suc k) least [] e = refl
+at_end k least (b ∷ bs) e = absurd (omega arith)
+
+-- a byte that stands first
+pub first_byte : {file : List ℕ} {b : ℕ} {rest : List ℕ} → file ≡ b ∷ rest → get_or file 0 0 < 256 → b < 256
+first_byte is h = rw is at h
+
+-- the next group and what follows it
+module _ (more least : ℕ) {file : List ℕ} {b : ℕ} {rest : List ℕ} (is : file ≡ b ∷ rest) where
+  pub last_low : b < 128 → b < least → Err Long ≡ decode_groups more least file
+  unfolding final
+  last_low s l = rw (is, last_group more least b rest s, lt-ltb _ _ l) refl
+
+  pub last_good : b < 128 → least ≤ b → value b 1 ≡ decode_groups more least file
+  unfolding final
+  last_good s l = rw (is, last_group more least b rest s, le-ltb _ _ l) refl
+
+  pub too_long : 128 ≤ b → more ≡ 0 → Err Long ≡ decode_groups more least file
   unfolding decode_groups
-  at_end h = rw (drop_of_length-le file h) (none more)
-    where
-      none : (k : ℕ) → Err Ended ≡ decode_groups k least []
-      none zero = refl
-      none (suc k) = refl
+  too_long h e = rw (is, e, le-ltb _ _ h) refl
 
-  module _ (h : at < length file) where
-    pub last_low : get_or file at 0 < 128 → get_or file at 0 < least → Err Long ≡ decode_groups more least (drop at file)
-    unfolding final
-    last_low s l = rw (drop-cons file at 0 h, last_group more least (get_or file at 0) (drop (suc at) file) s, lt-ltb _ _ l)
-
-    pub last_good : get_or file at 0 < 128 → least ≤ get_or file at 0 → value (get_or file at 0) 1 ≡ decode_groups more least (drop at file)
-    unfolding final
-    last_good s l = rw (drop-cons file at 0 h, last_group more least (get_or file at 0) (drop (suc at) file) s, le-ltb _ _ l)
-
-    pub too_long : 128 ≤ get_or file at 0 → more ≡ 0 → Err Long ≡ decode_groups more least (drop at file)
-    unfolding decode_groups
-    too_long b e = rw (e, drop-cons file at 0 h, le-ltb _ _ b)
-
-    pub further :
-        (k : ℕ) (n : Result Number Fault) → 128 ≤ get_or file at 0 → more ≡ suc k → n ≡ decode_groups k 1 (drop (at + 1) file) →
-        under (get_or file at 0) n ≡ decode_groups more least (drop at file)
-    unfolding decode_groups
-    further k n b e is = rw (e, drop-cons file at 0 h, le-ltb _ _ b, is, add-one)
+  pub further :
+      (k : ℕ) (n : Result Number Fault) → 128 ≤ b → more ≡ suc k → n ≡ decode_groups k 1 rest → under b n ≡ decode_groups more least file
+  unfolding decode_groups
+  further k n h e next = rw (is, e, le-ltb _ _ h, next) refl
 
 pub below_further : (b v more k : ℕ) → b < 256 → more ≡ suc k → v < 128 ^ (k + 1) → b - 128 + 128 * v < 128 ^ (more + 1)
 below_further b v more k hb e hv = rw (e, add-one, pow-succ', ← add-one k) (omega arith)

@@ -64,7 +64,7 @@ same_value {v} {used} e =
     (ap (λ (m : Number). m.value) n, ap (λ (m : Number). m.used) n)
 
 pub no_value : {fault : Fault} {v used : ℕ} → Err fault ≡ value v used → ⊥
-no_value e = let z : ◌≡◌ {A = ℕ} 0 1 = cc in omega arith
+no_value e = cc
 
 record Back (k least : ℕ) (bs : List ℕ) (v used : ℕ) : Type 0 where
   same : encode_groups k v ++ drop used bs ≡ bs

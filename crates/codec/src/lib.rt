@@ -1,7 +1,7 @@
 // The number codec: groups of seven bits, the lowest first, one group a byte.
 #![tactic(auto)]
 
-ghost use Rattle.std.specs.Prelude.{◌≡◌, ◌+◌, ◌^◌, ◌≤◌, ◌<◌, IfOk, length, drop};
+ghost use Rattle.std.specs.Prelude.{◌≡◌, ◌+◌, ◌^◌, ◌≤◌, ◌<◌, IfOk, length};
 ghost use Rattle.codec.specs.Groups.{decode, decode_groups, encode};
 ghost use Rattle.codec.specs.CodeBytes.{Below, pasted};
 
@@ -21,16 +21,15 @@ pub enum Fault {
     Long,
 }
 
-// The number whose next group stands at `at`: `more` groups may follow it, and as the last it is at least `least`.
-fn groups(file: &[u8], at: usize, more: usize, least: u8) -> Result<Number, Fault>
-    requires { (at ≤ length file.now) × (more ≤ 6) }
-    ensures is { result ≡ decode_groups more least (drop at file.now) }
+// The number whose next group is the first of these bytes: `more` groups may follow it, and as the last it is at least `least`.
+fn groups(file: &[u8], more: usize, least: u8) -> Result<Number, Fault>
+    requires { more ≤ 6 }
+    ensures is { result ≡ decode_groups more least file.now }
     ensures below { IfOk result (Below more) }
 {
-    if at >= file.len() {
+    let Some((&b, rest)) = file.split_first() else {
         return Err(Fault::Ended);
-    }
-    let b = file[at];
+    };
     if b < 128 {
         if b < least {
             return Err(Fault::Long);
@@ -43,51 +42,43 @@ fn groups(file: &[u8], at: usize, more: usize, least: u8) -> Result<Number, Faul
     if more == 0 {
         return Err(Fault::Long);
     }
-    let rest = groups(file, at + 1, more - 1, 1)?;
+    let next = groups(rest, more - 1, 1)?;
     Ok(Number {
-        value: (u64::from(b) - 128) + 128 * rest.value,
-        used: rest.used + 1,
+        value: (u64::from(b) - 128) + 128 * next.value,
+        used: next.used + 1,
     })
 }
 
-// The number that starts at `at`.
-pub fn number_at(file: &[u8], at: usize) -> Result<Number, Fault>
-    requires { at ≤ length file.now }
-    ensures is { result ≡ decode (drop at file.now) }
+// The number at the front of these bytes.
+pub fn number_in(file: &[u8]) -> Result<Number, Fault>
+    ensures is { result ≡ decode file.now }
     ensures below { IfOk result (Below 6) }
 {
-    groups(file, at, 6, 0)
+    groups(file, 6, 0)
 }
 
 // How many bytes v takes.
+#[tactic(auto, using(crate::proofs::PutLaws::size_is))]
 pub fn size(v: u64) -> usize
     requires { v < 2 ^ 49 }
-    ensures { result ≡ length (encode v) }
+    ensures is { result ≡ length (encode v) }
+    ensures some { 1 ≤ result }
 {
-    let mut n: usize = 1;
-    let mut w = v;
-    // The value ends the loop, so a range of sizes would be no plainer.
-    while w >= 128 {
-        w /= 128;
-        n += 1;
-    }
-    n
+    v.max(1).ilog(128) as usize + 1
 }
 
-// Writes v from `at` on, and gives the place after it.
+// Writes v from `at` on, and gives the place after it. A place and no slice: what is written is said of the whole buffer, with which the caller goes on.
 pub fn put(buf: &mut [u8], at: usize, v: u64) -> usize
     requires { (v < 2 ^ 49) × (at + length (encode v) ≤ length buf.old) }
     ensures next { result ≡ at + length (encode v) }
     ensures leaves { buf.new ≡ pasted buf.old at (encode v) }
 {
-    let mut i = at;
+    let more = size(v) - 1;
     let mut w = v;
-    // The value ends the loop, so a range of places would be no plainer.
-    while w >= 128 {
-        buf[i] = (128 + w % 128) as u8;
+    for byte in &mut buf[at..at + more] {
+        *byte = (128 + w % 128) as u8;
         w /= 128;
-        i += 1;
     }
-    buf[i] = w as u8;
-    i + 1
+    buf[at + more] = w as u8;
+    at + more + 1
 }

@@ -1,6 +1,6 @@
 -- Laws of the day advance: its questions in order, its roster, its lists in the buffer, and what it hands back.
-use Rattle.std.specs.Prelude.{ℕ, zero, suc, ◌+◌, ◌-◌, ◌≤◌, ◌<◌, ◌≡◌, refl, Bool, true, false, cond, ◌&&◌, ◌≢◌, List, [], ◌∷◌, ◌++◌, map, leb, ltb, eqb, length, get_or, take, replicate}
-use Rattle.std.proofs.Common.{sym, ap, ap₂, ◌∙◌, subst, true≢false, append-nil, add-one, arith, length-append, leb-true, lt-ltb, le-ltb, eq-eqb, ne_eqb, eqb-true}
+use Rattle.std.specs.Prelude.{ℕ, zero, suc, ◌+◌, ◌-◌, ◌≤◌, ◌<◌, ◌≡◌, refl, Bool, true, false, cond, ◌&&◌, ◌≢◌, List, [], ◌∷◌, ◌++◌, map, leb, ltb, length, get_or, take, replicate}
+use Rattle.std.proofs.Common.{sym, ap, ap₂, ◌∙◌, subst, true≢false, append-nil, add-one, arith, length-append, leb-true, lt-ltb, le-ltb, eq-eqb, ne_eqb, ltb-true, ltb-false}
 use Rattle.std.proofs.lemmas.Bool.{and_parts}
 use Rattle.std.proofs.Math.Option.{Option, none, some}
 use Rattle.std.specs.declared.result.Result.{Result}
@@ -9,17 +9,17 @@ use Rattle.fields.specs.Sizes.{nurse_places, letter_places}
 use Rattle.numbers.specs.Range.{up_from}
 use Rattle.numbers.specs.Patterns.{unpaired, days_of}
 use Rattle.fields.specs.Fields.{Accepted, nurses}
-use Rattle.daylists.specs.Lists.{up_to, first_over}
+use Rattle.daylists.specs.Lists.{up_to}
 use Rattle.daylists.specs.declared.lists.Over.{Over}
 use Rattle.daylists.specs.CodeLists.{AllFit, FirstOver, Counted}
 use Rattle.daylists.proofs.ListsLaws.{up_length, up_mono, stretch_is}
-use Rattle.history.specs.declared.Search.TheVariants.{Days}
+use Rattle.history.specs.declared.Search.TheVariants.{Days as DaySearch}
 use Rattle.history.specs.Slot.{Slot}
 use Rattle.history.specs.Phase.{Phase, Answer, refusal}
 use Rattle.refusals.specs.declared.Refusal.{Refusal}
 use Rattle.refusals.specs.Refusals.{numbered, refusal_in, unless, first}
 use Rattle.refusals.specs.Questions as question
-use Rattle.refusals.proofs.OrderLaws.{first_none, unless_none}
+use Rattle.refusals.proofs.OrderLaws.{first_none, first_yes, unless_none}
 use Rattle.history.specs.Record.{Record, lacking, reply_of, proceed}
 use Rattle.history.proofs.SearchLaws.{days≢nights}
 use Rattle.removals.specs.Removals.{slot, pattern_of, flag_of}
@@ -33,6 +33,7 @@ use Rattle.letters.specs.CodeRoster.{Written}
 use Rattle.letters.specs.declared.written.Roster.{Roster}
 use Rattle.letters.proofs.RowLaws.{letters_length}
 use Rattle.phases.specs.Phases.{nights_open, lists_fit, day_list_over, day_phase, night_of}
+use Rattle.search.specs.declared.Searched.TheVariants.{Days}
 use Rattle.phases.specs.CodeQuestions.{phase_of, EndsOf, UnplacedZero}
 use Rattle.outcomes.specs.Outcomes.{roster_of, letters_of, call_of}
 use Rattle.outcomes.proofs.OutcomeLaws.{list_front}
@@ -55,6 +56,11 @@ lacking_unpaired lists (i ∷ is) = go (lists i) refl (lacking_unpaired lists is
     go [] q e = rw (q, lacking)
     go (p ∷ ps) q e = rw (q, lacking) e
 
+-- where the lists that fit end
+ends_of : {f : ℕ → List ℕ} {m places n : ℕ} {ends : List ℕ} → AllFit f m places ends → n ≡ m → EndsOf f n ends
+unfolding EndsOf
+ends_of c e k l = c.ends_are k (omega arith)
+
 -- all of them, the record's asked of the phase over these nights
 module _ (w nights : List ℕ) (r : Stored) (k places : ℕ) where
   abbrev over_nights : ℕ → ℕ
@@ -73,14 +79,34 @@ module _ (w nights : List ℕ) (r : Stored) (k places : ℕ) where
   asks_lists = lacking (day_list_over w over_nights) (up_from 0 (nurses w))
 
   abbrev asks_record : Option Refusal
-  asks_record = unless (sound_stored (phase_of Days w nights) r) question.record_sound 0
+  asks_record = unless (sound_stored (day_phase w over_nights) r) question.record_sound 0
 
   pub in_order : (past_zero : Bool) → first asks_steps (first asks_nights (first asks_room (first asks_lists asks_record))) ≡ refusal_stored (day_phase w over_nights) (call_of k past_zero places) r
-  unfolding refusal_stored refusal day_phase phase_of
+  unfolding refusal_stored refusal day_phase
   in_order past_zero =
-      sym (ap (λ (l : Option Refusal). first (first asks_steps (first asks_nights asks_room)) (first l (unless (sound_stored (day_phase w over_nights) r) question.record_sound 0)))
+      sym (ap (λ (l : Option Refusal). first (first asks_steps (first asks_nights asks_room)) (first l asks_record))
       (lacking_unpaired (day_list_over w over_nights) (up_from 0 (nurses w)))
-      ∙ regroup asks_steps asks_nights asks_room (first asks_lists (unless (sound_stored (day_phase w over_nights) r) question.record_sound 0)))
+      ∙ regroup asks_steps asks_nights asks_room (first asks_lists asks_record))
+
+  -- what is left to ask once the first two are answered yes, and the first three
+  module _ {X Y : Type 0} {x : X} {y : Y} {a : Result X Refusal} {b : Result Y Refusal} (past_zero : Bool) (steps : refusal_in a ≡ asks_steps) (steps_yes : a ≡ Ok x)
+      (open_nights : refusal_in b ≡ asks_nights) (open_yes : b ≡ Ok y) where
+    pub after_nights : first asks_room (first asks_lists asks_record) ≡ refusal_stored (day_phase w over_nights) (call_of k past_zero places) r
+    after_nights = first_yes _ open_nights open_yes ∙ first_yes _ steps steps_yes ∙ in_order past_zero
+
+    pub after_room : {Z : Type 0} {z : Z} {c : Result Z Refusal} → refusal_in c ≡ asks_room → c ≡ Ok z → first asks_lists asks_record ≡ refusal_stored (day_phase w over_nights) (call_of k past_zero places) r
+    after_room room room_yes = first_yes _ room room_yes ∙ after_nights
+
+  -- question 10 as the code asks it, of so many nurses
+  pub lists_asked : {m : ℕ} {ends : List ℕ} {d : Option Refusal} → m ≡ nurses w → AllFit (day_list_over w over_nights) (nurses w) places ends
+      → ((lists : ℕ → List ℕ) → EndsOf lists m ends → d ≡ lacking lists (up_from 0 m)) → d ≡ asks_lists
+  lists_asked e fit asked = asked (day_list_over w over_nights) (ends_of fit e) ∙ ap (λ (n : ℕ). lacking (day_list_over w over_nights) (up_from 0 n)) e
+
+-- question 11, of the phase as the code hands it on
+pub record_of_days : (w : List ℕ) (nights : _) (r : Stored) {a : Option Refusal} → a ≡ unless (sound_stored (phase_of (Days nights) w) r) question.record_sound 0
+    → a ≡ unless (sound_stored (day_phase w (night_of nights.now)) r) question.record_sound 0
+unfolding phase_of
+record_of_days w nights r e = e
 
 -- ---- question 9 by the count
 
@@ -99,10 +125,6 @@ module _ (f : ℕ → List ℕ) (m places : ℕ) where
   counted_asked (Ok ends) c fit over_by = ap refusal_in (fit ends refl) ∙ all_fit c
   counted_asked (Err over) c fit over_by = ap refusal_in (over_by over refl) ∙ over_fit c
 
-pub ends_of : {f : ℕ → List ℕ} {m places n : ℕ} {ends : List ℕ} → AllFit f m places ends → n ≡ m → EndsOf f n ends
-unfolding EndsOf
-ends_of c e k l = c.ends_are k (omega arith)
-
 -- ---- question 10 by where the lists end
 
 module _ (lists : ℕ → List ℕ) (m : ℕ) (ends : List ℕ) (e : EndsOf lists m ends) (i : ℕ) (l : i < m) where
@@ -110,11 +132,12 @@ module _ (lists : ℕ → List ℕ) (m : ℕ) (ends : List ℕ) (e : EndsOf list
   unfolding EndsOf
   list_long = e (i + 1) (omega arith) ∙ up_length lists i ∙ ap (λ (n : ℕ). n + length (lists i)) (sym (e i (omega arith)))
 
-  pub stretch_some : get_or ends i 0 < get_or ends (i + 1) 0 → ltb 0 (length (lists i)) ≡ true
-  stretch_some h = lt-ltb 0 (length (lists i)) (omega (arith, list_long))
-
-  pub stretch_none : get_or ends (i + 1) 0 ≤ get_or ends i 0 → ltb 0 (length (lists i)) ≡ false
-  stretch_none h = le-ltb 0 (length (lists i)) (omega (arith, list_long))
+  pub stretch_some : {b : Bool} → b ≡ ltb (get_or ends i 0) (get_or ends (i + 1) 0) → b ≡ ltb 0 (length (lists i))
+  stretch_some h = h ∙ go (ltb (get_or ends i 0) (get_or ends (i + 1) 0)) refl
+    where
+      go : (b : Bool) → ltb (get_or ends i 0) (get_or ends (i + 1) 0) ≡ b → b ≡ ltb 0 (length (lists i))
+      go true e = sym (lt-ltb 0 (length (lists i)) (omega (arith, list_long, ltb-true _ _ e)))
+      go false e = sym (le-ltb 0 (length (lists i)) (omega (arith, list_long, ltb-false _ _ e)))
 
 -- ---- the roster at zero
 
@@ -176,12 +199,11 @@ stored_zero w P past_zero k r acc e =
 
 -- ---- an advance that no question refuses
 
-pub record Open (w : List ℕ) (nights : ℕ → ℕ) (r : Stored) (k : ℕ) : Type 0 where
-  pub steps_fit : r.steps + k ≤ 1000000
-  pub sound : sound_stored (day_phase w nights) r ≡ true
+record Open (w : List ℕ) (nights : ℕ → ℕ) (r : Stored) (k : ℕ) : Type 0 where
+  steps_fit : r.steps + k ≤ 1000000
+  sound : sound_stored (day_phase w nights) r ≡ true
 
-pub opened : (w nights : List ℕ) (r : Stored) (k places : ℕ) (past_zero : Bool) → refusal_stored (day_phase w (night_of nights)) (call_of k past_zero places) r ≡ none → Open w (night_of nights) r k
-unfolding phase_of
+opened : (w nights : List ℕ) (r : Stored) (k places : ℕ) (past_zero : Bool) → refusal_stored (day_phase w (night_of nights)) (call_of k past_zero places) r ≡ none → Open w (night_of nights) r k
 opened w nights r k places past_zero e =
     let all = in_order w nights r k places past_zero ∙ e in
     let a = first_none (unless (leb k 10000 && leb (r.steps + k) 1000000) question.steps 0) _ all in
@@ -192,7 +214,7 @@ opened w nights r k places past_zero e =
     record { steps_fit = leb-true _ _ s.1; sound = unless_none _ question.record_sound 0 d.1 }
 
 -- what the code finds in the buffer
-pub lists_front : (L rest : List ℕ) {buf : List ℕ} {n : ℕ} → n ≡ length L → buf ≡ L ++ rest → take n buf ≡ L ++ []
+lists_front : (L rest : List ℕ) {buf : List ℕ} {n : ℕ} → n ≡ length L → buf ≡ L ++ rest → take n buf ≡ L ++ []
 lists_front L rest e q = list_front L rest q e ∙ sym (append-nil L)
 
 module _ (w : List ℕ) (nights : ℕ → ℕ) where
@@ -202,7 +224,7 @@ module _ (w : List ℕ) (nights : ℕ → ℕ) where
     begin_is : (i : ℕ) → i ≤ nurses w → get_or ends i 0 ≡ length (up_to (day_list_over w nights) i)
     begin_is i h = c.ends_are i h
 
-    pub day_lists : Lists Days w lists ends
+    day_lists : Lists DaySearch w lists ends
     day_lists = record {
       common_list = λ q. absurd (days≢nights q);
       begins = λ q i h. rw (begin_is i (omega arith), begin_is (i + 1) (omega arith)) (up_mono (day_list_over w nights) i (i + 1) (omega arith));
@@ -210,7 +232,7 @@ module _ (w : List ℕ) (nights : ℕ → ℕ) where
           (omega (arith, up_mono (day_list_over w nights) (i + 1) (nurses w) (omega arith), length-append (up_to (day_list_over w nights) (nurses w)) rest));
     }
 
-    pub day_seeks : Seeks Days w lists ends (day_phase w nights)
+    day_seeks : Seeks DaySearch w lists ends (day_phase w nights)
     unfolding day_phase
     day_seeks = record {
       nurses_are = refl;
@@ -219,3 +241,19 @@ module _ (w : List ℕ) (nights : ℕ → ℕ) where
       patterns_are = λ i h. rw (begin_is i (omega arith), begin_is (i + 1) (omega arith), e) (ap (map unpaired) (sym (stretch_is (day_list_over w nights) (nurses w) i rest h)));
       ascending = day_ascending w nights;
     }
+
+-- what the search needs of the call, and of the lists where the code finds them
+pub record Ready (w : List ℕ) (nights : ℕ → ℕ) (r : Stored) (k : ℕ) (lists ends : List ℕ) : Type 0 where
+  pub steps_fit : r.steps + k ≤ 1000000
+  pub sound : sound_stored (day_phase w nights) r ≡ true
+  pub lists_are : Lists DaySearch w lists ends
+  pub seeks : Seeks DaySearch w lists ends (day_phase w nights)
+
+pub ready : (w nights : List ℕ) (r : Stored) (k places : ℕ) (past_zero : Bool) (rest : List ℕ) {a : Result (List ℕ) Refusal} {ends buf : List ℕ} {n : ℕ}
+    → refusal_in a ≡ refusal_stored (day_phase w (night_of nights)) (call_of k past_zero places) r → a ≡ Ok ends → AllFit (day_list_over w (night_of nights)) (nurses w) places ends
+    → n ≡ length (up_to (day_list_over w (night_of nights)) (nurses w)) → buf ≡ up_to (day_list_over w (night_of nights)) (nurses w) ++ rest
+    → Ready w (night_of nights) r k (take n buf) ends
+ready w nights r k places past_zero rest asked went fit e q =
+    let ok = opened w nights r k places past_zero (sym asked ∙ ap refusal_in went) in
+    let front = lists_front (up_to (day_list_over w (night_of nights)) (nurses w)) rest e q in
+    record { steps_fit = ok.steps_fit; sound = ok.sound; lists_are = day_lists w (night_of nights) [] fit front; seeks = day_seeks w (night_of nights) [] fit front }

@@ -1,7 +1,7 @@
 // The day advance on a ward that was read.
 #![tactic(auto)]
 
-ghost use Rattle.std.specs.Prelude.{◌≡◌, Bool, List, ℕ, ◌≤◌, ◌<◌, IfOk, length};
+ghost use Rattle.std.specs.Prelude.{◌≡◌, Bool, List, ℕ, ◌≤◌, IfOk, length};
 ghost use Rattle.fields.specs.Sizes.{nurse_places};
 ghost use Rattle.numbers.specs.Range.{up_from};
 ghost use Rattle.refusals.specs.Refusals.{refusal_in};
@@ -17,14 +17,13 @@ ghost use Rattle.outcomes.specs.Outcomes.{letters_of, advance_of, roster_of, lef
 
 use fields::Body;
 use fields::sizes::{ENDS, NURSES};
-use history::Search;
 use letters::written::Roster;
 use outcomes::Advance;
-use phases::questions::Asked;
+use phases::questions::AskedPhase;
 use phases::{opening, questions};
 use refusals::Refusal;
 use refusals::question::Question;
-use search::{Advanced, Record, Stretches};
+use search::{Advanced, Record, Searched};
 
 // The roster that an advance gives out: at penalty zero that of the nights and its days, else none.
 fn roster_given(w: &Body, nights: &[u64; NURSES], x: Advanced) -> Roster
@@ -35,7 +34,7 @@ fn roster_given(w: &Body, nights: &[u64; NURSES], x: Advanced) -> Roster
         let worked = x.after.patterns;
         return letters::written::roster_of(w, *nights, worked);
     }
-    outcomes::no_roster()
+    Roster::default()
 }
 
 // Question 10, by where the lists of m nurses end.
@@ -43,17 +42,11 @@ fn days_lacking(ends: [usize; ENDS], m: usize) -> Result<(), Refusal>
     requires { m ≤ nurse_places }
     ensures { (lists : ℕ → List ℕ) → EndsOf lists m ends → refusal_in result ≡ lacking lists (up_from 0 m) }
 {
-    for i in 0..m {
-        if ends[i + 1] <= ends[i] {
-            return Err(Question::Patterns.at(i + 1));
-        }
-    }
-    Ok(())
+    questions::patterns_asked(m, |i| ends[i] < ends[i + 1])
 }
 
 // Question 9: where the lists of all nurses begin and end.
 fn lists_asked(w: &Body, nights: &[u64; NURSES], places: usize) -> Result<[usize; ENDS], Refusal>
-    requires { places < 2305843009213693952 }
     ensures asked { refusal_in result ≡ lists_fit (day_lists w.now.numbers.now nights.now) (nurses w.now.numbers.now) places }
     ensures ends { IfOk result (AllFit (day_lists w.now.numbers.now nights.now) (nurses w.now.numbers.now) places) }
 {
@@ -63,6 +56,7 @@ fn lists_asked(w: &Body, nights: &[u64; NURSES], places: usize) -> Result<[usize
 }
 
 // Where the lists of all nurses begin and end, or the first of questions 7 to 11 that is a no.
+// This and `advance_on` have the shape of the night's: they share what they call, and the questions, lists and roster between are unlike.
 fn first_no(
     rec: Record,
     w: &Body,
@@ -70,7 +64,6 @@ fn first_no(
     k: u32,
     places: usize,
 ) -> Result<[usize; ENDS], Refusal>
-    requires { places < 2305843009213693952 }
     ensures asked { (past_zero : Bool) → refusal_in result ≡ refusal_stored (day_phase w.now.numbers.now (night_of nights.now)) (call_of k past_zero places) rec }
     ensures ends { IfOk result (AllFit (day_lists w.now.numbers.now nights.now) (nurses w.now.numbers.now) places) }
 {
@@ -78,16 +71,16 @@ fn first_no(
     opening::nights_asked(w, nights)?;
     let ends = lists_asked(w, nights, places)?;
     days_lacking(ends, w.nurses())?;
-    let asked = Asked {
-        ward: &*w,
-        nights: &*nights,
-        search: Search::Days,
+    let asked = AskedPhase {
+        ward: w,
+        which: Searched::Days(nights),
     };
     asked.record_asked(rec)?;
     Ok(ends)
 }
 
-// The day advance, every question answered before the first store.
+// The day advance, every question answered before the first store. A ward and its nights are two parameters here and below, as in the published call:
+// no fact joins them, since question 8 is asked of any nights.
 pub fn advance_on(
     rec: Record,
     w: &Body,
@@ -101,11 +94,7 @@ pub fn advance_on(
 {
     let ends = first_no(rec, w, nights, k, buffer.len())?;
     let len = daylists::lists::lists_fill(w, nights, buffer);
-    let stretches = Stretches {
-        search: Search::Days,
-        ends,
-    };
-    let x = rec.advance(w, &buffer[..len], stretches, k, past);
+    let x = rec.advance(w, &buffer[..len], Searched::Days(ends), k, past);
     let roster = roster_given(w, nights, x);
     Ok(outcomes::finished(x, roster))
 }

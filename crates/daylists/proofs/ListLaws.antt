@@ -1,6 +1,6 @@
 -- The walk lists the numbers below 2^n that the rule over the month lets through, in their order.
 use Rattle.std.specs.Prelude.{◌≡◌, refl, Bool, true, false, cond, ◌⊎◌, List, [], ◌++◌, ℕ, zero, suc, ◌+◌, ◌-◌, ◌*◌, ◌/◌, ◌%◌, ◌^◌, ◌≤◌, ◌<◌}
-use Rattle.std.proofs.Common.{sym, ap, ap₂, ◌∙◌, subst, inl, inr, add_comm, zero-mul, eq-or-lt_of_le, add-one, arith, pow_pos}
+use Rattle.std.proofs.Common.{sym, ap, ap₂, ◌∙◌, subst, inl, inr, add_comm, zero-mul, eq-or-lt_of_le, add-one, arith, pow_pos, true≢false}
 use Rattle.std.proofs.lemmas.Bool.{and_parts}
 use Rattle.std.proofs.lemmas.Nat.{shl-shr}
 use Rattle.std.proofs.Math.Pow.{high}
@@ -34,7 +34,7 @@ module _ (m : Month) (row : List ℕ) (b : Bounded m) where
       go : (x : ℕ) → A * 2 ^ d ≤ x → x < A * 2 ^ d + 2 ^ d → (t : Bool) → rule_of m row x ≡ t → rule_of m row x ≡ false
       go x i h true y =
           let g = never_cut m row b x y d (A * 2 ^ d) r l (same_high A d x i h) e in
-          let z : ◌≡◌ {A = ℕ} 0 1 = cc in absurd (omega arith)
+          absurd (true≢false (sym g ∙ f))
       go x i h false y = y
 
   rests_on : (d a r : ℕ) → d < m.days → r ≡ rests_from (duty_at row a) m.days (suc d) → r + rest_on row a d ≡ rests_from (duty_at row a) m.days d

@@ -1,12 +1,12 @@
 -- Lists one after the other in a buffer: one turn of the loops that count and write them, and each list's stretch.
-use Rattle.std.specs.Prelude.{◌≡◌, refl, List, [], ◌++◌, ℕ, zero, suc, ◌+◌, ◌-◌, ◌≤◌, ◌<◌, min, length, get_or, set, take, drop}
+use Rattle.std.specs.Prelude.{◌≡◌, refl, List, [], ◌++◌, ℕ, zero, suc, ◌+◌, ◌-◌, ◌^◌, ◌≤◌, ◌<◌, min, length, get_or, set, take, drop}
 use Rattle.std.proofs.Common.{sym, ap, ◌∙◌, subst, append-nil, append_assoc, add-zero, add-one, arith, le-leb, length-append, length-set, get_or-set_same, get_or-set_other}
 use Rattle.std.proofs.lemmas.Bool.{lt-leb}
 use Rattle.std.proofs.Math.Decide.{dec_lt}
 use Rattle.std.proofs.Math.Nat.{sub-zero}
 use Rattle.std.proofs.Math.Seq.{drop-append_seam, take-append_seam}
 use Rattle.fields.specs.Sizes.{nurse_places}
-use Rattle.numbers.proofs.BufferLaws.{Halves, halves_count, halves_written, as_long}
+use Rattle.numbers.proofs.BufferLaws.{Halves, halves_count, halves_written, rest_room, as_long}
 use Rattle.daylists.specs.Lists.{up_to, first_over}
 use Rattle.daylists.specs.CodeLists.{AllFit, FirstOver}
 
@@ -66,6 +66,10 @@ module _ (f : ℕ → List ℕ) where
         let e : m - i ≡ 0 = omega arith in
         rw e
 
+-- where a loop goes over all of them
+pub in_all : {i m n : ℕ} → m ≡ n → i < m → i < n
+in_all {i} e l = subst (λ (k : ℕ). i < k) e l
+
 -- ---- writing: the first `i` lists stand at the buffer's start, `used` numbers
 
 pub record FillAt (f : ℕ → List ℕ) (m : ℕ) (before : List ℕ) (i used : ℕ) (buf : List ℕ) : Type 0 where
@@ -85,16 +89,20 @@ module _ {f : ℕ → List ℕ} {m : ℕ} {before : List ℕ} {i used : ℕ} {bu
   fill_length room = as_long (up_to f i) before buf h.buf_is (omega (arith, up_mono f i m h.i_most))
 
   -- the next list beside those before it
-  pub next_halves : i < m → length (up_to f m) ≤ length before → Halves (up_to f (i + 1)) (up_to f i) (f i) before
+  next_halves : i < m → length (up_to f m) ≤ length before → Halves (up_to f (i + 1)) (up_to f i) (f i) before
   next_halves l room = record { whole = up_one f i; room = omega (arith, up_mono f (i + 1) m (omega arith)) }
 
-  pub fill_turn : {found : ℕ} {ys : List ℕ} → i < m → length (up_to f m) ≤ length before → found ≡ length (f i)
-      → ys ≡ f i ++ drop (length (f i)) (take (length buf - used) (drop used buf))
+  -- the buffer's part behind `used` has room for the next list
+  pub next_room : {L : List ℕ} → L ≡ f i → i < m → length (up_to f m) ≤ length before → length L ≤ length (take (length buf - used) (drop used buf))
+  next_room e l room = rw e (rest_room (next_halves l room) h.used_is h.buf_is)
+
+  pub fill_turn : {found : ℕ} {L ys : List ℕ} → L ≡ f i → i < m → length (up_to f m) ≤ length before → found ≡ length L
+      → ys ≡ L ++ drop (length L) (take (length buf - used) (drop used buf))
       → FillAt f m before (i + 1) (used + found) (take used buf ++ (ys ++ drop (length buf - used) (drop used buf)))
-  fill_turn l room e q = record {
+  fill_turn g l room e q = record {
     i_most = omega arith;
-    used_is = halves_count (next_halves l room) h.used_is h.buf_is e q;
-    buf_is = halves_written (next_halves l room) h.used_is h.buf_is e q;
+    used_is = halves_count (next_halves l room) h.used_is h.buf_is (rw g at e) (rw g at q);
+    buf_is = halves_written (next_halves l room) h.used_is h.buf_is (rw g at e) (rw g at q);
   }
 
   pub fill_end : m ≤ i → (used ≡ length (up_to f m)) × (buf ≡ up_to f m ++ drop (length (up_to f m)) before)
@@ -121,6 +129,10 @@ count_start f m places ends long first = record {
   ends_long = long;
   ends_are = λ k h. (let z : k ≡ 0 = omega arith in subst (λ (x : ℕ). get_or ends x 0 ≡ length (up_to f x)) (sym z) (first ∙ sym (ap length (up_none f))));
 }
+
+-- a count with a cap that is the largest number, where one more than the room would be past it
+pub count_capped : {found cap room : ℕ} {L M : List ℕ} → L ≡ M → found ≡ min cap (length L) → cap ≡ min (room + 1) (2 ^ 64 - 1) → room < 2 ^ 64 → length L ≤ 2 ^ 31 → found ≡ min (room + 1) (length M)
+count_capped g e k r l = omega (arith, ap length g)
 
 module _ (f : ℕ → List ℕ) (m places over at : ℕ) (ends : List ℕ) (c : CountAt f m places over at ends) where
   pub count_turn : {found : ℕ} → m ≤ nurse_places → over < m → found ≡ min (places - at + 1) (length (f over)) → found ≤ places - at

@@ -1,6 +1,6 @@
 -- A pattern that meets the rules is never cut off: on its way the walk goes on. And one that the walk comes to meets them.
 use Rattle.std.specs.Prelude.{◌≡◌, refl, Bool, true, false, cond, not, ◌&&◌, ◌||◌, List, ℕ, zero, suc, ◌+◌, ◌-◌, ◌*◌, ◌/◌, ◌%◌, ◌^◌, ◌≤◌, ◌<◌, min, ltb, bit_or}
-use Rattle.std.proofs.Common.{sym, ap, ◌∙◌, subst, add-zero, pow-suc, div-one, mul_comm, mul_assoc, add-one, arith, lt-ltb, le-ltb, ltb-true, eqb-true, shr-shr}
+use Rattle.std.proofs.Common.{sym, ap, ◌∙◌, subst, add-zero, pow-suc, div-one, mul_comm, mul_assoc, add-one, arith, lt-ltb, le-ltb, ltb-true, eqb-true, shr-shr, true≢false}
 use Rattle.std.proofs.lemmas.Bool.{eqb-false, and_parts, and_from}
 use Rattle.std.proofs.lemmas.Nat.{shl-shr}
 use Rattle.std.proofs.Math.Decide.{dec_lt}
@@ -152,7 +152,7 @@ never_cut m row b q y = goes_made m row b q (meets m row q y)
 -- ---- what the walk comes to
 
 or_false : (a b : Bool) → a ≡ false → (a || b) ≡ true → b ≡ true
-or_false true b e h = let z : ◌≡◌ {A = ℕ} 0 1 = cc in absurd (omega arith)
+or_false true b e h = absurd (true≢false e)
 or_false false b e h = h
 
 module _ (m : Month) (row : List ℕ) (b : Bounded m) (a r : ℕ) (below : a < 2 ^ m.days) (steps : (d : ℕ) → d ≤ m.days → step_holds m row d a ≡ true)

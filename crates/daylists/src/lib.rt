@@ -5,35 +5,41 @@ pub mod lists;
 mod reach;
 mod walk;
 
-ghost use Rattle.std.specs.Prelude.{◌≡◌, ◌++◌, ◌≤◌, ◌<◌, min, length, drop};
-ghost use Rattle.fields.specs.Fields.{nurses};
+ghost use Rattle.std.specs.Prelude.{◌≡◌, ◌++◌, ◌≤◌, min, length, drop};
 ghost use Rattle.days.specs.Days.{day_list};
+ghost use Rattle.daylists.specs.CodeWalk.{PutFrom};
 
-use fields::Body;
+use fields::WardNurse;
 use reach::WAYS;
-use walk::{Counting, Writing};
+use walk::{Listing, Reach, Writing};
 
-// How many patterns nurse i's day list has, but no more than cap. The table lent may hold anything.
-pub(crate) fn day_count(w: &Body, i: usize, c: u64, cap: usize, ways: &mut [u64; WAYS]) -> usize
-    requires i_bound { i < nurses w.now.numbers.now }
-    ensures { result ≡ min cap (length (day_list w.now.numbers.now i c)) }
+// Puts her day list at the places from the first one on, as far as there are places, and answers how many are taken. The table
+// lent may hold anything.
+pub(crate) fn day_list<L: Listing>(
+    her: &WardNurse,
+    c: u64,
+    ways: &mut [u64; WAYS],
+    list: &mut L,
+) -> usize
+    ensures value { result ≡ min (L.places list.old) (length (day_list her.now.ward.numbers.now her.now.index c)) }
+    ensures places { L.places list.new ≡ L.places list.old }
+    ensures written { length (day_list her.now.ward.numbers.now her.now.index c) ≤ L.places list.old → PutFrom L.Put list.old 0 (day_list her.now.ward.numbers.now her.now.index c) list.new }
 {
-    let sheet = days::nurse_sheet(w, i, c);
+    let sheet = days::nurse_sheet(her, c);
     reach::write_table(&sheet, ways);
-    let idle = reach::idle_days(&sheet);
-    walk::walk(ways, idle, sheet.month.days, 0, 0, 0, &mut Counting(cap))
+    let reach = Reach {
+        ways,
+        idle: reach::idle_days(&sheet),
+    };
+    reach.walk(sheet.month.days, 0, 0, 0, list)
 }
 
-// Writes nurse i's day list from the buffer's start, which has the room. The table lent may hold anything.
-pub(crate) fn day_fill(w: &Body, i: usize, c: u64, ways: &mut [u64; WAYS], buf: &mut [u32]) -> usize
-    requires i_bound { i < nurses w.now.numbers.now }
-    requires c_in_bounds { length (day_list w.now.numbers.now i c) ≤ length buf.old }
-    ensures value { result ≡ length (day_list w.now.numbers.now i c) }
-    ensures buf_after { buf.new ≡ day_list w.now.numbers.now i c ++ drop (length (day_list w.now.numbers.now i c)) buf.old }
+// Writes her day list from the buffer's start, which has the room. The table lent may hold anything.
+// No call of `day_list` in place: of a part of the buffer that was lent within a struct the proof does not know what is in it after.
+pub(crate) fn day_fill(her: &WardNurse, c: u64, ways: &mut [u64; WAYS], buf: &mut [u32]) -> usize
+    requires c_in_bounds { length (day_list her.now.ward.numbers.now her.now.index c) ≤ length buf.old }
+    ensures value { result ≡ length (day_list her.now.ward.numbers.now her.now.index c) }
+    ensures buf_after { buf.new ≡ day_list her.now.ward.numbers.now her.now.index c ++ drop (length (day_list her.now.ward.numbers.now her.now.index c)) buf.old }
 {
-    let sheet = days::nurse_sheet(w, i, c);
-    reach::write_table(&sheet, ways);
-    let idle = reach::idle_days(&sheet);
-    let mut list = Writing { list: buf };
-    walk::walk(ways, idle, sheet.month.days, 0, 0, 0, &mut list)
+    day_list(her, c, ways, &mut Writing { list: buf })
 }

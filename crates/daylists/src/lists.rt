@@ -1,10 +1,11 @@
 // All nurses' day lists in one buffer, each in the part that begins where the last one ends.
-ghost use Rattle.std.specs.Prelude.{◌≡◌, ◌++◌, ◌≤◌, ◌<◌, length, drop};
+ghost use Rattle.std.specs.Prelude.{◌≡◌, ◌++◌, ◌≤◌, length, drop};
 ghost use Rattle.fields.specs.Fields.{nurses};
 ghost use Rattle.daylists.specs.Lists.{up_to, day_lists};
 ghost use Rattle.daylists.specs.CodeLists.{Counted};
 
 use crate::reach::WAYS;
+use crate::walk::Counting;
 use fields::Body;
 use fields::sizes::{ENDS, NURSES};
 
@@ -19,7 +20,6 @@ pub struct Over {
 // Not inlined, here and below: the table would stay on the stack while steps are made.
 #[inline(never)]
 pub fn lists_count(w: &Body, nights: &[u64; NURSES], places: usize) -> Result<[usize; ENDS], Over>
-    requires places_bound { places < 2305843009213693952 }
     ensures { Counted (day_lists w.now.numbers.now nights.now) (nurses w.now.numbers.now) places result }
 {
     let m = w.nurses();
@@ -28,7 +28,9 @@ pub fn lists_count(w: &Body, nights: &[u64; NURSES], places: usize) -> Result<[u
     let mut at: usize = 0;
     for i in 0..m {
         let room = places - at;
-        let found = crate::day_count(w, i, nights[i], room + 1, &mut ways);
+        // No list is as long as the largest number, so that it never cuts one.
+        let mut list = Counting(room.saturating_add(1));
+        let found = crate::day_list(&w.nurse_at(i), nights[i], &mut ways, &mut list);
         if room < found {
             return Err(Over { nurse: i, ends });
         }
@@ -49,7 +51,7 @@ pub fn lists_fill(w: &Body, nights: &[u64; NURSES], buf: &mut [u32]) -> usize
     let mut ways = [0u64; WAYS];
     let mut used: usize = 0;
     for i in 0..m {
-        used += crate::day_fill(w, i, nights[i], &mut ways, &mut buf[used..]);
+        used += crate::day_fill(&w.nurse_at(i), nights[i], &mut ways, &mut buf[used..]);
     }
     used
 }

@@ -9,7 +9,10 @@ use days::month::Sheet;
 use days::rule;
 
 // The table's places: 128 for each day of the month, and for the one after it.
+// No `[[u64; 128]; 32]`: what the loop over a day's choices keeps would say of each row too how long it is, and of one array it is said once.
 pub(crate) const WAYS: usize = 4096;
+
+// `d ≤ days` in four functions, and no type for such a day: `write_table` alone makes it, by its loop.
 
 // The day six days after day d, if it is in the month: it is as it may be in the choice of q, and the windows hold that end on it.
 #[inline(always)]
@@ -86,7 +89,7 @@ fn write_day(sheet: &Sheet, d: usize, ways: &mut [u64; WAYS])
 pub(crate) fn write_table(sheet: &Sheet, ways: &mut [u64; WAYS])
     ensures { Filled sheet.now.month sheet.now.row ways.new (64 * sheet.now.month.days + 64) }
 {
-    for d in 0..sheet.month.days + 1 {
+    for d in 0..=sheet.month.days {
         write_day(sheet, d, ways);
     }
 }

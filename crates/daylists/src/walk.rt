@@ -7,15 +7,6 @@ ghost use Rattle.daylists.specs.CodeWalk.{opens, walked, PutFrom, Inside};
 use crate::reach::WAYS;
 use numbers::Set;
 
-// Whether a pattern may remain. With no day left to decide, whether the pattern is hers.
-fn goes_on(ways: &[u64; WAYS], left: usize, from: u64, rests: u64) -> bool
-    requires { Inside left from rests }
-    ensures { result ≡ opens ways.now left from rests }
-{
-    let at = 128 * left + ((from >> left) % 128) as usize;
-    ways[at].has(rests as usize)
-}
-
 // What becomes of the walk's patterns: each has a place, as far as there are places.
 pub(crate) trait Listing {
     // How many places there are.
@@ -74,38 +65,53 @@ impl Listing for Writing<'_> {
     }
 }
 
-// Puts the patterns below at the places from `at` on, those without the next day before those with it, and answers the place
-// after them. It ends where the places do.
-// Seven parameters: the table and the idle days never change, and each of the others does at every call, so that a struct of
-// either would be taken apart at once.
-pub(crate) fn walk<L: Listing>(
-    ways: &[u64; WAYS],
-    idle: u64,
-    left: usize,
-    from: u64,
-    rests: u64,
-    at: usize,
-    list: &mut L,
-) -> usize
-    requires inside { Inside left from rests }
-    requires at_most { at ≤ L.places list.old }
-    ensures value { result ≡ min (L.places list.old) (at + length (walked ways.now idle left from rests)) }
-    ensures places { L.places list.new ≡ L.places list.old }
-    ensures written { at + length (walked ways.now idle left from rests) ≤ L.places list.old → PutFrom L.Put list.old at (walked ways.now idle left from rests) list.new }
-{
-    if at == list.places() {
-        return at;
+// What the walk goes by, which stays as it is: the table, and the days that are a rest where they are not worked.
+#[derive(Clone, Copy)]
+pub(crate) struct Reach<'a> {
+    pub ways: &'a [u64; WAYS],
+    pub idle: u64,
+}
+
+impl Reach<'_> {
+    // Whether a pattern may remain. With no day left to decide, whether the pattern is hers.
+    fn goes_on(&self, left: usize, from: u64, rests: u64) -> bool
+        requires { Inside left from rests }
+        ensures { result ≡ opens self.now.ways.now left from rests }
+    {
+        let at = 128 * left + ((from >> left) % 128) as usize;
+        self.ways[at].has(rests as usize)
     }
-    if !goes_on(ways, left, from, rests) {
-        return at;
+
+    // Puts the patterns below at the places from `at` on, those without the next day before those with it, and answers the place
+    // after them. It ends where the places do.
+    pub(crate) fn walk<L: Listing>(
+        &self,
+        left: usize,
+        from: u64,
+        rests: u64,
+        at: usize,
+        list: &mut L,
+    ) -> usize
+        requires inside { Inside left from rests }
+        requires at_most { at ≤ L.places list.old }
+        ensures value { result ≡ min (L.places list.old) (at + length (walked self.now.ways.now self.now.idle left from rests)) }
+        ensures places { L.places list.new ≡ L.places list.old }
+        ensures written { at + length (walked self.now.ways.now self.now.idle left from rests) ≤ L.places list.old → PutFrom L.Put list.old at (walked self.now.ways.now self.now.idle left from rests) list.new }
+    {
+        if at == list.places() {
+            return at;
+        }
+        if !self.goes_on(left, from, rests) {
+            return at;
+        }
+        if left == 0 {
+            list.put(at, from as u32);
+            return at + 1;
+        }
+        let day = left - 1;
+        let with = from + (1u64 << day);
+        let rested = rests + (self.idle >> day) % 2;
+        let next = self.walk(day, from, rested, at, list);
+        self.walk(day, with, rests, next, list)
     }
-    if left == 0 {
-        list.put(at, from as u32);
-        return at + 1;
-    }
-    let day = left - 1;
-    let with = from + (1u64 << day);
-    let rested = rests + (idle >> day) % 2;
-    let next = walk(ways, idle, day, from, rested, at, list);
-    walk(ways, idle, day, with, rests, next, list)
 }

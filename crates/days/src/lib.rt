@@ -11,25 +11,23 @@ ghost use Rattle.rows.specs.Pairs.{in_pair};
 ghost use Rattle.days.specs.Days.{day_rule_of};
 ghost use Rattle.days.specs.CodeMonth.{IsSheet};
 
-use fields::Body;
+use fields::WardNurse;
 use month::Sheet;
 
-// Nurse i's month under the pattern c: its nights and its pair.
-pub fn nurse_sheet(w: &Body, i: usize, c: u64) -> Sheet
-    requires i_bound { i < nurses w.now.numbers.now }
-    ensures { IsSheet (block w.now.numbers.now i) (days w.now.numbers.now) (longest_days w.now.numbers.now) (days_of c) (in_pair w.now.numbers.now (pair_of c)) result.month result.row }
+// Her month under the pattern c: its nights and its pair.
+pub fn nurse_sheet(her: &WardNurse, c: u64) -> Sheet
+    ensures { IsSheet (block her.now.ward.numbers.now her.now.index) (days her.now.ward.numbers.now) (longest_days her.now.ward.numbers.now) (days_of c) (in_pair her.now.ward.numbers.now (pair_of c)) result.month result.row }
 {
-    let longest = w.longest_days();
+    let longest = her.ward.longest_days();
     let p = numbers::pattern::days_of(c);
     let k = numbers::pattern::pair_of(c) as usize;
-    let off = rows::pairs::pair_days(w, k);
-    month::sheet_of(&w.nurse(i), longest, p, off)
+    let off = rows::pairs::pair_days(&her.ward, k);
+    month::sheet_of(&her.numbers(), longest, p, off)
 }
 
-// Whether q is a day pattern of nurse i over the pattern c.
-pub fn is_day_pattern(w: &Body, i: usize, c: u64, q: u32) -> bool
-    requires i_bound { i < nurses w.now.numbers.now }
-    ensures { result ≡ day_rule_of w.now.numbers.now i c q }
+// Whether q is a day pattern of hers over the pattern c.
+pub fn is_day_pattern(her: &WardNurse, c: u64, q: u32) -> bool
+    ensures { result ≡ day_rule_of her.now.ward.numbers.now her.now.index c q }
 {
-    nurse_sheet(w, i, c).rule_holds(u64::from(q))
+    nurse_sheet(her, c).rule_holds(u64::from(q))
 }

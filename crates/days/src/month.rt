@@ -37,7 +37,7 @@ pub struct Sheet {
 pub(crate) fn in_bounds(least: u64, most: u64, k: u64) -> bool
     ensures { result ≡ in_bounds least most k }
 {
-    least <= k && k <= most
+    (least..=most).contains(&k)
 }
 
 // The counts from least to most.
@@ -52,9 +52,7 @@ fn seven_days(b: &Nurse) -> [u64; ROW]
     ensures { (t : ℕ) → t < 7 → get_or result t 0 ≡ duty b.now.numbers.now t }
 {
     let mut row = [0u64; ROW];
-    for t in 0..7 {
-        row[t] = b.duty(t);
-    }
+    row[..7].copy_from_slice(&b.numbers[..7]);
     row
 }
 

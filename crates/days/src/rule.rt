@@ -10,6 +10,9 @@ use crate::month::{Month, Sheet, in_bounds};
 use fields::sizes::ROW;
 use numbers::Set;
 
+// A row and the days worked in it are two parameters of each test, with bounds on the place asked about: the public ones take any row, and a struct with such
+// facts would ask more.
+
 // The sequence of duties that no row has: rest, day, rest, day, rest.
 const FORBIDDEN: [u64; 5] = [0, 1, 0, 1, 0];
 
@@ -50,6 +53,7 @@ fn duty_at(row: &[u64; ROW], q: u64, t: usize) -> u64
 }
 
 // More than `longest` duties running that count in a run, the last at place t.
+// Half-open, here and below: std has no lemma of what iterators over `a..=b` yield.
 fn long_run(row: &[u64; ROW], q: u64, longest: usize, t: usize) -> bool
     requires t_lt_row_places { t < row_places }
     requires longest_le_t { longest ≤ t }
@@ -68,7 +72,7 @@ fn rested(row: &[u64; ROW], q: u64, t: usize) -> bool
     (t - 6..t + 1).any(|u| is_rest(duty_at(row, q, u)))
 }
 
-// The forbidden sequence, ending at place t.
+// The forbidden sequence, ending at place t. By the index, which is the place in both.
 fn is_forbidden(row: &[u64; ROW], q: u64, t: usize) -> bool
     requires t_lt_row_places { t < row_places }
     requires le_t { 4 ≤ t }
@@ -106,7 +110,7 @@ pub fn rests_on(row: &[u64; ROW], q: u64, d: usize) -> bool
     is_rest(duty_at(row, q, d + 7))
 }
 
-// In each of these she works the days of q.
+// In each of these she works the days of q. The first two are a call each of those for any row.
 impl Sheet {
     #[inline(always)]
     pub fn windows_hold(&self, q: u64, t: usize) -> bool

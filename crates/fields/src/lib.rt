@@ -6,12 +6,14 @@ pub mod nurse;
 pub mod rules;
 pub mod sizes;
 
-ghost use Rattle.std.specs.Prelude.{◌≡◌, ◌<◌, ◌≤◌, length};
+ghost use Rattle.std.specs.Prelude.{◌≡◌, ◌<◌, ◌≤◌, ◌*◌, ◌+◌, ◌∷◌, [], length};
 ghost use Rattle.fields.specs.Sizes.{nurse_places, day_places, tabu_most, pair_most};
+ghost use Rattle.fields.specs.Shifts.{place};
 ghost use Rattle.fields.specs.Rules as rules_in;
 ghost use Rattle.fields.specs.Fields as of;
 ghost use Rattle.fields.specs.Fields.{Accepted};
 
+use day::Shift;
 use nurse::Nurse;
 use rules::Rules;
 
@@ -20,6 +22,14 @@ use rules::Rules;
 pub struct Body<'a> {
     pub numbers: &'a [u64],
     pub ghost accepted: { Accepted numbers.now },
+}
+
+// A nurse of the ward, by her index, from 0.
+#[derive(Clone, Copy)]
+pub struct WardNurse<'a> {
+    pub ward: Body<'a>,
+    pub index: usize,
+    pub ghost in_ward: { index < of.nurses ward.numbers.now },
 }
 
 // From edition two on the numbers begin with 0 and the edition.
@@ -91,36 +101,53 @@ impl Body<'_> {
         self.numbers[9] as usize
     }
 
-    // The weights: w, u, v for night, then w, u, v for day.
-    pub fn weight(&self, k: usize) -> u64
-        requires { k < 6 }
-        ensures { result ≡ of.weight self.now.numbers.now k }
+    // A shift's weights: w, u, v.
+    pub fn weights(&self, shift: Shift) -> [u64; 3]
+        ensures { result ≡ of.weight self.now.numbers.now (3 * place shift) ∷ of.weight self.now.numbers.now (3 * place shift + 1) ∷ of.weight self.now.numbers.now (3 * place shift + 2) ∷ [] }
     {
-        self.numbers[10 + k]
+        let at = 10 + 3 * shift as usize;
+        [self.numbers[at], self.numbers[at + 1], self.numbers[at + 2]]
+    }
+
+    // The nurse of index i.
+    pub fn nurse_at(&self, i: usize) -> WardNurse<'_>
+        requires { i < of.nurses self.now.numbers.now }
+        ensures { (result.ward ≡ self.now) × (result.index ≡ i) }
+    {
+        WardNurse {
+            ward: *self,
+            index: i,
+        }
+    }
+
+    // Where nurse i's numbers begin, or with no nurse left what follows them.
+    #[tactic(auto, unfolding(crate::specs::Fields::block_at))]
+    fn block_at(&self, i: usize) -> usize
+        requires { i ≤ of.nurses self.now.numbers.now }
+        ensures { result ≡ of.block_at self.now.numbers.now i }
+    {
+        16 + i * (11 + self.days())
     }
 
     // Nurse i's numbers.
-    #[tactic(auto, unfolding(crate::specs::Fields::block, crate::specs::Fields::block_at))]
+    #[tactic(auto, unfolding(crate::specs::Fields::block))]
     pub fn nurse(&self, i: usize) -> Nurse<'_>
         requires { i < of.nurses self.now.numbers.now }
         ensures { (result.numbers.now ≡ of.block self.now.numbers.now i) × (result.days ≡ of.days self.now.numbers.now) }
     {
         let days = self.days();
-        let size = 11 + days;
-        let a = 16 + i * size;
-        let e = a + size;
+        let a = self.block_at(i);
+        let e = a + 11 + days;
         let numbers = &self.numbers[a..e];
         Nurse { numbers, days }
     }
 
     // Where the groups begin.
-    #[tactic(auto, unfolding(crate::specs::Fields::groups_at))]
+    #[tactic(auto, unfolding(crate::specs::Fields::groups_at, crate::specs::Fields::block_at))]
     fn groups_at(&self) -> usize
         ensures { result ≡ of.groups_at self.now.numbers.now }
     {
-        let m = self.nurses();
-        let size = 11 + self.days();
-        16 + m * size
+        self.block_at(self.nurses())
     }
 
     // The groups' members, each a set.
@@ -133,38 +160,42 @@ impl Body<'_> {
         &self.numbers[a..e]
     }
 
+    // Where the numbers of the day of index d begin, or with no day left what follows them.
+    #[tactic(auto, unfolding(crate::specs::Fields::needs_at))]
+    fn needs_at(&self, d: usize) -> usize
+        requires { d ≤ of.days self.now.numbers.now }
+        ensures { result ≡ of.needs_at self.now.numbers.now d }
+    {
+        let r = self.groups();
+        self.groups_at() + r + d * (4 * r + 2)
+    }
+
     // A day's numbers, which `day` reads.
-    #[tactic(auto, unfolding(crate::specs::Fields::needs, crate::specs::Fields::needs_at))]
+    #[tactic(auto, unfolding(crate::specs::Fields::needs))]
     pub fn needs(&self, d: usize) -> &[u64]
         requires { d < of.days self.now.numbers.now }
         ensures { result.now ≡ of.needs self.now.numbers.now d }
     {
-        let r = self.groups();
-        let size = 4 * r + 2;
-        let a = self.groups_at() + r + d * size;
-        let e = a + size;
+        let a = self.needs_at(d);
+        let e = a + 4 * self.groups() + 2;
         &self.numbers[a..e]
     }
 
     // Where the days end.
-    #[tactic(auto, unfolding(crate::specs::Fields::tail_at, crate::specs::Fields::needs_at))]
+    #[tactic(auto, unfolding(crate::specs::Fields::tail_at))]
     fn tail_at(&self) -> usize
         ensures { (result ≡ of.tail_at self.now.numbers.now) × (result ≤ length self.now.numbers.now) }
     {
-        let r = self.groups();
-        let size = 4 * r + 2;
-        self.groups_at() + r + self.days() * size
+        self.needs_at(self.days())
     }
 
     // How many pairs of days off there are.
     pub fn pair_count(&self) -> usize
         ensures { (result ≡ of.pair_count self.now.numbers.now) × (result ≤ pair_most) }
     {
-        let at = self.tail_at();
-        if at < self.numbers.len() {
-            return self.numbers[at] as usize;
-        }
-        0
+        self.numbers
+            .get(self.tail_at())
+            .map_or(0, |count| *count as usize)
     }
 
     // The first day of pair k, from 1.
@@ -173,5 +204,14 @@ impl Body<'_> {
         ensures { (result ≡ of.pair_day self.now.numbers.now k) × (1 ≤ result) × (result < of.days self.now.numbers.now) }
     {
         self.numbers[self.tail_at() + k]
+    }
+}
+
+impl WardNurse<'_> {
+    // Her numbers.
+    pub fn numbers(&self) -> Nurse<'_>
+        ensures { (result.numbers.now ≡ of.block self.now.ward.numbers.now self.now.index) × (result.days ≡ of.days self.now.ward.numbers.now) }
+    {
+        self.ward.nurse(self.index)
     }
 }

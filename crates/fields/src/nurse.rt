@@ -1,12 +1,12 @@
 // A nurse's numbers: seven duties, least and most nights, least and most rests, the marks. Each is read from any numbers that reach it, and from
-// her part of an accepted ward.
+// her part of an accepted ward: the first are public and ask for no more than a length.
 ghost use Rattle.std.specs.Prelude.{◌≡◌, ℕ, suc, ◌+◌, ◌≤◌, ◌<◌, length};
 ghost use Rattle.fields.specs.Sizes.{day_places};
 ghost use Rattle.fields.specs.Fields as of;
 ghost use Rattle.fields.specs.Fields.{Block};
 
-// Duties and marks are the file's numbers, and the documents tell them by these: an enum of either would be made of a number at each reading, for
-// one comparison.
+// Duties and marks are the file's numbers, and the documents tell them by these. No enum of either: the public functions that judge by a mark or by a row
+// of duties take any numbers (`rows::is_available`, `days::rule::windows_hold`), and a narrower type asks more.
 
 // The duty of one of the seven days, oldest first.
 pub fn duty(numbers: &[u64], k: usize) -> u64
@@ -55,7 +55,8 @@ pub fn most_rests(numbers: &[u64]) -> u64
 // The mark of the day of index d.
 pub fn mark(numbers: &[u64], d: usize) -> u64
     requires { 11 + d < length numbers.now }
-    ensures { result ≡ of.mark_on numbers.now (suc d) }
+    ensures is { result ≡ of.mark_on numbers.now (suc d) }
+    ensures small { (n : ℕ) → Block numbers.now n → result < 7 }
 {
     numbers[11 + d]
 }

@@ -34,9 +34,6 @@ pub record Within (words n : ℕ) : Type 0 where
 pub keep_number_lem : (n : ℕ) → keep_number n ≡ true → (1 ≤ n) × (n ≤ 8)
 keep_number_lem n h = let s = storable true n h in (s.1, s.2)
 
-pub number_kept : (words n : ℕ) → (has_room words && keep_number n) ≡ true → keep_number n ≡ true
-number_kept words n h = (and_parts (has_room words) (keep_number n) h).1
-
 pub within : (words n : ℕ) → (has_room words && keep_number n) ≡ true → Within words n
 within words n h =
     let s = storable (has_room words) n h in
@@ -106,7 +103,7 @@ rest_of : (l : List ℕ) → take record_words (drop 1 l) ≡ drop 1 (take entry
 rest_of [] = refl
 rest_of (x ∷ xs) = refl
 
-rest_words : (storage : List ℕ) (n : ℕ) → take record_words (drop (entry_at n + 1) storage) ≡ drop 1 (entry storage n)
+pub rest_words : (storage : List ℕ) (n : ℕ) → take record_words (drop (entry_at n + 1) storage) ≡ drop 1 (entry storage n)
 rest_words storage n = ap (take record_words) (sym (drop-drop 1 (entry_at n) storage)) ∙ rest_of (drop (entry_at n) storage)
 
 -- it brings back a record
@@ -131,7 +128,7 @@ module _ (storage : List ℕ) (n : ℕ) where
 
   answered_by : (o : Option Refusal) {r : Stored} → ◌≡◌ {A = Result Stored Refusal} (elim o [ none ↦ Ok (record_at storage n) | some x ↦ Err x ]) (Ok r) → o ≡ none
   answered_by none e = refl
-  answered_by (some x) e = let z : ◌≡◌ {A = ℕ} 0 1 = cc in absurd (omega arith)
+  answered_by (some x) e = absurd (cc)
 
   pub answered_none : {r : Stored} → returned_of storage n ≡ Ok r → return_no storage n ≡ none
   answered_none e = answered_by (return_no storage n) e

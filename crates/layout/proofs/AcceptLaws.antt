@@ -7,6 +7,7 @@ use Rattle.codec.specs.declared.Number.{Number}
 use Rattle.codec.specs.declared.Fault.{Fault}
 use Rattle.codec.specs.declared.Fault.TheVariants.{Ended, Long}
 use Rattle.codec.specs.Groups.{decode}
+use Rattle.layout.specs.declared.Field.{Field}
 use Rattle.layout.specs.Grammar.{Grammar, done, number, failed_by, Read, good, bad, prepend, on_pass, on_number, read, check}
 use Rattle.layout.specs.CodeWant.{Within}
 use Rattle.layout.proofs.GrammarLaws.{in_range}
@@ -22,10 +23,17 @@ small_at (w ∷ ws) zero h l = h.0
 small_at (w ∷ ws) (suc i) h l = small_at ws i h.1 (omega arith)
 
 -- what a number's questions let through
-pub let_through : (q at v : ℕ) (r : Read) (vs : List ℕ) → on_pass q at (prepend (v ∷ []) r) ≡ good vs → (q ≡ 0) × ((us : List ℕ) × (r ≡ good us) × (vs ≡ v ∷ us))
+let_through : (q at v : ℕ) (r : Read) (vs : List ℕ) → on_pass q at (prepend (v ∷ []) r) ≡ good vs → (q ≡ 0) × ((us : List ℕ) × (r ≡ good us) × (vs ≡ v ∷ us))
 let_through zero at v (good us) vs e = (refl, (us, refl, (cc)))
-let_through zero at v (bad n) vs e = let z : ◌≡◌ {A = ℕ} 0 1 = cc in absurd (omega arith)
-let_through (suc q) at v r vs e = let z : ◌≡◌ {A = ℕ} 0 1 = cc in absurd (omega arith)
+let_through zero at v (bad n) vs e = absurd (cc)
+let_through (suc q) at v r vs e = absurd (cc)
+
+-- a number, and what is left after it
+pub first_let_through :
+    (f : Field) (k : ℕ → Grammar) (i w : ℕ) (ws vs : List ℕ) → check (number f k) i (w ∷ ws) ≡ good vs
+    → (failed_by f w ≡ 0) × ((us : List ℕ) × (check (k w) (i + 1) ws ≡ good us) × (vs ≡ w ∷ us))
+unfolding check
+first_let_through f k i w ws vs e = let_through (failed_by f w) i w (check (k w) (i + 1) ws) vs e
 
 pub record Accepted (n : ℕ) (ws vs : List ℕ) : Type 0 where
   pub same : vs ≡ ws
@@ -35,11 +43,11 @@ pub record Accepted (n : ℕ) (ws vs : List ℕ) : Type 0 where
 pub accepted : (g : Grammar) (n i : ℕ) (ws vs : List ℕ) → Within n g → check g i ws ≡ good vs → Accepted n ws vs
 unfolding check
 accepted done n i [] vs h e = record { same = cc; few = omega arith; small = tt }
-accepted done n i (w ∷ ws) vs h e = let z : ◌≡◌ {A = ℕ} 0 1 = cc in absurd (omega arith)
-accepted (number f k) n i [] vs h e = let z : ◌≡◌ {A = ℕ} 0 1 = cc in absurd (omega arith)
+accepted done n i (w ∷ ws) vs h e = absurd (cc)
+accepted (number f k) n i [] vs h e = absurd (cc)
 accepted (number f k) zero i (w ∷ ws) vs h e = absurd h
 accepted (number f k) (suc n) i (w ∷ ws) vs h e =
-    let t = let_through (failed_by f w) i w (check (k w) (i + 1) ws) vs e in
+    let t = first_let_through f k i w ws vs e in
     let r = in_range f w t.0 in
     let a = accepted (k w) n (i + 1) ws t.1.0 (h.1 w r.0 r.1) t.1.1 in
     record {
@@ -52,7 +60,7 @@ accepted (number f k) (suc n) i (w ∷ ws) vs h e =
 pub read_checked : (g : Grammar) (at i : ℕ) (bs ws : List ℕ) → read g at bs ≡ good ws → check g i ws ≡ good ws
 unfolding read check
 read_checked done at i [] ws e = ap (check done i) (let n : ws ≡ [] = cc in n) ∙ e
-read_checked done at i (b ∷ bs) ws e = let z : ◌≡◌ {A = ℕ} 0 1 = cc in absurd (omega arith)
+read_checked done at i (b ∷ bs) ws e = absurd (cc)
 read_checked (number f k) at i bs ws e = go (decode bs) refl e (λ v used us. read_checked (k v) (at + used) (i + 1) (drop used bs) us)
   where
     passed : (v : ℕ) (us : List ℕ) → failed_by f v ≡ 0 → check (k v) (i + 1) us ≡ good us → check (number f k) i (v ∷ us) ≡ good (v ∷ us)
@@ -63,5 +71,5 @@ read_checked (number f k) at i bs ws e = go (decode bs) refl e (λ v used us. re
     go (Ok n) d x on =
         let l = let_through (failed_by f n.value) at n.value (read (k n.value) (at + n.used) (drop n.used bs)) ws x in
         rw l.1.2 (passed n.value l.1.0 l.0 (on n.value n.used l.1.0 l.1.1))
-    go (Err Ended) d x on = let z : ◌≡◌ {A = ℕ} 0 1 = cc in absurd (omega arith)
-    go (Err Long) d x on = let z : ◌≡◌ {A = ℕ} 0 1 = cc in absurd (omega arith)
+    go (Err Ended) d x on = absurd (cc)
+    go (Err Long) d x on = absurd (cc)

@@ -2,10 +2,10 @@
 use Rattle.std.specs.Prelude.{ℕ, zero, suc, ◌+◌, ◌-◌, ◌*◌, ◌/◌, ◌%◌, ◌^◌, ◌≤◌, ◌<◌, ◌≡◌, refl, List, [], ◌∷◌, length, get_or, drop}
 use Rattle.std.proofs.Common.{sym, ap, subst, arith}
 use Rattle.layout.specs.declared.Field.{Field}
-use Rattle.layout.specs.Grammar.{Grammar, done, number, failed_by, good, check}
+use Rattle.layout.specs.Grammar.{Grammar, done, number, good, check}
 use Rattle.layout.specs.Layout.{range, one, pair, repeat, duties, bounds, day, group, mark, nurse}
 use Rattle.layout.proofs.GrammarLaws.{in_range}
-use Rattle.layout.proofs.AcceptLaws.{let_through}
+use Rattle.layout.proofs.AcceptLaws.{first_let_through}
 
 -- after j numbers, whatever they are within their ranges, Q holds of what is left
 abbrev pub After : Grammar → ℕ → (Grammar → Type 0) → Type 0
@@ -35,9 +35,9 @@ pub reached : (g : Grammar) (j i : ℕ) (ws vs : List ℕ) (Q : Grammar → Type
 unfolding check
 reached g zero i ws vs Q q e = (i, record { here = g; holds = q; inside = omega arith; rest = vs; left = e })
 reached done (suc j) i ws vs Q q e = absurd q
-reached (number f k) (suc j) i [] vs Q q e = let z : ◌≡◌ {A = ℕ} 0 1 = cc in absurd (omega arith)
+reached (number f k) (suc j) i [] vs Q q e = absurd (cc)
 reached (number f k) (suc j) i (w ∷ ws) vs Q q e =
-    let t = let_through (failed_by f w) i w (check (k w) (i + 1) ws) vs e in
+    let t = first_let_through f k i w ws vs e in
     let r = in_range f w t.0 in
     let a = reached (k w) j (i + 1) ws t.1.0 Q (q w r.0 r.1) t.1.1 in
     (a.0, record { here = a.1.here; holds = a.1.holds; inside = omega (arith, a.1.inside); rest = a.1.rest; left = a.1.left })
@@ -48,9 +48,9 @@ first_of done P i j ws vs p e = absurd p
 first_of (number f k) P i j ws vs p e = go (drop j ws) e
   where
     go : (us : List ℕ) → check (number f k) i us ≡ good vs → P (get_or us 0 0)
-    go [] e' = let z : ◌≡◌ {A = ℕ} 0 1 = cc in absurd (omega arith)
+    go [] e' = absurd (cc)
     go (u ∷ us) e' =
-        let t = let_through (failed_by f u) i u (check (k u) (i + 1) us) vs e' in
+        let t = first_let_through f k i u us vs e' in
         let r = in_range f u t.0 in
         p u r.0 r.1
 
@@ -73,9 +73,9 @@ both_of done P i j ws vs p e = absurd p
 both_of (number f k) P i j ws vs p e = go (drop j ws) e
   where
     go : (us : List ℕ) → check (number f k) i us ≡ good vs → P (get_or us 0 0) (get_or us 1 0)
-    go [] e' = let z : ◌≡◌ {A = ℕ} 0 1 = cc in absurd (omega arith)
+    go [] e' = absurd (cc)
     go (u ∷ us) e' =
-        let t = let_through (failed_by f u) i u (check (k u) (i + 1) us) vs e' in
+        let t = first_let_through f k i u us vs e' in
         let r = in_range f u t.0 in
         first_of (k u) (P u) (i + 1) 0 us t.1.0 (p u r.0 r.1) t.1.1
 
@@ -95,8 +95,8 @@ numbers_have g j i ws vs P q e =
 done_left : (g : Grammar) (i : ℕ) (us vs : List ℕ) → g ≡ done → check g i us ≡ good vs → length us ≡ 0
 unfolding check
 done_left done i [] vs q e = refl
-done_left done i (u ∷ us) vs q e = let z : ◌≡◌ {A = ℕ} 0 1 = cc in absurd (omega arith)
-done_left (number f k) i us vs q e = let z : ◌≡◌ {A = ℕ} 0 1 = cc in absurd (omega arith)
+done_left done i (u ∷ us) vs q e = absurd (cc)
+done_left (number f k) i us vs q e = absurd (cc)
 
 drop_length : (ws : List ℕ) (j : ℕ) → j ≤ length ws → length (drop j ws) ≡ 0 → length ws ≡ j
 drop_length ws zero l e = e

@@ -1,16 +1,19 @@
 -- What `failed_by` is at the returns of `ask`.
-use Rattle.std.specs.Prelude.{ℕ, ◌≤◌, ◌<◌, ◌≡◌, refl, ◌⊎◌, Bool, true, false, not, cond, eqb}
-use Rattle.std.proofs.Common.{inl, inr, le-ltb, lt-ltb}
+use Rattle.std.specs.Prelude.{ℕ, ◌≤◌, ◌<◌, ◌≡◌, refl, Bool, true, false, not, cond, eqb, ltb}
+use Rattle.std.proofs.Common.{le-ltb, lt-ltb, ltb-false}
 use Rattle.std.proofs.Math.Bool.{beq}
 use Rattle.std.specs.declared.option.Option.TheVariants.{None, Some}
 use Rattle.layout.specs.declared.Field.{Field}
 use Rattle.layout.specs.Grammar.{failed_by}
 
 module _ (f : Field) (v : ℕ) where
-  pub outside : (v < f.least) ⊎ ((f.least ≤ v) × (f.most < v)) → 3 ≡ failed_by f v
+  pub outside : (f.least ≤ v → f.most < v) → 3 ≡ failed_by f v
   unfolding failed_by
-  outside (inl h) = simp (lt-ltb _ _ h)
-  outside (inr (lo, h)) = simp (le-ltb _ _ lo, lt-ltb _ _ h)
+  outside above = go (ltb v f.least) refl
+    where
+      go : (b : Bool) → ltb v f.least ≡ b → 3 ≡ failed_by f v
+      go true e = simp e
+      go false e = simp (e, lt-ltb _ _ (above (ltb-false _ _ e)))
 
   module _ (lo : f.least ≤ v) (hi : v ≤ f.most) where
     pub in_range : f.after ≡ None → 0 ≡ failed_by f v

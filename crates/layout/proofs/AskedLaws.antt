@@ -15,8 +15,8 @@ fits_before (Some d) v e = go (eqb d 2) (eqb v 3) refl refl e
   where
     go : (x y : Bool) → eqb d 2 ≡ x → eqb v 3 ≡ y → cond x y (not y) ≡ true → (d ≡ 2) ↔ (v ≡ 3)
     go true true p q h = (λ _. eqb-true v 3 q, λ _. eqb-true d 2 p)
-    go true false p q h = let z : ◌≡◌ {A = ℕ} 0 1 = cc in absurd (omega arith)
-    go false true p q h = let z : ◌≡◌ {A = ℕ} 0 1 = cc in absurd (omega arith)
+    go true false p q h = absurd (cc)
+    go false true p q h = absurd (cc)
     go false false p q h = (λ z. absurd (eqb-false d 2 p z), λ z. absurd (eqb-false v 3 q z))
 
 before_fits : (r : Option ℕ) (v : ℕ) → FitsBefore r v → fits r v ≡ true
@@ -57,7 +57,7 @@ asked_fault f v q e = go (ltb v f.least) (ltb f.most v) (fits f.after v) refl re
     go false false true p r s h = absurd (omega arith)
     go false false false p r s h =
         subst (NumberFault f v) h
-        (unfit (ltb-false _ _ p, ltb-false _ _ r) (λ t. let z : ◌≡◌ {A = ℕ} 0 1 = let y : false ≡ true = sym s ∙ before_fits f.after v t in cc in absurd (omega arith)))
+        (unfit (ltb-false _ _ p, ltb-false _ _ r) (λ t. let y : false ≡ true = sym s ∙ before_fits f.after v t in absurd (cc)))
 
 pub fault_asked : (f : Field) (v q : ℕ) → NumberFault f v q → failed_by f v ≡ q
 unfolding failed_by

@@ -24,12 +24,12 @@ in_range f v e = go (ltb v f.least) (ltb f.most v) refl refl e
     go false false p q h = (ltb-false _ _ p, ltb-false _ _ q)
 
 pub is_number : (g : Grammar) {f : Field} → wanted g ≡ Some f → g ≡ number f (after g)
-is_number done e = let z : ◌≡◌ {A = ℕ} 0 1 = cc in absurd (omega arith)
+is_number done e = absurd (cc)
 is_number (number f' k) {f} e = let z : f' ≡ f = cc in ap (λ (x : Field). number x k) z
 
 pub is_done : (g : Grammar) → wanted g ≡ None → g ≡ done
 is_done done e = refl
-is_done (number f k) e = let z : ◌≡◌ {A = ℕ} 0 1 = cc in absurd (omega arith)
+is_done (number f k) e = absurd (cc)
 
 pub small : (n : ℕ) (g : Grammar) → Within n g → SmallField (wanted g)
 small n done h = tt
@@ -37,7 +37,7 @@ small zero (number f k) h = absurd h
 small (suc n) (number f k) h = h.0
 
 pub within_some : (n : ℕ) (g : Grammar) {f : Field} → Within n g → wanted g ≡ Some f → 0 < n
-within_some n done w e = let z : ◌≡◌ {A = ℕ} 0 1 = cc in absurd (omega arith)
+within_some n done w e = absurd (cc)
 within_some zero (number f' k) w e = absurd w
 within_some (suc n) (number f' k) w e = omega arith
 

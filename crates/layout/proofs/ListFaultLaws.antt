@@ -7,7 +7,7 @@ use Rattle.layout.specs.declared.Field.{Field}
 use Rattle.layout.specs.Grammar.{Grammar, done, number, failed_by, Read, good, bad, prepend, on_pass, check}
 use Rattle.layout.specs.Faults.{InRange, FitsBefore, Takes, none_yet, one_more, NumbersFault, missing, wrong_number, more_numbers, ListFault}
 use Rattle.layout.proofs.GrammarLaws.{prepend_nil, prepend_more, check_good, check_failed}
-use Rattle.layout.proofs.AcceptLaws.{let_through}
+use Rattle.layout.proofs.AcceptLaws.{first_let_through}
 use Rattle.layout.proofs.AskedLaws.{asked_none, none_asked, asked_fault, fault_asked, fault_some}
 
 -- ---- what it takes
@@ -15,10 +15,10 @@ use Rattle.layout.proofs.AskedLaws.{asked_none, none_asked, asked_fault, fault_a
 pub check_takes : (g : Grammar) (i : ℕ) (ws vs : List ℕ) → check g i ws ≡ good vs → (vs ≡ ws) × Takes g ws done
 unfolding check
 check_takes done i [] vs e = (cc, none_yet)
-check_takes done i (w ∷ ws) vs e = let z : ◌≡◌ {A = ℕ} 0 1 = cc in absurd (omega arith)
-check_takes (number f k) i [] vs e = let z : ◌≡◌ {A = ℕ} 0 1 = cc in absurd (omega arith)
+check_takes done i (w ∷ ws) vs e = absurd (cc)
+check_takes (number f k) i [] vs e = absurd (cc)
 check_takes (number f k) i (w ∷ ws) vs e =
-    let t = let_through (failed_by f w) i w (check (k w) (i + 1) ws) vs e in
+    let t = first_let_through f k i w ws vs e in
     let a = asked_none f w t.0 in
     let r = check_takes (k w) (i + 1) ws t.1.0 t.1.1 in
     (t.1.2 ∙ ap (λ (l : List ℕ). w ∷ l) r.0, one_more a.0 a.1 r.1)
@@ -40,7 +40,7 @@ takes_check g i ws t = rw append-nil at (check_on i [] t)
 
 -- how a list comes to be refused: by its first number, or by the numbers after it
 refused : (a at v : ℕ) (r : Read) (q x : ℕ) → on_pass a at (prepend (v ∷ []) r) ≡ bad (numbered q x) → ((a ≡ 0) × (r ≡ bad (numbered q x))) ⊎ ((p : ℕ) × (a ≡ suc p) × (bad (numbered (suc p) at) ≡ bad (numbered q x)))
-refused zero at v (good us) q x e = let z : ◌≡◌ {A = ℕ} 0 1 = cc in absurd (omega arith)
+refused zero at v (good us) q x e = absurd (cc)
 refused zero at v (bad n) q x e = inl (refl, e)
 refused (suc p) at v r q x e = inr (p, refl, e)
 
@@ -75,8 +75,8 @@ later {w = w} i x r h t =
 
 pub check_fault : (g : Grammar) (i : ℕ) (ws : List ℕ) (q x : ℕ) → check g i ws ≡ bad (numbered q x) → (p : ℕ) × (x ≡ i + p) × ListFault g ws q p
 unfolding check
-check_fault done i [] q x e = let z : ◌≡◌ {A = ℕ} 0 1 = cc in absurd (omega arith)
-check_fault done i (w ∷ ws) q x e = here i x e (more_numbers (λ n. let z : ◌≡◌ {A = ℕ} 0 1 = cc in absurd (omega arith)))
+check_fault done i [] q x e = absurd (cc)
+check_fault done i (w ∷ ws) q x e = here i x e (more_numbers (λ n. absurd (cc)))
 check_fault (number f k) i [] q x e = here i x e missing
 check_fault (number f k) i (w ∷ ws) q x e = go (refused (failed_by f w) i w (check (k w) (i + 1) ws) q x e) (check_fault (k w) (i + 1) ws q x)
   where

@@ -2,10 +2,10 @@
 use Rattle.std.specs.Prelude.{ℕ, zero, suc, ◌+◌, ◌-◌, ◌≤◌, ◌<◌, ◌≡◌, Bool, true, false, cond, List, [], ◌∷◌, length, get_or, ltb, eqb}
 use Rattle.std.proofs.Common.{arith}
 use Rattle.layout.specs.declared.Head.{Head}
-use Rattle.layout.specs.Grammar.{Grammar, done, number, failed_by, good, check}
+use Rattle.layout.specs.Grammar.{Grammar, done, number, good, check}
 use Rattle.layout.specs.Layout.{range, since, pairs, pairs_most, two}
 use Rattle.layout.proofs.GrammarLaws.{in_range}
-use Rattle.layout.proofs.AcceptLaws.{let_through}
+use Rattle.layout.proofs.AcceptLaws.{first_let_through}
 
 pub pairs_few : (n : ℕ) → pairs_most n ≤ 10
 pairs_few n = go (eqb n 1)
@@ -23,13 +23,13 @@ pub record FirstDay (n before j : ℕ) (ws : List ℕ) : Type 0 where
 first_day : (h : Head) (k before i : ℕ) (ws vs : List ℕ) → check (pairs h k before) i ws ≡ good vs → (j : ℕ) → j < k → FirstDay h.n before j ws
 unfolding check
 first_day h zero before i ws vs e j l = absurd (omega arith)
-first_day h (suc k) before i [] vs e j l = let z : ◌≡◌ {A = ℕ} 0 1 = cc in absurd (omega arith)
+first_day h (suc k) before i [] vs e j l = absurd (cc)
 first_day h (suc k) before i (w ∷ ws) vs e zero l =
-    let t = let_through (failed_by (range (before + 1) (h.n - 1)) w) i w (check (pairs h k w) (i + 1) ws) vs e in
+    let t = first_let_through (range (before + 1) (h.n - 1)) (pairs h k) i w ws vs e in
     let r = in_range (range (before + 1) (h.n - 1)) w t.0 in
     record { there = omega arith; above = omega (arith, r.0); inside = r.1 }
 first_day h (suc k) before i (w ∷ ws) vs e (suc j) l =
-    let t = let_through (failed_by (range (before + 1) (h.n - 1)) w) i w (check (pairs h k w) (i + 1) ws) vs e in
+    let t = first_let_through (range (before + 1) (h.n - 1)) (pairs h k) i w ws vs e in
     let r = in_range (range (before + 1) (h.n - 1)) w t.0 in
     let d = first_day h k w (i + 1) ws t.1.0 t.1.1 j (omega arith) in
     record { there = omega (arith, d.there); above = omega (arith, r.0, d.above); inside = d.inside }
@@ -59,14 +59,14 @@ since_there from h g i ws vs P none some e = go (ltb h.edition from) ws some e
   where
     go : (b : Bool) (us : List ℕ) → (check g i us ≡ good vs → P us) → check (cond b done g) i us ≡ good vs → P us
     go true [] f q = none
-    go true (u ∷ us) f q = let z : ◌≡◌ {A = ℕ} 0 1 = cc in absurd (omega arith)
+    go true (u ∷ us) f q = absurd (cc)
     go false us f q = f q
 
 counted_paired : (h : Head) (i : ℕ) (ws vs : List ℕ) → check (number (range 0 (pairs_most h.n)) (λ k. pairs h k 0)) i ws ≡ good vs → Paired h.n ws
 unfolding check
-counted_paired h i [] vs e = let z : ◌≡◌ {A = ℕ} 0 1 = cc in absurd (omega arith)
+counted_paired h i [] vs e = absurd (cc)
 counted_paired h i (c ∷ ws) vs e =
-    let t = let_through (failed_by (range 0 (pairs_most h.n)) c) i c (check (pairs h c 0) (i + 1) ws) vs e in
+    let t = first_let_through (range 0 (pairs_most h.n)) (λ k. pairs h k 0) i c ws vs e in
     some_paired h (i + 1) c ws t.1.0 (in_range (range 0 (pairs_most h.n)) c t.0).1 t.1.1
 
 pub paired : (h : Head) (i : ℕ) (ws vs : List ℕ) → check (two h) i ws ≡ good vs → Paired h.n ws

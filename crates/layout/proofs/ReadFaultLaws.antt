@@ -67,7 +67,7 @@ module _ (f : Field) (k : ℕ → Grammar) (at : ℕ) (bs : List ℕ) (a : AllBy
 read_told : (g : Grammar) (at : ℕ) (bs : List ℕ) → AllBytes bs → Told g at bs (read g at bs)
 unfolding read bytes_of
 read_told done at [] a = record { bytes = refl; takes = none_yet }
-read_told done at (b ∷ bs) a = here at (more_bytes (λ n. let z : ◌≡◌ {A = ℕ} 0 1 = cc in absurd (omega arith)))
+read_told done at (b ∷ bs) a = here at (more_bytes (λ n. absurd (cc)))
 read_told (number f k) at bs a = number_told f k at bs a (decode bs) refl (λ v used. read_told (k v) (at + used) (drop used bs) (all_drop used bs a))
 
 pub read_fault : (g : Grammar) (at : ℕ) (bs : List ℕ) (q x : ℕ) → AllBytes bs → read g at bs ≡ bad (numbered q x) → (p : ℕ) × (x ≡ at + p) × FileFault g bs q p

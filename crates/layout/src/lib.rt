@@ -6,7 +6,7 @@ ghost use Rattle.layout.specs.Grammar.{failed_by};
 ghost use Rattle.layout.specs.CodeAsked.{asked};
 ghost use Rattle.layout.specs.CodeWant.{wanted, after, SmallField};
 ghost use Rattle.layout.specs.Layout;
-ghost use Rattle.layout.specs.CodePlace.{tree, moved, sized, inner_left, turn};
+ghost use Rattle.layout.specs.CodePlace.{tree, moved, sized, inner_left, outer_left, turn};
 ghost use Rattle.layout.specs.declared.Cursor.{Cursor};
 
 use refusals::question::Question;
@@ -88,7 +88,7 @@ pub struct Cursor {
 pub fn ask(f: Field, v: u64) -> Result<(), Question>
     ensures { asked result ≡ failed_by f v }
 {
-    if v < f.least || f.most < v {
+    if !(f.least..=f.most).contains(&v) {
         return Err(Question::Range);
     }
     if let Some(duty) = f.after {
@@ -134,7 +134,7 @@ fn pair_day(before: u64, n: u64) -> Option<Field>
     range(least, n.saturating_sub(1))
 }
 
-// The field of the next number, or none after the last.
+// The field of the next number, or none after the last. One match of 26 arms, so longer than other functions: a line a place, as in `step`.
 #[tactic(auto, unfolding(crate::specs::CodePlace::tree, crate::specs::Layout::ward))]
 pub fn wanted_at(c: Cursor) -> Option<Field>
     requires { SmallField (wanted (tree c)) }
@@ -210,6 +210,13 @@ fn at_inner(c: Cursor, place: Place, k: u64, rest: Cursor) -> Cursor
     turn(k, |inner| Cursor { place, inner, ..c }, rest)
 }
 
+// Where k rows from `place` on are left; with none left, at `rest`. Beside `at_inner`, since it is another field that counts.
+fn at_outer(c: Cursor, place: Place, k: u64, rest: Cursor) -> Cursor
+    ensures { result ≡ turn k (outer_left place c) rest }
+{
+    turn(k, |outer| Cursor { place, outer, ..c }, rest)
+}
+
 // Where k pairs are left, the next one's first day above `before`.
 fn at_pairs(mut c: Cursor, k: u64, before: u64) -> Cursor
     ensures { tree result ≡ Layout.pairs c.head k before }
@@ -229,36 +236,28 @@ fn at_two(c: Cursor) -> Cursor
     moved(c, Place::PairCount)
 }
 
-// Where k days are left. Days, groups and nurses have a function each, as the grammar has a name for each: what they share is the call of `turn`.
+// Where k days are left. Days, groups and nurses have a function each, as the grammar has a name for each.
+#[tactic(auto, using(crate::proofs::PlaceLaws::days_left))]
 fn at_days(c: Cursor, k: u64) -> Cursor
     ensures { tree result ≡ Layout.days c.head k }
 {
-    let place = Place::NightNeed;
-    turn(k, |outer| Cursor { place, outer, ..c }, at_two(c))
+    at_outer(c, Place::NightNeed, k, at_two(c))
 }
 
 // Where k groups are left.
+#[tactic(auto, using(crate::proofs::PlaceLaws::groups_left))]
 fn at_groups(c: Cursor, k: u64) -> Cursor
     ensures { tree result ≡ Layout.groups c.head k }
 {
-    let place = Place::Members;
-    turn(
-        k,
-        |outer| Cursor { place, outer, ..c },
-        at_days(c, c.head.n),
-    )
+    at_outer(c, Place::Members, k, at_days(c, c.head.n))
 }
 
 // Where k nurses are left.
+#[tactic(auto, using(crate::proofs::PlaceLaws::nurses_left))]
 fn at_nurses(c: Cursor, k: u64) -> Cursor
     ensures { tree result ≡ Layout.nurses c.head k }
 {
-    let place = Place::FirstDuty;
-    turn(
-        k,
-        |outer| Cursor { place, outer, ..c },
-        at_groups(c, c.head.r),
-    )
+    at_outer(c, Place::FirstDuty, k, at_groups(c, c.head.r))
 }
 
 // After the first number: a later edition's number where it is 0, else it is m of edition one.
@@ -281,8 +280,9 @@ fn at_first(c: Cursor, v: u64) -> Cursor
     )
 }
 
-// The place after the number v.
+// The place after the number v. Inlined: as a call it copies two cursors, and a ward is read in twice the time.
 #[tactic(auto, unfolding(crate::specs::CodePlace::tree, crate::specs::Layout::ward))]
+#[inline(always)]
 pub fn step(mut c: Cursor, v: u64) -> Cursor
     ensures { tree result ≡ after (tree c) v }
 {

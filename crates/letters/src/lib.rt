@@ -7,7 +7,7 @@ ghost use Rattle.std.specs.Prelude.{◌≡◌, ◌<◌, not, position};
 ghost use Rattle.letters.specs.Letters.{letter, is_letter, misplaced};
 ghost use Rattle.letters.specs.CodeLetters.{found_of};
 
-const LETTERS: [u8; 5] = [b'/', b'-', b'N', b'n', b'+'];
+const DUTY_LETTERS: [u8; 5] = [b'/', b'-', b'N', b'n', b'+'];
 
 // The letter of a duty, which is the file's number.
 #[tactic(auto, unfolding(crate::specs::Letters::letter))]
@@ -15,7 +15,7 @@ pub(crate) fn letter_of(duty: usize) -> u8
     requires { duty < 5 }
     ensures { result ≡ letter duty }
 {
-    LETTERS[duty]
+    DUTY_LETTERS[duty]
 }
 
 // One of the five.
@@ -23,7 +23,7 @@ pub(crate) fn letter_of(duty: usize) -> u8
 fn is_letter(c: u8) -> bool
     ensures { result ≡ is_letter c }
 {
-    LETTERS.contains(&c)
+    DUTY_LETTERS.contains(&c)
 }
 
 // The first index whose letter is none of the five.

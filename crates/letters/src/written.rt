@@ -14,7 +14,7 @@ use numbers::{Set, pattern};
 
 // Its letters from the start, 0 after them, and how many there are.
 // An array with its count beside it, since there is no heap and the C interface gives out both.
-#[derive(Clone, Copy)]
+#[derive(Clone, Copy, Default)]
 pub struct Roster {
     pub letters: [u8; LETTERS],
     pub count: usize,
@@ -51,10 +51,7 @@ impl Roster {
 pub fn roster_of(w: &Body, nights: [u64; NURSES], worked: [u64; NURSES]) -> Roster
     ensures { Written w.now.numbers.now (λ i. days_of (get_or nights i 0)) (λ i. days_of (get_or worked i 0)) result }
 {
-    let mut roster = Roster {
-        letters: [0; LETTERS],
-        count: 0,
-    };
+    let mut roster = Roster::default();
     for i in 0..w.nurses() {
         let p = pattern::days_of(nights[i]);
         let q = pattern::days_of(worked[i]);

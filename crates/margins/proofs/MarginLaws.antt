@@ -1,6 +1,6 @@
 -- The margins: what one more and one fewer change, and how a duty's places are filled.
-use Rattle.std.specs.Prelude.{◌≡◌, refl, Bool, true, false, List, ◌⊎◌, ℕ, suc, ◌+◌, ◌-◌, ◌*◌, ◌%◌, ◌≤◌, ◌<◌, eqb, length, get_or, set, replicate}
-use Rattle.std.proofs.Common.{sym, ◌∙◌, subst, inl, inr, ⊎_elim, not-suc-le-zero, mul-suc, arith, below_more, eqb-true, length-set, get_or-set_same, get_or-set_other}
+use Rattle.std.specs.Prelude.{◌≡◌, refl, Bool, true, false, List, ◌⊎◌, ℕ, suc, ◌+◌, ◌-◌, ◌*◌, ◌%◌, ◌≤◌, ◌<◌, eqb, length, get_or, set}
+use Rattle.std.proofs.Common.{replicate, sym, ◌∙◌, subst, inl, inr, ⊎_elim, not-suc-le-zero, mul-suc, arith, below_more, eqb-true, length-set, get_or-set_same, get_or-set_other}
 use Rattle.std.proofs.lemmas.Bool.{eqb-false}
 use Rattle.numbers.specs.Sum.{count_to}
 use Rattle.numbers.specs.Digits.{has}

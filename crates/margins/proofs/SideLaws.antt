@@ -287,8 +287,9 @@ conditions_are sets i e h = record { is = omega (arith, count_is (λ s. has s i)
 
 -- ---- the days
 
-pub sets_few : (w : List ℕ) {sets : List ℕ} → Accepted w → sets ≡ member_sets w → length sets ≤ 16
-sets_few w a e = rw (e, length_member_sets w a) a.groups_most
+-- the groups of a ward, and a nurse of it
+pub sets_few : {w sets : List ℕ} {i : ℕ} → Accepted w → i < nurses w → sets ≡ member_sets w → (length sets ≤ 16) × (i < 64)
+sets_few {w} a h e = (rw (e, length_member_sets w a) a.groups_most, omega (arith, a.nurses_most))
 
 -- a small number written
 pub low_set : (l : List ℕ) (j x m : ℕ) → j < length l → Low l m → x ≤ m → Low (set l j x) m

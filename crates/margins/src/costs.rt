@@ -1,11 +1,11 @@
 // A nurse's days: what each costs in each of her states, all others as they are.
-ghost use Rattle.std.specs.Prelude.{◌≡◌, ◌≤◌, ◌<◌};
-ghost use Rattle.fields.specs.Fields.{nurses, days};
+ghost use Rattle.std.specs.Prelude.{◌≡◌, ◌≤◌};
+ghost use Rattle.fields.specs.Fields.{days};
 ghost use Rattle.margins.specs.CodeMargins.{SearchMargins, NightSummed, DaySummed, CostsOf};
 
 use crate::Margins;
 use crate::sides::Sides;
-use fields::Body;
+use fields::WardNurse;
 use history::Search;
 use numbers::Set;
 use penalty::columns::Columns;
@@ -42,25 +42,25 @@ fn day_costs(n: usize, y: &Sides) -> Costs
     Costs { costs, days: n }
 }
 
-// What the days of nurse i cost by the margins of these columns.
+// What the nurse's days cost by the margins of these columns.
 pub fn nurse_costs(
-    w: &Body,
+    her: &WardNurse,
     cols: &Columns,
-    i: usize,
     margins: &Margins,
     workable: u32,
     search: Search,
 ) -> Costs
-    requires { (i < nurses w.now.numbers.now) × SearchMargins search w.now.numbers.now cols.now.night cols.now.day margins.now.nightly margins.now.daily }
-    ensures month { result.days ≡ days w.now.numbers.now }
-    ensures costs { CostsOf search w.now.numbers.now cols.now.night cols.now.day i workable result.costs }
+    requires { SearchMargins search her.now.ward.numbers.now cols.now.night cols.now.day margins.now.nightly margins.now.daily }
+    ensures month { result.days ≡ days her.now.ward.numbers.now }
+    ensures costs { CostsOf search her.now.ward.numbers.now cols.now.night cols.now.day her.now.index workable result.costs }
 {
-    let n = w.days();
-    let y = Sides::of(w, &cols.day, i, &margins.daily);
-    // Each arm is a line or two over the same arguments: a closure for each search would take them all, and the proofs go by the search.
+    let n = her.ward.days();
+    let y = Sides::of(her, &cols.day, &margins.daily);
+    // No closure and no trait with an impl for each search: either would take the same arguments for a line or two, and since the search comes in as a
+    // value a `match` would choose the impl.
     match search {
         Search::Nights => {
-            let x = Sides::of(w, &cols.night, i, &margins.nightly);
+            let x = Sides::of(her, &cols.night, &margins.nightly);
             night_costs(n, &x, &y, workable)
         }
         Search::Days => day_costs(n, &y),

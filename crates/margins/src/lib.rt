@@ -37,7 +37,8 @@ impl Margins {
     pub fn update(&mut self, w: &Body, cols: &Columns, search: Search)
         ensures { SearchMargins search w.now.numbers.now cols.now.night cols.now.day self.new.nightly self.new.daily }
     {
-        // Each arm is a few lines over the same arguments: a closure for each search would take them all, and the proofs go by the search.
+        // No closure and no trait with an impl for each search: either would take the same arguments for a few lines, and since the search comes in as
+        // a value a `match` would choose the impl.
         match search {
             Search::Nights => {
                 let nights = weights::weights(w, Shift::Night);

@@ -3,9 +3,9 @@ ghost use Rattle.std.specs.Prelude.{◌≡◌, List, ℕ, ◌+◌, ◌<◌, ◌�
 ghost use Rattle.fields.specs.Shifts.{place};
 ghost use Rattle.margins.specs.CodeMargins.{bounds_cost, Slight, MarginPut, GroupsPut, DayPut, MarginsOf};
 
+use fields::Body;
 use fields::day::{Bounds, Shift};
 use fields::sizes::DAYS;
-use fields::{Body, day};
 use penalty::duty::{Conditions, Weights};
 use std::marker::Model;
 
@@ -16,7 +16,8 @@ pub(crate) const EVERYONE: usize = 1024;
 pub(crate) const STANDING: usize = 1088;
 
 // 64 places for each group, then for all nurses, then for what the day costs as it stands. In each, by day: one more from 0 on, and one fewer from
-// 32 on. 100 is added to each, so that none is below zero.
+// 32 on. 100 is added to each, so that none is below zero. One array and no rows of 64: contracts see one list (`Margins::new`),
+// which rows would be flattened to.
 #[derive(Drop)]
 pub struct Part {
     pub(crate) margins: [u32; MARGIN_PLACES],
@@ -52,7 +53,7 @@ fn as_low(wt: Weights) -> Weights
 }
 
 impl Part {
-    // Nothing put yet.
+    // Nothing put yet. Written out: its clause says that the list is zeros, and a derived Default's place by place.
     pub(crate) fn new() -> Part
         ensures { result ≡ replicate 1152 0 }
     {
@@ -73,34 +74,29 @@ impl Part {
     }
 
     // The margins of every group on the day of index d.
-    fn put_groups(&mut self, c: &Conditions, column: u64, d: usize)
+    fn put_groups(&mut self, c: &Conditions, weights: Weights, column: u64, d: usize)
         requires { d < 31 }
-        ensures { GroupsPut c.now.weights c.now.sets.now c.now.needs.now (place c.now.shift) column d self.old self.new }
+        ensures { GroupsPut weights c.now.sets.now c.now.needs.now (place c.now.shift) column d self.old self.new }
     {
         for (g, set) in c.sets.iter().enumerate() {
-            let bounds = day::bounds_of(c.needs, c.shift, g);
             let count = numbers::members(column, *set);
-            self.put(64 * g + d, c.weights, bounds, count);
+            self.put(64 * g + d, weights, c.bounds(g), count);
         }
     }
 
     // The margins of all conditions on the day of index d, and what it costs.
-    fn put_day(&mut self, c: &Conditions, column: u64, d: usize)
+    fn put_day(&mut self, c: &Conditions, weights: Weights, column: u64, d: usize)
         requires { d < 31 }
-        ensures { DayPut c.now.weights c.now.sets.now c.now.needs.now (place c.now.shift) column d self.old self.new }
+        ensures { DayPut weights c.now.sets.now c.now.needs.now (place c.now.shift) column d self.old self.new }
     {
-        self.put_groups(c, column, d);
+        self.put_groups(c, weights, column, d);
         let need = Bounds {
-            low: day::need(c.needs, c.shift),
+            low: c.need(),
             high: 0,
         };
-        self.put(
-            EVERYONE + d,
-            as_low(c.weights),
-            need,
-            numbers::on_duty(column),
-        );
-        let standing = c.on_column(column);
+        let count = numbers::on_duty(column);
+        self.put(EVERYONE + d, as_low(weights), need, count);
+        let standing = c.on_column(weights, column);
         self.margins[STANDING + d] = (standing.short + standing.over) as u32;
     }
 
@@ -109,8 +105,8 @@ impl Part {
         ensures { MarginsOf w.now.numbers.now weights (place shift) cols.now self.new }
     {
         for d in 0..w.days() {
-            let c = Conditions::of(w, weights, shift, d);
-            self.put_day(&c, cols[d], d);
+            let c = Conditions::of(w, shift, d);
+            self.put_day(&c, weights, cols[d], d);
         }
     }
 }

@@ -1,6 +1,5 @@
 // What a duty costs on each day with a nurse on it and without her, from the margins of her conditions.
 ghost use Rattle.std.specs.Prelude.{◌≡◌, ℕ, ◌+◌, ◌≤◌, ◌<◌, length, get_or};
-ghost use Rattle.fields.specs.Fields.{Accepted, nurses};
 ghost use Rattle.numbers.specs.Sum.{count_to, Is};
 ghost use Rattle.numbers.specs.Digits.{has};
 ghost use Rattle.tables.specs.CodeTables.{Low};
@@ -8,17 +7,18 @@ ghost use Rattle.penalty.specs.Weights.{Weights};
 ghost use Rattle.margins.specs.CodeMargins.{MarginsOf, SomeMargins, RowAdded, Hers, SideFits, SideOf, SidesOf};
 
 use crate::part::{EVERYONE, Part, STANDING};
-use fields::Body;
+use fields::WardNurse;
 use fields::sizes::DAYS;
 use numbers::Set;
 
 // The row from `from` on added up.
 fn add_row(part: &Part, from: usize, sums: &mut [u32; 64])
-    requires { (from + 64 ≤ 1088) × Low sums.old 100000 × (length sums.old ≡ 64) }
+    requires { (from + 64 ≤ 1088) × Low sums.old 100000 }
     ensures { RowAdded part.now from sums.old sums.new }
 {
-    for e in 0..64 {
-        sums[e] += part.margins[from + e];
+    // Not by `zip`: tried, and std says nothing of what is written through an adapter of `iter_mut` other than `enumerate`.
+    for (e, sum) in sums.iter_mut().enumerate() {
+        *sum += part.margins[from + e];
     }
 }
 
@@ -70,7 +70,8 @@ fn both(on: bool, standing: u32, more: u32, fewer: u32, zero: u32) -> Side
     }
 }
 
-// By day: with nurse i from 0 on, without her from 32 on; small enough to be added.
+// By day: with nurse i from 0 on, without her from 32 on; small enough to be added. Two halves and no array of `Side`, since
+// `costs` copies a half whole, and not two arrays by name, which would be parallel ones.
 #[derive(Clone, Copy)]
 pub(crate) struct Sides {
     pub(crate) sides: [u32; 64],
@@ -79,12 +80,14 @@ pub(crate) struct Sides {
 
 impl Sides {
     // From the margins of these columns.
-    pub(crate) fn of(w: &Body, cols: &[u64; DAYS], i: usize, part: &Part) -> Sides
-        requires { (i < nurses w.now.numbers.now) × SomeMargins w.now.numbers.now cols.now part.now }
-        ensures { (wt : Weights) (k : ℕ) → MarginsOf w.now.numbers.now wt k cols.now part.now → SidesOf w.now.numbers.now wt k cols.now i result.sides }
+    #[tactic(auto, using(crate::proofs::SideLaws::sets_few))]
+    pub(crate) fn of(her: &WardNurse, cols: &[u64; DAYS], part: &Part) -> Sides
+        requires { SomeMargins her.now.ward.numbers.now cols.now part.now }
+        ensures { (wt : Weights) (k : ℕ) → MarginsOf her.now.ward.numbers.now wt k cols.now part.now → SidesOf her.now.ward.numbers.now wt k cols.now her.now.index result.sides }
     {
-        let n = w.days();
-        let sets = w.member_sets();
+        let i = her.index;
+        let n = her.ward.days();
+        let sets = her.ward.member_sets();
         let sums = hers(sets, i, part);
         let zero = 100 * conditions(sets, i);
         let mut sides = [0u32; 64];

@@ -1,7 +1,7 @@
 // The night advance on a ward that was read.
 #![tactic(auto)]
 
-ghost use Rattle.std.specs.Prelude.{◌≡◌, Bool, ◌<◌, length};
+ghost use Rattle.std.specs.Prelude.{◌≡◌, Bool, length};
 ghost use Rattle.refusals.specs.Refusals.{refusal_in};
 ghost use Rattle.nights.specs.Nights.{common_of};
 ghost use Rattle.search.specs.Stored.{refusal_stored, advance_stored};
@@ -9,36 +9,32 @@ ghost use Rattle.phases.specs.Phases.{night_phase, common_fits};
 ghost use Rattle.outcomes.specs.Outcomes.{advance_of, left_by, call_of};
 
 use fields::Body;
-use fields::sizes::{ENDS, NURSES};
-use history::Search;
+use letters::written::Roster;
 use outcomes::Advance;
 use phases::questions;
-use phases::questions::Asked;
+use phases::questions::AskedPhase;
 use refusals::Refusal;
 use refusals::question::Question;
-use search::{Record, Stretches};
+use search::{Record, Searched};
 
 // Question 9.
 fn common_asked(w: &Body, places: usize) -> Result<(), Refusal>
-    requires { places < 2305843009213693952 }
     ensures { refusal_in result ≡ common_fits w.now.numbers.now places }
 {
-    let need = nightlists::common::count(w, places + 1);
+    let need = nightlists::common::count(w, places.saturating_add(1));
     Question::Lists.unless(need <= places, 0)
 }
 
 // The first of questions 7, 9, 10 and 11 that is a no.
 fn first_no(rec: Record, w: &Body, k: u32, places: usize) -> Result<(), Refusal>
-    requires { places < 2305843009213693952 }
     ensures { (past_zero : Bool) → refusal_in result ≡ refusal_stored (night_phase w.now.numbers.now) (call_of k past_zero places) rec }
 {
     questions::steps_asked(rec.steps, k)?;
     common_asked(w, places)?;
     questions::nights_lacking(w)?;
-    let asked = Asked {
-        ward: &*w,
-        nights: &[0; NURSES],
-        search: Search::Nights,
+    let asked = AskedPhase {
+        ward: w,
+        which: Searched::Nights,
     };
     asked.record_asked(rec)
 }
@@ -56,10 +52,6 @@ pub fn advance_on(
 {
     first_no(rec, w, k, buffer.len())?;
     let len = nightlists::common::fill(w, buffer);
-    let stretches = Stretches {
-        search: Search::Nights,
-        ends: [0; ENDS],
-    };
-    let x = rec.advance(w, &buffer[..len], stretches, k, past);
-    Ok(outcomes::finished(x, outcomes::no_roster()))
+    let x = rec.advance(w, &buffer[..len], Searched::Nights, k, past);
+    Ok(outcomes::finished(x, Roster::default()))
 }

@@ -1,6 +1,6 @@
 -- The walk lists the common list: `listed` from no start, over the days of the month, is `common`.
 use Rattle.std.specs.Prelude.{◌≡◌, refl, Bool, true, false, cond, ◌&&◌, List, [], ◌∷◌, ◌++◌, ◌⊎◌, ℕ, zero, suc, ◌+◌, ◌-◌, ◌*◌, ◌/◌, ◌%◌, ◌^◌, ◌≤◌, ◌<◌, leb, ltb, eqb, length}
-use Rattle.std.proofs.Common.{sym, ap, ap₂, ◌∙◌, inl, inr, mul-one, div-one, add-zero, zero-add, zero-mul, add-one, arith, shr-shr, leb-true, leb-false, ltb-true, ltb-false, eqb-true, le-leb, eq-eqb, ne_eqb}
+use Rattle.std.proofs.Common.{sym, ap, ap₂, ◌∙◌, inl, inr, mul-one, div-one, add-zero, zero-add, zero-mul, add-one, arith, pow_mono, shr-shr, leb-true, leb-false, ltb-true, ltb-false, eqb-true, le-leb, eq-eqb, ne_eqb}
 use Rattle.std.proofs.lemmas.Bool.{eqb-false, lt-leb}
 use Rattle.std.proofs.Math.Bool.{and-false, and-true}
 use Rattle.std.proofs.Math.Dec.{eqb-suc-zero}
@@ -9,10 +9,14 @@ use Rattle.std.specs.declared.option.Option.TheVariants.{Some, None}
 use Rattle.fields.specs.declared.rules.Rules.{Rules}
 use Rattle.nightlists.specs.declared.State.{State}
 use Rattle.numbers.specs.Range.{up_from, filter}
+use Rattle.numbers.proofs.RangeLaws.{length_range}
+use Rattle.numbers.proofs.AgreeLaws.{filter_le}
 use Rattle.numbers.proofs.HalfLaws.{low_half, high_half, filter_halves}
 use Rattle.rows.specs.Rows.{started}
-use Rattle.fields.specs.Rules.{gap}
-use Rattle.nights.specs.Nights.{starts, follow, in_common, common}
+use Rattle.fields.specs.Sizes.{day_places}
+use Rattle.fields.specs.Fields.{Accepted, days}
+use Rattle.fields.specs.Rules.{rules_of, gap}
+use Rattle.nights.specs.Nights.{starts, follow, in_common, common, common_of}
 use Rattle.nights.proofs.FollowLaws.{leb_same, follow_first}
 use Rattle.nightlists.specs.CodeWalk.{closed, start_at, none_yet, onward, listed}
 use Rattle.nightlists.proofs.WalkLaws.{cond_case}
@@ -250,8 +254,15 @@ module _ (r : Rules) (n : ℕ) (l : 1 ≤ r.longest) where
       ∙ ap (λ (a : ℕ). filter (in_common r n) (up_from a (2 ^ n))) (zero-mul (2 ^ n))
 
   -- from the state where everything is 0
-  pub walk_from : {q : Rules} {m : ℕ} (s : State) → q ≡ r → m ≡ n → (s.first ≡ 0) × ((s.run ≡ 0) × ((s.dist ≡ 0) × (s.count ≡ 0))) → listed q m 0 s ≡ common r n
-  walk_from s p d (a, (b, (c, e))) = rw (p, d) (ap (listed r n 0) (begun s.first s.run s.dist s.count a b c e) ∙ walk_lists_common)
+  pub walk_from : (s : State) → (s.first ≡ 0) × ((s.run ≡ 0) × ((s.dist ≡ 0) × (s.count ≡ 0))) → listed r n 0 s ≡ common r n
+  walk_from s (a, (b, (c, e))) = ap (listed r n 0) (begun s.first s.run s.dist s.count a b c e) ∙ walk_lists_common
     where
       begun : (first run dist count : ℕ) → first ≡ 0 → run ≡ 0 → dist ≡ 0 → count ≡ 0 → ◌≡◌ {A = State} (record { first = first; run = run; dist = dist; count = count }) none_yet
       begun first run dist count a b c e = rw (a, b, c, e) refl
+
+-- the common list of an accepted ward is shorter than a count may be
+pub common_short : (w : List ℕ) → Accepted w → length (common_of w) ≤ 2 ^ 31
+unfolding common
+common_short w a =
+    let most : length (filter (in_common (rules_of w) (days w)) (up_from 0 (2 ^ days w))) ≤ length (up_from 0 (2 ^ days w)) = filter_le (in_common (rules_of w) (days w)) (up_from 0 (2 ^ days w)) in
+    omega (arith, most, length_range 0 (2 ^ days w), pow_mono {i = days w} {j = day_places} a.days_most)

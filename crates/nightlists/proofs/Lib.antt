@@ -1,6 +1,6 @@
 pub mod WalkLaws
 pub mod OnwardLaws
 pub mod LastLaws
-pub mod ListingLaws
+pub mod GatheringLaws
 pub mod CommonLaws
 pub mod SomeLaws

@@ -1,7 +1,7 @@
 -- Laws of the days that the walk goes on to: on the days below `new_days` a new run begins, one day may lengthen the first run,
 -- and no other day has a pattern.
 use Rattle.std.specs.Prelude.{◌≡◌, refl, Bool, true, false, cond, List, [], ◌++◌, ◌⊎◌, ℕ, zero, suc, ◌+◌, ◌-◌, ◌^◌, ◌≤◌, ◌<◌, min, leb, ltb, eqb}
-use Rattle.std.proofs.Common.{sym, ap, ap₂, subst, ◌∙◌, append-nil, inl, inr, add-zero, arith, leb-false, ltb-true, ltb-false, eqb-true, eq-eqb, ne_eqb, lt-ltb, le-ltb}
+use Rattle.std.proofs.Common.{sym, ap, ap₂, subst, ◌∙◌, append-nil, inl, inr, add-zero, arith, leb-false, ltb-true, ltb-false, eqb-true, eq-eqb, ne_eqb, lt-ltb, le-ltb, true≢false}
 use Rattle.std.proofs.lemmas.Bool.{eqb-false, lt-leb}
 use Rattle.std.proofs.lemmas.Option.{same_Some, none-some}
 use Rattle.std.specs.declared.option.Option.{Option}
@@ -9,11 +9,15 @@ use Rattle.std.specs.declared.option.Option.TheVariants.{Some, None}
 use Rattle.fields.specs.declared.rules.Rules.{Rules}
 use Rattle.fields.specs.Rules.{gap}
 use Rattle.nightlists.specs.declared.State.{State}
-use Rattle.nightlists.specs.CodeWalk.{closed, start_at, onward, listed, least_gap, lost, apart_by, new_days, new_run, lengthened}
-use Rattle.nightlists.proofs.WalkLaws.{cond_case, More, listed_more, more_to}
+use Rattle.nightlists.specs.CodeWalk.{closed, start_at, onward, listed, least_gap, lost, apart_by, new_days, new_run, lengthened, OneStart}
+use Rattle.nightlists.proofs.WalkLaws.{cond_case, More, listed_more, one_more}
 
-open_closed : {b : Bool} → b ≡ true → b ≡ false → ⊥
-open_closed p q = let z : ◌≡◌ {A = ℕ} 0 1 = cc in omega arith
+-- what a case by case choice of the state gives, one case after another
+none_by : (f : State → List ℕ) (b : Bool) (N M : Option State) → (b ≡ true → onward N f ≡ []) → (b ≡ false → onward M f ≡ []) → onward (cond b N M) f ≡ []
+none_by f b N M = cond_case (λ (K : Option State). onward K f ≡ []) b N M
+
+some_by : {N : Option State} {t : State} {A : Type 0} (b : Bool) → (b ≡ false → N ≡ Some t → A) → cond b None N ≡ Some t → A
+some_by {N} {t} {A} b = cond_case (λ (K : Option State). K ≡ Some t → A) b None N (λ u e. absurd (none-some _ e))
 
 -- ---- a run whose gap cannot be wide enough
 
@@ -36,8 +40,8 @@ lost_parts r run dist h = go (ltb 0 dist) refl (ltb dist (2 + least_gap r run)) 
   where
     go : (a : Bool) → ltb 0 dist ≡ a → (b : Bool) → ltb dist (2 + least_gap r run) ≡ b → (0 < dist) × (dist < 2 + least_gap r run)
     go true p true q = (ltb-true _ _ p, ltb-true _ _ q)
-    go true p false q = absurd (open_closed h (rw (p, q)))
-    go false p b q = absurd (open_closed h (rw p))
+    go true p false q = absurd (true≢false (sym h ∙ rw (p, q)))
+    go false p b q = absurd (true≢false (sym h ∙ rw p))
 
 lost_by : (r : Rules) (run dist : ℕ) → 0 < dist → dist < 2 + least_gap r run → lost r run dist ≡ true
 unfolding lost
@@ -54,14 +58,14 @@ NoneLost r f = (t : State) → 0 < t.first → lost r t.run t.dist ≡ true → 
 
 lost_next : (r : Rules) (day : ℕ) (s : State) (f : State → List ℕ) → 0 < day → 0 < s.first → lost r s.run s.dist ≡ true → NoneLost r f → onward (start_at r day s) f ≡ []
 lost_next r day s f p b l h =
-    cond_case (λ (N : Option State). onward N f ≡ []) (leb r.most s.count) _ _ (λ t. refl)
-    (λ t. cond_case (λ (N : Option State). onward N f ≡ []) (eqb s.first 0) _ _ (λ u. absurd (omega (arith, eqb-true)))
-    (λ u. cond_case (λ (N : Option State). onward N f ≡ []) (eqb s.first (day + 2)) _ _
-    (λ v. cond_case (λ (N : Option State). onward N f ≡ []) (leb r.longest s.run) _ _ (λ w. refl)
+    none_by f (leb r.most s.count) _ _ (λ t. refl)
+    (λ t. none_by f (eqb s.first 0) _ _ (λ u. absurd (omega (arith, eqb-true)))
+    (λ u. none_by f (eqb s.first (day + 2)) _ _
+    (λ v. none_by f (leb r.longest s.run) _ _ (λ w. refl)
     (λ w. let q = lost_parts r s.run s.dist l in
     h _ p (lost_by r (s.run + 1) s.dist q.0 (omega (arith, q.1, least_one_more r s.run (leb-false _ _ w))))))
-    (λ v. cond_case (λ (N : Option State). onward N f ≡ []) (ltb s.first (day + 3)) _ _ (λ w. refl)
-    (λ w. cond_case (λ (N : Option State). onward N f ≡ []) (closed r s.run s.dist) _ _ (λ x. absurd (open_closed x (lost_open r s.run s.dist l)))
+    (λ v. none_by f (ltb s.first (day + 3)) _ _ (λ w. refl)
+    (λ w. none_by f (closed r s.run s.dist) _ _ (λ x. absurd (true≢false (sym x ∙ lost_open r s.run s.dist l)))
     (λ x. refl)))))
 
 lost_none : (r : Rules) (d a : ℕ) → NoneLost r (listed r d a)
@@ -124,10 +128,6 @@ new_below done apart left s p q =
     cond_case (λ (x : ℕ). x ≤ s.first - 3) (eqb s.first 0) _ _ (λ u. absurd (omega (arith, eqb-true _ _ u)))
     (λ u. cond_case (λ (x : ℕ). x ≤ s.first - 3) done _ _ (λ v. omega arith) (λ v. omega arith))
 
--- the state's first start is on the day after those that are left
-pub new_next : (s : State) (day : ℕ) {t : State} → t ≡ new_run s day → t.first ≤ day + 1
-new_next s day e = omega (arith, ap (λ (s : State). s.first) e)
-
 -- ---- the day that lengthens the first run
 
 pub record Long (r : Rules) (left : ℕ) (s : State) (t : State) : Type 0 where
@@ -135,9 +135,6 @@ pub record Long (r : Rules) (left : ℕ) (s : State) (t : State) : Type 0 where
   pub below : t.first - 1 < left
   pub day : s.first ≡ t.first - 1 + 3
   pub start : s.count < r.most → start_at r (t.first - 1 + 1) s ≡ Some t
-
-pub to_never : {t : State} → Some t ≡ None → ⊥
-to_never e = let z : ◌≡◌ {A = ℕ} 0 1 = cc in omega arith
 
 module _ (r : Rules) (left : ℕ) (s : State) where
   long_state : State
@@ -158,25 +155,22 @@ module _ (r : Rules) (left : ℕ) (s : State) where
   pub long_is : (t : State) → lengthened r s left ≡ Some t → Long r left s t
   unfolding lengthened long_state
   long_is t =
-      cond_case (λ (N : Option State). N ≡ Some t → Long r left s t) (leb r.longest s.run) _ _ (λ u e. absurd (none-some _ e))
-      (λ u. cond_case (λ (N : Option State). N ≡ Some t → Long r left s t) (ltb s.first 3) _ _ (λ v e. absurd (none-some _ e))
-      (λ v. cond_case (λ (N : Option State). N ≡ Some t → Long r left s t) (ltb (left + 2) s.first) _ _ (λ w e. absurd (none-some _ e))
-      (λ w. cond_case (λ (N : Option State). N ≡ Some t → Long r left s t) (lost r (s.run + 1) s.dist) _ _ (λ x e. absurd (none-some _ e))
+      some_by (leb r.longest s.run) (λ u. some_by (ltb s.first 3) (λ v. some_by (ltb (left + 2) s.first) (λ w. some_by (lost r (s.run + 1) s.dist)
       (λ x e. subst (Long r left s) (same_Some _ _ e) (long_start (leb-false _ _ u) (ltb-false _ _ v) (ltb-false _ _ w))))))
 
   -- on that day, where there is no such state
   long_never : (day : ℕ) (f : State → List ℕ) → s.first ≡ day + 3 → day < left → NoneLost r f → lengthened r s left ≡ None → onward (start_at r (day + 1) s) f ≡ []
   unfolding lengthened
   long_never day f e l h n =
-      cond_case (λ (N : Option State). onward N f ≡ []) (leb r.most s.count) _ _ (λ t. refl)
-      (λ t. cond_case (λ (N : Option State). onward N f ≡ []) (eqb s.first 0) _ _ (λ u. absurd (omega (arith, eqb-true _ _ u)))
+      none_by f (leb r.most s.count) _ _ (λ t. refl)
+      (λ t. none_by f (eqb s.first 0) _ _ (λ u. absurd (omega (arith, eqb-true _ _ u)))
       (λ u. rw (eq-eqb s.first (day + 1 + 2) (omega arith))
-      (cond_case (λ (N : Option State). onward N f ≡ []) (leb r.longest s.run) _ _ (λ w. refl)
+      (none_by f (leb r.longest s.run) _ _ (λ w. refl)
       (λ w. h _ (omega arith) (go w (lost r (s.run + 1) s.dist) refl)))))
     where
       go : leb r.longest s.run ≡ false → (v : Bool) → lost r (s.run + 1) s.dist ≡ v → v ≡ true
       go w true x = refl
-      go w false x = absurd (to_never (rw (w, le-ltb s.first 3 (omega arith), le-ltb (left + 2) s.first (omega arith), x) at n))
+      go w false x = absurd (none-some _ (sym (rw (w, le-ltb s.first 3 (omega arith), le-ltb (left + 2) s.first (omega arith), x) at n)))
 
 -- ---- the list, by these days
 
@@ -191,6 +185,10 @@ flat_to : (r : Rules) (day left a : ℕ) (s : State) → day ≤ left → ((d : 
 flat_to r day left a s l h =
     let e : day + (left - day) ≡ left = omega arith in
     ap (λ (d : ℕ). listed r d a s) (sym e) ∙ flat r day a s (left - day) (λ d p q. h d p (omega arith))
+
+-- fewer days are then left
+pub start_less : {a : ℕ} {t : State} {left b d : ℕ} {u : State} → OneStart a t left b u → (1 ≤ t.first) × (t.first ≤ d) → left < d
+start_less o (some, below) = omega (arith, o.left_is)
 
 module _ {r : Rules} {done : Bool} {apart left : ℕ} {s : State} {days : ℕ} (k : Days r done apart left s days) where
   pub days_most : days ≤ left
@@ -226,11 +224,11 @@ module _ {r : Rules} {done : Bool} {apart left : ℕ} {s : State} {days : ℕ} (
   past_none : (day : ℕ) (f : State → List ℕ) → days ≤ day → day < left → (s.first ≡ day + 3 → ⊥) → NoneLost r f → onward (start_at r (day + 1) s) f ≡ []
   past_none day f m l o h =
       let q = past_day done apart left s day (omega (arith, k.is)) l in
-      cond_case (λ (N : Option State). onward N f ≡ []) (leb r.most s.count) _ _ (λ t. refl)
-      (λ t. cond_case (λ (N : Option State). onward N f ≡ []) (eqb s.first 0) _ _ (λ u. absurd (omega (arith, eqb-true _ _ u, q.0)))
-      (λ u. cond_case (λ (N : Option State). onward N f ≡ []) (eqb s.first (day + 1 + 2)) _ _ (λ v. absurd (o (omega (arith, eqb-true _ _ v))))
-      (λ v. cond_case (λ (N : Option State). onward N f ≡ []) (ltb s.first (day + 1 + 3)) _ _ (λ w. refl)
-      (λ w. cond_case (λ (N : Option State). onward N f ≡ []) (closed r s.run s.dist) _ _
+      none_by f (leb r.most s.count) _ _ (λ t. refl)
+      (λ t. none_by f (eqb s.first 0) _ _ (λ u. absurd (omega (arith, eqb-true _ _ u, q.0)))
+      (λ u. none_by f (eqb s.first (day + 1 + 2)) _ _ (λ v. absurd (o (omega (arith, eqb-true _ _ v))))
+      (λ v. none_by f (ltb s.first (day + 1 + 3)) _ _ (λ w. refl)
+      (λ w. none_by f (closed r s.run s.dist) _ _
       (λ x.
       let near : s.first ≤ day + apart = q.1 (k.done_is ∙ x) in
       let g = apart_least r in
@@ -248,24 +246,29 @@ module _ {r : Rules} {done : Bool} {apart left : ℕ} {s : State} {days : ℕ} (
         go d p q true u = long_never r left s d (λ t. listed r d (a + 2 ^ d) t) (eqb-true _ _ u) q (λ t. lost_none r d (a + 2 ^ d) t) (sym e ∙ n)
         go d p q false u = past_none d (λ t. listed r d (a + 2 ^ d) t) (omega arith) q (eqb-false _ _ u) (λ t. lost_none r d (a + 2 ^ d) t)
 
-    pub to_all : {N : Option State} {t : State} {last b : ℕ} → N ≡ lengthened r s left → N ≡ Some t → last ≡ t.first - 1 → b ≡ 2 ^ last → More r day a s last b t left
-    to_all {t = t} {last} {b} e n z q =
+    pub to_all : {N : Option State} {t : State} {last b : ℕ} {u : State} → N ≡ lengthened r s left → N ≡ Some t → OneStart a t last b u → More r day a s last b u left
+    to_all {t = t} {last} {b} {u} e n o =
         let long : Long r left s t = long_is r left s t (sym e ∙ n) in
-        let begin : start_at r (last + 1) s ≡ Some t = rw z (long.start k.few) in
-        let low : day ≤ last = omega (arith, k.is, z, long.day, new_below done apart left s (omega (arith, long.day)) (omega (arith, k.apart_is, (apart_least r).0))) in
+        let begin : start_at r (last + 1) s ≡ Some t = rw o.left_is (long.start k.few) in
+        let low : day ≤ last = omega (arith, k.is, o.left_is, long.day, new_below done apart left s (omega (arith, long.day)) (omega (arith, k.apart_is, (apart_least r).0))) in
+        let first : t.first ≡ last + 1 = omega (arith, o.left_is, long.some) in
         record {
-          whole = flat_to r (last + 1) left a s (omega (arith, z, long.below)) (λ d p o. past_none d (λ t. listed r d (a + 2 ^ d) t) (omega arith) o (λ u. omega (arith, z, long.day)) (λ t. lost_none r d (a + 2 ^ d) t))
-              ∙ more_to r last a s t b begin q
-              ∙ ap (λ (L : List ℕ). L ++ listed r last (a + b) t)
-              (flat_to r day last a s low (λ d p o. past_none d (λ t. listed r d (a + 2 ^ d) t) (omega arith) (omega (arith, z, long.below)) (λ u. omega (arith, z, long.day)) (λ t. lost_none r d (a + 2 ^ d) t)));
+          whole = flat_to r (last + 1) left a s (omega (arith, o.left_is, long.below)) (λ d p z. past_none d (λ t. listed r d (a + 2 ^ d) t) (omega arith) z (λ u. omega (arith, o.left_is, long.day)) (λ t. lost_none r d (a + 2 ^ d) t))
+              ∙ (let one : More r last a s last b u (last + 1) = one_more r o first begin in one.whole)
+              ∙ ap (λ (L : List ℕ). L ++ listed r last b u)
+              (flat_to r day last a s low (λ d p z. past_none d (λ t. listed r d (a + 2 ^ d) t) (omega arith) (omega (arith, o.left_is, long.below)) (λ u. omega (arith, o.left_is, long.day)) (λ t. lost_none r d (a + 2 ^ d) t)));
         }
 
-  -- that day is one of those that were undecided
-  module _ {N : Option State} {t : State} (e : N ≡ lengthened r s left) (n : N ≡ Some t) where
-    pub long_some : 1 ≤ t.first
-    long_some = let long : Long r left s t = long_is r left s t (sym e ∙ n) in long.some
+  -- a new run on one more day
+  pub new_more : {day a : ℕ} {t : State} {last b : ℕ} {u : State} → day < days → t ≡ new_run s day → OneStart a t last b u → More r day a s last b u (day + 1)
+  new_more {day} {t = t} l e o = one_more r o (ap (λ (s : State). s.first) e) (new_start l e)
 
-    pub long_below : {last : ℕ} → last ≡ t.first - 1 → last < left
-    long_below z =
-        let long : Long r left s t = long_is r left s t (sym e ∙ n) in
-        omega (arith, long.below)
+  -- that is one of those that were undecided
+  pub new_first : {day : ℕ} {t : State} → day < days → t ≡ new_run s day → (1 ≤ t.first) × (t.first ≤ left)
+  new_first l e = (omega (arith, ap (λ (s : State). s.first) e), omega (arith, ap (λ (s : State). s.first) e, days_most))
+
+  -- and so is the day that lengthens the first run
+  pub long_first : {N : Option State} {t : State} → N ≡ lengthened r s left → N ≡ Some t → (1 ≤ t.first) × (t.first ≤ left)
+  long_first {N} {t} e n =
+      let long : Long r left s t = long_is r left s t (sym e ∙ n) in
+      (long.some, omega (arith, long.below, long.some))

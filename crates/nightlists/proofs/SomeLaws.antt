@@ -1,8 +1,10 @@
 -- Whether a nurse has a pattern: what the walk asks of a night pattern, and what it comes to over the whole month.
-use Rattle.std.specs.Prelude.{◌≡◌, refl, Bool, true, false, cond, ◌&&◌, List, [], ◌∷◌, ◌++◌, ℕ, zero, suc, ◌+◌, ◌-◌, ◌*◌, ◌/◌, ◌%◌, ◌^◌, ◌≤◌, ◌<◌, bit_and, ltb, length, get_or}
-use Rattle.std.proofs.Common.{sym, ap, ◌∙◌, subst, add-mul, one-mul, mul_assoc, div-add-mod', not-suc-le-zero, arith, pow-add}
+use Rattle.std.specs.Prelude.{◌≡◌, refl, Bool, true, false, cond, not, ◌&&◌, List, [], ◌∷◌, ◌++◌, ℕ, zero, suc, ◌+◌, ◌-◌, ◌*◌, ◌/◌, ◌%◌, ◌^◌, ◌≤◌, ◌<◌, bit_and, ltb, length, get_or}
+use Rattle.std.proofs.Common.{sym, ap, ◌∙◌, subst, add-mul, one-mul, mul_assoc, div-add-mod', not-suc-le-zero, arith, pow-add, true≢false}
 use Rattle.std.proofs.lemmas.Option.{none-some}
 use Rattle.std.proofs.Math.Nat.{mul-mod_left, div-eq_of_lt-le}
+use Rattle.std.specs.Option.{MatchOption}
+use Rattle.std.specs.Bool.{then_some}
 use Rattle.std.specs.declared.option.Option.{Option}
 use Rattle.std.specs.declared.option.Option.TheVariants.{Some, None}
 use Rattle.numbers.specs.Digits.{has}
@@ -24,9 +26,9 @@ use Rattle.nursemasks.specs.declared.masks.Masks.{Masks}
 use Rattle.nursemasks.specs.CodeMasks.{masks_of}
 use Rattle.nursemasks.proofs.NearLaws.{out_never}
 use Rattle.nightlists.specs.declared.State.{State}
-use Rattle.nightlists.specs.CodeWalk.{closed, here, start_at, onward, listed, lengthened, hers_with_pair}
+use Rattle.nightlists.specs.CodeWalk.{closed, here, start_at, onward, listed, lengthened, hers_with_pair, OneStart}
 use Rattle.nightlists.proofs.WalkLaws.{here_is, here_only, More, listed_more, listed_first}
-use Rattle.nightlists.proofs.OnwardLaws.{Days, Long, to_never, long_is, long_some, long_below, never_all, to_all}
+use Rattle.nightlists.proofs.OnwardLaws.{Days, Long, long_is, long_first, never_all, to_all}
 
 -- it is not hers, or her pairs decide
 module _ (w : List ℕ) (i p : ℕ) {hers : Bool} (e : hers ≡ hers_of w i p) where
@@ -99,8 +101,7 @@ in_both : (x y d : ℕ) → has x d ≡ true → has y d ≡ true → bit_and x 
 in_both x y d p q e =
     let both : has (bit_and x y) d ≡ true = has_and x y d ∙ rw (p, q) in
     let none : has (bit_and x y) d ≡ false = ap (λ (z : ℕ). has z d) e ∙ has_above 0 0 d (omega arith) (omega arith) in
-    let z : ◌≡◌ {A = ℕ} 0 1 = cc in
-    omega arith
+    true≢false (sym both ∙ none)
 
 cond_to : (v : Bool) (N : Option State) (t : State) → cond v None N ≡ Some t → N ≡ Some t
 cond_to true N t e = absurd (none-some _ e)
@@ -153,9 +154,9 @@ module _ (w : List ℕ) (i : ℕ) where
 
 module _ {w : List ℕ} {i : ℕ} {r : Rules} {left a : ℕ} {s : State} {day : ℕ} (n : NoneAt w i r left a s day) where
   -- on one more day she starts
-  module _ {next last b : ℕ} {t : State} {h : Bool} (more : More r day a s last b t next) (f : Says w i (listed r last (a + b) t) h) where
+  module _ {next last b : ℕ} {t : State} {h : Bool} (more : More r day a s last b t next) (f : Says w i (listed r last b t) h) where
     pub some_more : Says w i (listed r next a s) h
-    some_more = says_second w i (listed r next a s) (listed r day a s) (listed r last (a + b) t) h more.whole n.none f
+    some_more = says_second w i (listed r next a s) (listed r day a s) (listed r last b t) h more.whole n.none f
 
     pub turn_yes : next ≤ left → h ≡ true → Says w i (listed r left a s) true
     turn_yes l y =
@@ -185,12 +186,12 @@ module _ {w : List ℕ} {i : ℕ} {r : Rules} {left a : ℕ} {s : State} {day : 
       where
         go : (v : Bool) → has m.never (s.first - 3) ≡ v → (M : Option State) → lengthened r s left ≡ M → Says w i (listed r left a s) false
         go v bar None f = rw (never_all k l q a (sym f) refl) n.none
-        go false bar (Some t) f = absurd (to_never (rw (bar, f) at (sym c ∙ e)))
+        go false bar (Some t) f = absurd (none-some _ (sym (rw (bar, f) at (sym c ∙ e))))
         go true bar (Some t) f =
             let long : Long r left s t = long_is r left s t f in
             let last : ℕ = t.first - 1 in
             let there : s.first - 3 ≡ last = omega (arith, long.day) in
-            let more : More r day a s last (2 ^ last) t left = to_all k l q a (sym f) refl refl refl in
+            let more : More r day a s last (a + 2 ^ last) t left = to_all k l q a (sym f) refl (record { left_is = refl; from_is = refl; state_is = refl }) in
             says_second w i (listed r left a s) (listed r day a s) (listed r last (a + 2 ^ last) t) false more.whole n.none
             (says_barred w i is (listed r last (a + 2 ^ last) t) last ok (rw there at bar)
             (λ i h. has_start left last a even long.below _ (listed_within r last (a + 2 ^ last) t i h)))
@@ -200,11 +201,19 @@ module _ {r : Rules} {left : ℕ} {s : State} {done : Bool} {apart past : ℕ} (
   is_long : lengthened r s left ≡ Some t
   is_long = cond_to never (lengthened r s left) t (sym c ∙ e)
 
-  pub her_some : 1 ≤ t.first
-  her_some = long_some k (sym is_long) refl
+  pub her_first : (1 ≤ t.first) × (t.first ≤ left)
+  her_first = long_first k (sym is_long) refl
 
-  pub her_below : {last : ℕ} → last ≡ t.first - 1 → last < left
-  her_below z = long_below k (sym is_long) refl z
+  pub her_all : {day last b : ℕ} {u : State} (a : ℕ) → day ≤ past → past ≤ day → OneStart a t last b u → More r day a s last b u left
+  her_all a l q o = to_all k l q a (sym is_long) refl o
 
-  pub her_all : {day last b : ℕ} (a : ℕ) → day ≤ past → past ≤ day → last ≡ t.first - 1 → b ≡ 2 ^ last → More r day a s last b t left
-  her_all a l q z p = to_all k l q a (sym is_long) refl z p
+-- what is left of an option where it is kept unless v
+pub filter_is : {A : Type 0} (N R : Option A) (P : A → Bool → Type 0) (v : Bool) → MatchOption N (R ≡ None) (λ x. (b : Bool) × P x b × (R ≡ then_some b x))
+    → ((x : A) (b : Bool) → N ≡ Some x → P x b → b ≡ not v) → R ≡ cond v None N
+filter_is None R P true m f = m
+filter_is None R P false m f = m
+filter_is (Some x) R P v m f = m.2 ∙ go v (f x m.0 refl m.1)
+  where
+    go : (u : Bool) → m.0 ≡ not u → then_some m.0 x ≡ cond u None (Some x)
+    go true e = rw e refl
+    go false e = rw e refl

@@ -3,9 +3,10 @@ use Rattle.std.specs.Prelude.{◌≡◌, refl, Bool, true, false, cond, List, []
 use Rattle.std.proofs.Common.{sym, ap, ◌∙◌, append-nil, append_assoc, length-append, pow_pos, pow_mono, add-zero, add-one, arith, le-leb}
 use Rattle.std.specs.declared.option.Option.TheVariants.{Some}
 use Rattle.numbers.proofs.HalfLaws.{pow_twice}
+use Rattle.fields.specs.Sizes.{day_places}
 use Rattle.fields.specs.declared.rules.Rules.{Rules}
 use Rattle.nightlists.specs.declared.State.{State}
-use Rattle.nightlists.specs.CodeWalk.{closed, here, start_at, onward, listed, Ready}
+use Rattle.nightlists.specs.CodeWalk.{closed, here, start_at, onward, listed, Ready, OneStart}
 
 -- ---- tests
 
@@ -27,9 +28,10 @@ here_only r (suc d) a s h = rw (le-leb r.most s.count h) (append-nil _ ∙ here_
 
 -- ---- one day more
 
--- the patterns with the days below `next` undecided are those with the days below `day` undecided, and those with a start on day last + 1
-pub record More (r : Rules) (day a : ℕ) (s : State) (last b : ℕ) (t : State) (next : ℕ) : Type 0 where
-  pub whole : listed r next a s ≡ listed r day a s ++ listed r last (a + b) t
+-- the patterns with the days below `next` undecided are those with the days below `day` undecided, and those with a start on day
+-- left + 1, which then make the number b
+pub record More (r : Rules) (day a : ℕ) (s : State) (left b : ℕ) (t : State) (next : ℕ) : Type 0 where
+  pub whole : listed r next a s ≡ listed r day a s ++ listed r left b t
 
 module _ (r : Rules) (day a : ℕ) (s : State) where
   pub listed_more : listed r (day + 1) a s ≡ listed r day a s ++ onward (start_at r (day + 1) s) (λ t. listed r day (a + 2 ^ day) t)
@@ -40,9 +42,12 @@ module _ (r : Rules) (day a : ℕ) (s : State) where
   pub more_to : (t : State) (b : ℕ) → start_at r (day + 1) s ≡ Some t → b ≡ 2 ^ day → listed r (day + 1) a s ≡ listed r day a s ++ listed r day (a + b) t
   more_to t b h e = rw e (listed_more ∙ rw h)
 
-  -- as a record
-  pub one_more : {t : State} {b : ℕ} → start_at r (day + 1) s ≡ Some t → b ≡ 2 ^ day → More r day a s day b t (day + 1)
-  one_more {t} {b} h e = record { whole = more_to t b h e }
+-- as a record
+pub one_more : (r : Rules) {day a : ℕ} {s t : State} {left b : ℕ} {u : State} → OneStart a t left b u → t.first ≡ day + 1 → start_at r (day + 1) s ≡ Some t → More r day a s left b u (day + 1)
+one_more r {day} {a} {s} {t} {left} {b} {u} o f e =
+    let d : left ≡ day = omega (arith, o.left_is) in
+    let n : t.first - 1 ≡ day = omega arith in
+    rw (d, o.state_is, o.from_is, n) record { whole = more_to r day a s t (2 ^ day) e refl }
 
 -- the list of more days begins with that of fewer
 pub listed_begins : (r : Rules) (day a : ℕ) (s : State) (k : ℕ) → (L : List ℕ) × (listed r (day + k) a s ≡ listed r day a s ++ L)
@@ -62,7 +67,7 @@ listed_first r day left a s h =
 pub listed_most : (r : Rules) (day left a : ℕ) (s : State) → day ≤ left → length (listed r day a s) ≤ length (listed r left a s)
 listed_most r day left a s h = omega (arith, simp length-append at (ap length (listed_first r day left a s h).1))
 
--- ---- what the walk asks, with a start on a day below
+-- ---- what is known where the walk stands, with a start on a day below
 
 module _ {left a day b : ℕ} (ready : Ready left a) (l : day < left) (e : b ≡ 2 ^ day) where
   with_fits : a + b + 2 ^ day ≤ 2 ^ 32
@@ -74,3 +79,7 @@ module _ {left a day b : ℕ} (ready : Ready left a) (l : day < left) (e : b ≡
   -- the number with the start is one of 32 bits
   pub with_most : a + b < 2 ^ 32
   with_most = omega (arith, with_fits, pow_pos day)
+
+-- from none
+pub none_ready : (n : ℕ) → n ≤ day_places → Ready n 0
+none_ready n l = record { few_days = l; fits = omega (arith, pow_mono {i = n} {j = day_places} l) }

@@ -1,5 +1,5 @@
 -- The walk that finds the common list: over the days from the last to the first, not started before started.
-use Rattle.std.specs.Prelude.{Bool, cond, ◌&&◌, ◌||◌, List, [], ◌∷◌, ◌++◌, ℕ, zero, suc, ◌+◌, ◌-◌, ◌^◌, ◌≤◌, min, max, leb, ltb, eqb}
+use Rattle.std.specs.Prelude.{◌≡◌, Bool, cond, ◌&&◌, ◌||◌, List, [], ◌∷◌, ◌++◌, ℕ, zero, suc, ◌+◌, ◌-◌, ◌^◌, ◌≤◌, min, max, leb, ltb, eqb}
 use Rattle.fields.specs.Sizes.{day_places}
 use Rattle.fields.specs.declared.rules.Rules.{Rules}
 use Rattle.nightlists.specs.declared.State.{State}
@@ -93,6 +93,13 @@ lengthened r s left =
 pub record Ready (left a : ℕ) : Type 0 where
   pub few_days : left ≤ day_places
   pub fits : a + 2 ^ left ≤ 2 ^ 32
+
+-- The number a of a pattern made so far with one start more, after which the state is t: so many days are then left undecided, and
+-- the others make the number b.
+pub record OneStart (a : ℕ) (t : State) (left b : ℕ) (u : State) : Type 0 where
+  pub left_is : left ≡ t.first - 1
+  pub from_is : b ≡ a + 2 ^ (t.first - 1)
+  pub state_is : u ≡ t
 
 -- what the walk that looks for a pattern of nurse i's looks for: a night pattern of hers, under which some pair is hers
 unfoldable pub hers_with_pair : List ℕ → ℕ → ℕ → Bool

@@ -1,2 +1,2 @@
-pub mod CodeListing
+pub mod CodeGathering
 pub mod CodeWalk

@@ -3,17 +3,19 @@
 #![tactic(auto)]
 
 pub mod common;
-mod listing;
+mod gathering;
 pub mod onward;
+mod partial;
 pub mod some;
 
-ghost use Rattle.std.specs.Prelude.{◌≡◌, ◌++◌, ◌+◌, ◌≤◌, min, length, drop};
+ghost use Rattle.std.specs.Prelude.{◌≡◌, ◌++◌, ◌≤◌, min, length, drop};
 ghost use Rattle.fields.specs.Sizes.{day_places};
 ghost use Rattle.nights.specs.Nights.{common};
-ghost use Rattle.nightlists.specs.CodeWalk.{listed, Ready};
+ghost use Rattle.nightlists.specs.CodeWalk.{listed};
 
-use crate::listing::{Counting, Listing, Writing};
+use crate::gathering::{Buffer, Gathering, Tally};
 use crate::onward::Walk;
+use crate::partial::Partial;
 
 // What the walk knows of the days that are decided: their first start (0: none), the length of the run that begins there, the
 // distance from that run's end to the start after it (0: none), and the count of starts.
@@ -26,33 +28,27 @@ pub struct State {
     pub count: u64,
 }
 
-fn walk<L: Listing>(k: &Walk, left: u64, from: u32, s: State, list: &mut L)
-    requires ready { Ready left from }
-    requires next { s.first ≤ left + 1 }
-    requires room { L.room list.old (listed k.now.rules left from s) }
-    ensures { L.added list.old (listed k.now.rules left from s) list.new }
+fn walk<G: Gathering>(k: &Walk, part: &Partial, list: &mut G)
+    requires { G.room list.old (listed k.now.rules part.now.left part.now.from part.now.state) }
+    ensures { G.added list.old (listed k.now.rules part.now.left part.now.from part.now.state) list.new }
 {
     if list.is_full() {
         return;
     }
-    let done = k.is_closed(s);
-    list.add_here(done, from);
-    if k.rules.most <= s.count {
+    let done = k.is_closed(part.state);
+    list.add_here(done, part.from);
+    if k.rules.most <= part.state.count {
         return;
     }
-    let days = k.new_days(done, s, left);
-    let begun = k.last_days(s, days);
-    let shut = k.shut_days(s, begun);
-    list.add_leaves(from, shut);
+    let days = k.new_days(done, part);
+    let begun = k.last_days(part.state, days);
+    let shut = k.shut_days(part.state, begun);
+    list.add_leaves(part.from, shut);
     for day in begun..days {
-        let t = onward::new_run(s, day);
-        let with = from + numbers::bit(day);
-        walk(k, day, with, t, list);
+        walk(k, &part.with(onward::new_run(part.state, day)), list);
     }
-    if let Some(t) = k.lengthened(s, left) {
-        let last = t.first - 1;
-        let long = from + numbers::bit(last);
-        walk(k, last, long, t, list);
+    if let Some(t) = k.lengthened(part) {
+        walk(k, &part.with(t), list);
     }
 }
 
@@ -62,8 +58,8 @@ impl Walk {
         requires { n ≤ day_places }
         ensures { result ≡ min cap (length (common self.now.rules n)) }
     {
-        let mut list = Counting { left: cap };
-        walk(self, n, 0, State::default(), &mut list);
+        let mut list = Tally { left: cap };
+        walk(self, &Partial::none(n), &mut list);
         cap - list.left
     }
 
@@ -74,8 +70,8 @@ impl Walk {
         ensures value { result ≡ length (common self.now.rules n) }
         ensures buf_after { buf.new ≡ common self.now.rules n ++ drop (length (common self.now.rules n)) buf.old }
     {
-        let mut list = Writing { buf, found: 0 };
-        walk(self, n, 0, State::default(), &mut list);
+        let mut list = Buffer { buf, found: 0 };
+        walk(self, &Partial::none(n), &mut list);
         list.found
     }
 }

@@ -5,9 +5,11 @@ ghost use Rattle.fields.specs.CodeRules.{SmallRules};
 ghost use Rattle.nightlists.specs.CodeWalk.{closed, from_two, from_one, least_gap, lost, apart_by, new_days, last_days, shut_days, new_run, lengthened};
 
 use crate::State;
+use crate::partial::Partial;
 use fields::rules::Rules;
 
-// What the walk goes by: the rules, and how far before a start another run begins, at least.
+// What the walk goes by: the rules, and how far before a start another run begins, at least. The days are handed to `count` and
+// `fill` and no field: `of`, which is public, would ask its callers for them and for their bound.
 #[derive(Clone, Copy)]
 pub struct Walk {
     pub rules: Rules,
@@ -35,6 +37,7 @@ fn from_one(r: Rules) -> u64
 }
 
 // The least gap after a run of so many starts as it is, or with more starts.
+// `SmallRules` is asked, here and by `of`, and no ghost field of `Rules`, which are public: it would be asked of whoever makes any.
 #[tactic(auto, unfolding(crate::specs::CodeWalk::least_gap))]
 fn least_gap(r: Rules, run: u64) -> u64
     requires { SmallRules r }
@@ -100,15 +103,15 @@ impl Walk {
 
     // On how many of the days, from the first on, a new run begins.
     #[tactic(auto, using(crate::proofs::OnwardLaws::apart_three), unfolding(crate::specs::CodeWalk::new_days))]
-    pub(crate) fn new_days(&self, done: bool, s: State, left: u64) -> u64
-        requires { s.first ≤ left + 1 }
-        ensures { result ≡ new_days done self.now.apart s left }
+    pub(crate) fn new_days(&self, done: bool, part: &Partial) -> u64
+        ensures { result ≡ new_days done self.now.apart part.now.state part.now.left }
     {
-        if s.first == 0 {
-            return left;
+        let first = part.state.first;
+        if first == 0 {
+            return part.left;
         }
         if done {
-            return s.first.saturating_sub(self.apart);
+            return first.saturating_sub(self.apart);
         }
         0
     }
@@ -141,13 +144,12 @@ impl Walk {
 
     // The state after a start that lengthens the first run, or that no pattern has it.
     #[tactic(auto, unfolding(crate::specs::CodeWalk::lengthened))]
-    pub(crate) fn lengthened(&self, s: State, left: u64) -> Option<State>
-        requires few { s.count < self.now.rules.most }
-        requires left_le_day_places { left ≤ day_places }
-        requires next { s.first ≤ left + 1 }
-        ensures { result ≡ lengthened self.now.rules s left }
+    pub(crate) fn lengthened(&self, part: &Partial) -> Option<State>
+        requires { part.now.state.count < self.now.rules.most }
+        ensures { result ≡ lengthened self.now.rules part.now.state part.now.left }
     {
         let r = self.rules;
+        let s = part.state;
         if r.longest <= s.run {
             return None;
         }

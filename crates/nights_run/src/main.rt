@@ -2,12 +2,12 @@
 // ward on standard input; and how many patterns of it each nurse of the ward has by the fast test, and of how many the plain one says otherwise.
 #![tactic(auto)]
 
-ghost use Rattle.std.specs.Prelude.{◌<◌, ◌≤◌};
+ghost use Rattle.std.specs.Prelude.{◌≤◌};
 ghost use Rattle.fields.specs.Sizes.{day_places};
 ghost use Rattle.fields.specs.Fields.{nurses};
 
-use fields::Body;
 use fields::rules::Rules;
+use fields::{Body, WardNurse};
 use nightlists::onward::Walk;
 use std::io;
 use std::io::{Read, Write};
@@ -16,7 +16,7 @@ use std::io::{Read, Write};
 const INPUT_MOST: u64 = 4096;
 
 // Writes the common list where the buffer holds it, and answers how many numbers it has; where the buffer is too short, one
-// more than its places.
+// more than its places, and no Option, since that number is printed.
 fn list(k: &Walk, n: u64, buf: &mut [u32]) -> usize
     requires { n ≤ day_places }
 {
@@ -62,33 +62,29 @@ fn show_thirty<W: Write>(out: &mut W) -> io::Result<()> {
     Ok(())
 }
 
-// How many of the list are nurse i's by the fast test, and of how many the plain one says otherwise.
+// How many of the list are hers by the fast test, and of how many the plain one says otherwise.
 #[derive(Clone, Copy, Default)]
 pub struct Own {
     pub count: u64,
     pub differ: u64,
 }
 
-fn compare(w: &Body, i: usize, list: &[u32]) -> Own
-    requires i_bound { i < nurses w.now.numbers.now }
-{
-    let m = nursemasks::masks::masks_of(&*w, i);
+fn compare(her: &WardNurse, list: &[u32]) -> Own {
+    let m = nursemasks::masks::masks_of(her);
     let mut own = Own::default();
     for p in list {
         let fast = m.passes(*p);
-        let differs = fast != nights::is_hers(w, i, *p);
+        let differs = fast != nights::is_hers(her, *p);
         own.count = own.count.wrapping_add(u64::from(fast));
         own.differ = own.differ.wrapping_add(u64::from(differs));
     }
     own
 }
 
-fn show_nurse<W: Write>(out: &mut W, w: &Body, i: usize, list: &[u32]) -> io::Result<()>
-    requires i_bound { i < nurses w.now.numbers.now }
-{
-    let own = compare(w, i, list);
-    write!(out, "nurse {} {} {}", i + 1, own.count, own.differ)?;
-    if nightlists::some::has_pattern(w, i) {
+fn show_nurse<W: Write>(out: &mut W, her: &WardNurse, list: &[u32]) -> io::Result<()> {
+    let own = compare(her, list);
+    write!(out, "nurse {} {} {}", her.index + 1, own.count, own.differ)?;
+    if nightlists::some::has_pattern(her) {
         write!(out, " some")?;
     }
     writeln!(out)
@@ -96,7 +92,7 @@ fn show_nurse<W: Write>(out: &mut W, w: &Body, i: usize, list: &[u32]) -> io::Re
 
 fn show_nurses<W: Write>(out: &mut W, w: &Body, list: &[u32]) -> io::Result<()> {
     for i in 0..w.nurses() {
-        show_nurse(out, w, i, list)?;
+        show_nurse(out, &w.nurse_at(i), list)?;
     }
     Ok(())
 }

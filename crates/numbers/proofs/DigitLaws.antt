@@ -1,7 +1,7 @@
 -- The binary digits of a number: what masks, counts of ones and shifts are in terms of them.
 use Rattle.std.specs.Prelude.{◌≡◌, refl, Bool, true, false, cond, ◌&&◌, ℕ, zero, suc, ◌+◌, ◌-◌, ◌*◌, ◌/◌, ◌%◌, ◌^◌, ◌≤◌, ◌<◌, min, max, bit_and, bit_or, eqb}
 use Rattle.std.proofs.Common.{sym, ap, ap₂, ◌∙◌, subst, div-one, mod-lt, lt_of_le_of_lt, zero-lt-suc, not-suc-le-zero, le_of_suc-le-suc, one-mul, zero-mul, pow-suc, zero-add, add-one, one-add, arith, shr-shr, shr_lt, ne_eqb, eq-eqb}
-use Rattle.std.proofs.lemmas.Nat.{and_shr, or_shr, and_le_r, ones-le, one_shl}
+use Rattle.std.proofs.lemmas.Nat.{and_shr, or_shr, and_le_r, one_shl}
 use Rattle.std.proofs.Math.Arith.{lt-one, digits_mod}
 use Rattle.std.proofs.Math.Dec.{eqb-zero-suc, eqb-suc-zero, eqb-suc-suc}
 use Rattle.std.proofs.Math.Decide.{dec_lt}
@@ -147,8 +147,8 @@ bit_one_if (suc (suc a)) h = absurd (not-suc-le-zero (le_of_suc-le-suc (le_of_su
 pub ones_count : (k x : ℕ) → x < 2 ^ k → ones x ≡ count_to k (has x)
 ones_count k x h = ones_sum k x h ∙ sum_ext k (λ i. bit x i) (λ i. one_if (has x i)) (λ i l. bit_one_if (bit x i) (bit_lt x i))
 
-pub masked_le : (k x g : ℕ) → g < 2 ^ k → ones (bit_and x g) ≤ k
-masked_le k x g h = ones-le k (bit_and x g) (lt_of_le_of_lt (and_le_r x g) h)
+pub masked_lt : (k x g : ℕ) → g < 2 ^ k → bit_and x g < 2 ^ k
+masked_lt k x g h = lt_of_le_of_lt (and_le_r x g) h
 
 -- ---- the number of a set
 

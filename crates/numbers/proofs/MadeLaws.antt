@@ -1,8 +1,8 @@
 -- An array that is made by a closure, place by place.
 use Rattle.std.specs.Prelude.{◌⊎◌, get_or}
-use Rattle.std.proofs.Common.{◌≡◌, ℕ, zero, suc, ◌+◌, ◌<◌, ◌≤◌, List, length, refl, sym, ◌∙◌, subst, arith, inl, inr, eq-or-lt_of_le}
-use Rattle.std.proofs.lemmas.List.{ext_get_or}
-use Rattle.std.specs.Array.{IsFromFnResultFrom, IsFromFnResult}
+use Rattle.std.proofs.Common.{◌≡◌, ℕ, zero, suc, ◌+◌, ◌<◌, ◌≤◌, List, length, replicate, refl, sym, ◌∙◌, subst, arith, inl, inr, eq-or-lt_of_le}
+use Rattle.std.proofs.lemmas.List.{ext_get_or, get_or-replicate, length-replicate}
+use Rattle.std.specs.Array.{IsFromFnResultFrom, IsFromFnResult, AllOfLen}
 use Rattle.std.specs.Fn.{Called}
 use denote.Param.Members.{Mut}
 
@@ -27,3 +27,7 @@ module _ {F B : Type 0} {g : Mut F (ℕ × Unit {0}) B} {f : F} {m : ℕ} (ys s 
     (gives : (x : ℕ) (y : B) (q : F) → x < m → Called g f (x, tt) y q → (q ≡ f) × (y ≡ get_or s x z)) where
   pub made : IsFromFnResult g f ys m → length s ≡ m → ys ≡ s
   made r l = ext_get_or z ys s (r.long ∙ sym l) (λ j h. made_at ys (λ x. get_or s x z) z gives r j (omega (arith, r.long)))
+
+-- an array of numbers made by default is all zeros
+pub made_zero : {n : ℕ} (xs : List ℕ) → AllOfLen (λ (x : ℕ). x ≡ 0) xs n → xs ≡ replicate n 0
+made_zero {n} xs r = ext_get_or 0 xs (replicate n 0) (r.long ∙ sym (length-replicate n 0)) (λ i h. r.at i 0 (omega (arith, r.long)) ∙ sym (get_or-replicate n i 0 0 (omega (arith, r.long))))

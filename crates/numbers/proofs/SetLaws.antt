@@ -1,16 +1,14 @@
 -- Sets as numbers: the members of an intersection, a union, a complement, a set moved one on; and the empty set.
 use Rattle.std.specs.Prelude.{◌≡◌, refl, Bool, true, false, cond, not, ◌&&◌, ◌||◌, ℕ, zero, suc, ◌+◌, ◌-◌, ◌*◌, ◌/◌, ◌%◌, ◌^◌, ◌≤◌, ◌<◌, min, max, bit_and, bit_or, eqb}
-use Rattle.std.proofs.Common.{sym, ap, ◌∙◌, suc-le-suc, lt_of_le_of_lt, one-mul, zero-mul, mod-eq_of_lt, pow-suc, add-one, arith, shr_lt, eqb-true}
+use Rattle.std.proofs.Common.{sym, ap, ◌∙◌, suc-le-suc, one-mul, zero-mul, mod-eq_of_lt, pow-suc, add-one, arith, shr_lt, eqb-true}
 use Rattle.std.proofs.lemmas.Bool.{eqb-false}
-use Rattle.std.proofs.lemmas.Nat.{and_le_r}
 use Rattle.std.proofs.Math.Arith.{lt-one}
 use Rattle.std.proofs.Math.Pow.{pow-lt}
 use Rattle.std.specs.Int.Bits.{or_shifted_r}
-use Rattle.std.specs.Int.Count.{ones}
 use Rattle.numbers.specs.Sum.{count_to, one_if}
 use Rattle.numbers.specs.Digits.{bit, has, number_of}
 use Rattle.numbers.proofs.SumLaws.{sum_ext}
-use Rattle.numbers.proofs.DigitLaws.{bit_lt, bit_zero, bit_suc, bit_of_and, bit_of_or, bit_not, bit_above, ones_count, bit_place, cond_lt, number_lt, number_has}
+use Rattle.numbers.proofs.DigitLaws.{bit_lt, bit_zero, bit_suc, bit_of_and, bit_of_or, bit_not, bit_above, bit_place, cond_lt, number_lt, number_has}
 
 min_one : (a b : ℕ) → a < 2 → b < 2 → eqb (min a b) 1 ≡ (eqb a 1 && eqb b 1)
 min_one zero zero h k = refl
@@ -42,10 +40,8 @@ pub has_or : (x y j : ℕ) → has (bit_or x y) j ≡ (has x j || has y j)
 has_or x y j = ap (λ (v : ℕ). eqb v 1) (bit_of_or x y j) ∙ max_one (bit x j) (bit y j) (bit_lt x j) (bit_lt y j)
 
 -- the ones of a column masked by a group of m nurses: how many of the m are in both
-pub masked_count : (m x g : ℕ) → g < 2 ^ m → ones (bit_and x g) ≡ count_to m (λ i. has x i && has g i)
-masked_count m x g h =
-    ones_count m (bit_and x g) (lt_of_le_of_lt (and_le_r x g) h)
-    ∙ sum_ext m (λ i. one_if (has (bit_and x g) i)) (λ i. one_if (has x i && has g i)) (λ i l. ap one_if (has_and x g i))
+pub masked_count : (m x g : ℕ) → count_to m (has (bit_and x g)) ≡ count_to m (λ i. has x i && has g i)
+masked_count m x g = sum_ext m (λ i. one_if (has (bit_and x g) i)) (λ i. one_if (has x i && has g i)) (λ i l. ap one_if (has_and x g i))
 
 -- `!x` of a number of k digits
 pub has_not : (k x j : ℕ) → x < 2 ^ k → j < k → has ((2 ^ k - 1) - x) j ≡ not (has x j)

@@ -55,12 +55,6 @@ impl Set for u64 {
     }
 }
 
-pub fn one_if(b: bool) -> u64
-    ensures { (result ≡ one_if b) × (result ≤ 1) }
-{
-    u64::from(b)
-}
-
 // The set of i alone.
 pub fn bit(i: u64) -> u32
     requires { i < 32 }
@@ -83,7 +77,7 @@ pub fn set_of<F: Fn(usize) -> bool>(n: usize, test: F) -> u64
     set
 }
 
-// How many are in the column.
+// How many are in the column: `ones` of 64 places, with the bound that sums of it want.
 pub fn on_duty(column: u64) -> u64
     ensures { Is result (count_to 64 (has column)) 64 }
 {
@@ -94,7 +88,7 @@ pub fn on_duty(column: u64) -> u64
 pub fn members(column: u64, group: u64) -> u64
     ensures { Is result (count_to 64 (λ i. has column i && has group i)) 64 }
 {
-    u64::count_ones(column & group) as u64
+    (column & group).ones()
 }
 
 // The column with i put in or taken out.

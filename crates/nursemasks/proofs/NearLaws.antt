@@ -1,6 +1,6 @@
 -- Where last month's run does not matter: a pattern with no start on the days near to it keeps the rule after it does alone.
 use Rattle.std.specs.Prelude.{◌≡◌, refl, Bool, true, false, cond, not, ◌&&◌, List, [], ◌∷◌, ℕ, zero, suc, ◌+◌, ◌-◌, ◌^◌, ◌≤◌, ◌<◌, bit_and, leb, eqb, length, get_or}
-use Rattle.std.proofs.Common.{sym, ap, ap₂, ◌∙◌, arith, pow_pos, eqb-true, eq-eqb, ne_eqb, le-leb, lt-ltb}
+use Rattle.std.proofs.Common.{sym, ap, ap₂, ◌∙◌, arith, pow_pos, eqb-true, eq-eqb, ne_eqb, le-leb, lt-ltb, true≢false}
 use Rattle.std.proofs.lemmas.Bool.{eqb-false, lt-leb, and_parts}
 use Rattle.std.proofs.Math.Bool.{and-true, and-false}
 use Rattle.std.proofs.Math.Decide.{dec_lt}
@@ -84,11 +84,11 @@ no_start k p d e l =
     ∙ ap (λ (y : ℕ). has y d) e ∙ has_above 0 0 d (omega arith) (omega arith)
 
 late_start : (k p s : ℕ) → bit_and p (2 ^ k - 1) ≡ 0 → started p s ≡ true → k + 8 ≤ s + 7
-late_start k p zero e h = let z : ◌≡◌ {A = ℕ} 0 1 = cc in absurd (omega arith)
+late_start k p zero e h = absurd (true≢false (sym h))
 late_start k p (suc d) e h = go (dec_lt d k)
   where
     go : Dec (d < k) → k + 8 ≤ suc d + 7
-    go (yes l) = let q = no_start k p d e l in let z : ◌≡◌ {A = ℕ} 0 1 = cc in absurd (omega arith)
+    go (yes l) = absurd (true≢false (sym h ∙ no_start k p d e l))
     go (no l) = omega arith
 
 first_late : (k p n s : ℕ) (ss : List ℕ) → bit_and p (2 ^ k - 1) ≡ 0 → starts n p ≡ s ∷ ss → k + 8 ≤ s + 7

@@ -14,8 +14,8 @@ ghost use Rattle.nights.specs.Hers.{hers_of};
 ghost use Rattle.nursemasks.specs.CodePairs.{BusyDays};
 ghost use Rattle.nursemasks.specs.CodeMasks.{barred, workable, near, bars_of, masks_by, masks_of, Masked, RowOf, AvailableDays};
 
-use fields::Body;
 use fields::nurse::Nurse;
+use fields::{Body, WardNurse};
 use nights::Run;
 use numbers::Set;
 use rows::State;
@@ -47,14 +47,12 @@ pub struct Masks {
     pub most: u64,
 }
 
-// Nurse i's masks in her ward.
+// A nurse of a ward with her masks.
 #[derive(Clone, Copy)]
 pub struct NurseMasks<'a> {
-    pub ward: &'a Body<'a>,
-    pub nurse: usize,
+    pub nurse: WardNurse<'a>,
     pub masks: Masks,
-    pub ghost in_ward: { nurse < nurses ward.now.numbers.now },
-    pub ghost hers: { masks ≡ masks_of (rules_of ward.now.numbers.now) (days ward.now.numbers.now) (block ward.now.numbers.now nurse) },
+    pub ghost hers: { masks ≡ masks_of (rules_of nurse.ward.numbers.now) (days nurse.ward.numbers.now) (block nurse.ward.numbers.now nurse.index) },
     pub ghost small: { Masked masks },
 }
 
@@ -101,21 +99,22 @@ fn near_days(w: &Body, last: Run) -> u64
     (last.prev + w.rules().gap_after(last.run)).saturating_sub(5)
 }
 
-// The masks of the nurse with these numbers, by such a table.
-fn masks_by(table: &[[u8; 4]; 7], w: &Body, b: &Nurse) -> Masks
-    ensures is { result ≡ masks_by table.now (rules_of w.now.numbers.now) b.now.days b.now.numbers.now }
+// Her masks by such a table.
+fn masks_by(table: &[[u8; 4]; 7], her: &WardNurse) -> Masks
+    ensures is { result ≡ masks_by table.now (rules_of her.now.ward.numbers.now) (days her.now.ward.numbers.now) (block her.now.ward.numbers.now her.now.index) }
     ensures small { Masked result }
 {
-    let bars = bars_of(table, b);
+    let b = her.numbers();
+    let bars = bars_of(table, &b);
     let last = nights::last_run(b.numbers);
-    let near = numbers::bit(near_days(w, last)) - 1;
+    let near = numbers::bit(near_days(&her.ward, last)) - 1;
     let never = ((bars.night / 2) | (bars.second / 4)) as u32;
     Masks {
         bars,
         never,
-        workable: workable_days(b),
-        night: numbers::one_if(b.last_duty() == 2),
-        second: numbers::one_if(b.last_duty() == 3),
+        workable: workable_days(&b),
+        night: u64::from(b.last_duty() == 2),
+        second: u64::from(b.last_duty() == 3),
         near,
         last,
         least: b.least_nights(),
@@ -123,17 +122,12 @@ fn masks_by(table: &[[u8; 4]; 7], w: &Body, b: &Nurse) -> Masks
     }
 }
 
-pub fn masks_of<'a>(w: &'a Body<'a>, i: usize) -> NurseMasks<'a>
-    requires { i < nurses w.now.numbers.now }
-    ensures { (result.ward.now ≡ w.now) × (result.nurse ≡ i) }
+pub fn masks_of<'a>(her: &WardNurse<'a>) -> NurseMasks<'a>
+    ensures { result.nurse ≡ her.now }
 {
     let table = rows::allow_table();
-    let masks = masks_by(&table, w, &w.nurse(i));
-    NurseMasks {
-        ward: w,
-        nurse: i,
-        masks,
-    }
+    let masks = masks_by(&table, her);
+    NurseMasks { nurse: *her, masks }
 }
 
 // The days of a row, day 0 with them: N, n and R.
@@ -144,7 +138,8 @@ pub struct Row {
     pub rest: u64,
 }
 
-// By masks alone, which may be those of any numbers; `NurseMasks` has whose they are.
+// Asked of masks alone, which are public and may be those of any numbers: a ghost field would ask `Masked` of whoever makes any, where
+// these methods alone ask it. `NurseMasks` has it, and whose they are.
 impl Masks {
     // The row of p.
     fn row_of(&self, p: u32) -> Row
@@ -226,7 +221,7 @@ impl NurseMasks<'_> {
     // The days on which she is available under p, as a pattern.
     #[inline(always)]
     pub fn available_days(&self, p: u32) -> u32
-        ensures { AvailableDays (block self.now.ward.now.numbers.now self.now.nurse) (days self.now.ward.now.numbers.now) p result }
+        ensures { AvailableDays (block self.now.nurse.ward.numbers.now self.now.nurse.index) (days self.now.nurse.ward.numbers.now) p result }
     {
         self.masks.available_days(p)
     }
@@ -234,7 +229,7 @@ impl NurseMasks<'_> {
     // The N and n days under p, as a pattern.
     #[inline(always)]
     pub fn busy_days(&self, p: u32) -> u32
-        ensures { BusyDays (block self.now.ward.now.numbers.now self.now.nurse) p result }
+        ensures { BusyDays (block self.now.nurse.ward.numbers.now self.now.nurse.index) p result }
     {
         self.masks.busy_days(p)
     }
@@ -242,8 +237,8 @@ impl NurseMasks<'_> {
     // Whether p of the common list is in her list.
     #[inline(always)]
     pub fn passes(&self, p: u32) -> bool
-        ensures { p < 2 ^ days self.now.ward.now.numbers.now → in_common (rules_of self.now.ward.now.numbers.now) (days self.now.ward.now.numbers.now) p ≡ true → result ≡ hers_of self.now.ward.now.numbers.now self.now.nurse p }
+        ensures { p < 2 ^ days self.now.nurse.ward.numbers.now → in_common (rules_of self.now.nurse.ward.numbers.now) (days self.now.nurse.ward.numbers.now) p ≡ true → result ≡ hers_of self.now.nurse.ward.numbers.now self.now.nurse.index p }
     {
-        self.masks.passes(self.ward, p)
+        self.masks.passes(&self.nurse.ward, p)
     }
 }

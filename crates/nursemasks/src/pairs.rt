@@ -6,7 +6,7 @@ ghost use Rattle.fields.specs.Fields.{Accepted, nurses, pair_count, block};
 ghost use Rattle.rows.specs.Pairs.{pair_numbers, pair_fits};
 ghost use Rattle.nursemasks.specs.CodePairs.{PairDays, PairsOf, BusyDays};
 
-use fields::Body;
+use fields::WardNurse;
 use fields::sizes::PAIRS;
 
 // How many there are, and the days of each, from 1: none where her marks rule the pair out. An array, since there is no heap.
@@ -16,30 +16,29 @@ pub struct Pairs {
     pub days: [u32; PAIRS],
 }
 
-// The days of pair k, or none where nurse i's marks rule it out.
-fn days_of(w: &Body, i: usize, k: usize) -> u32
-    requires { (i < nurses w.now.numbers.now) × (1 ≤ k) × (k ≤ pair_count w.now.numbers.now) }
-    ensures { PairDays w.now.numbers.now i k result }
+// The days of pair k, or none where her marks rule it out.
+fn days_of(her: &WardNurse, k: usize) -> u32
+    requires { (1 ≤ k) × (k ≤ pair_count her.now.ward.numbers.now) }
+    ensures { PairDays her.now.ward.numbers.now her.now.index k result }
 {
-    let b = w.nurse(i);
-    let second = w.pair_day(k) as usize;
+    let b = her.numbers();
+    let second = her.ward.pair_day(k) as usize;
     if rows::pairs::is_rest_mark(b.mark(second - 1)) {
         if rows::pairs::is_rest_mark(b.mark(second)) {
-            return rows::pairs::pair_days(w, k);
+            return rows::pairs::pair_days(&her.ward, k);
         }
     }
     0
 }
 
-// Nurse i's pairs.
-pub fn pairs_of(w: &Body, i: usize) -> Pairs
-    requires { i < nurses w.now.numbers.now }
-    ensures { PairsOf w.now.numbers.now i result }
+// Her pairs.
+pub fn pairs_of(her: &WardNurse) -> Pairs
+    ensures { PairsOf her.now.ward.numbers.now her.now.index result }
 {
-    let count = w.pair_count();
+    let count = her.ward.pair_count();
     let mut days = [0u32; PAIRS];
     for k in 1..=count {
-        days[k] = days_of(w, i, k);
+        days[k] = days_of(her, k);
     }
     Pairs { count, days }
 }
@@ -56,5 +55,5 @@ pub fn any_fits(x: Pairs, busy: u32) -> bool
     requires { x.count ≤ pair_most }
     ensures { (w : List ℕ) (i p : ℕ) → Accepted w → PairsOf w i x → BusyDays (block w i) p busy → result ≡ any_of (pair_fits w i p) (pair_numbers w) }
 {
-    x.count == 0 || (1..x.count + 1).any(|k| fits(x.days[k], busy))
+    x.count == 0 || x.days[1..=x.count].iter().any(|days| fits(*days, busy))
 }

@@ -1,8 +1,9 @@
 -- What an advance hands back and leaves, by whether a question refuses it.
-use Rattle.std.specs.Prelude.{ℕ, ◌+◌, ◌≤◌, ◌≡◌, refl, Bool, List, ◌++◌, length, take, drop}
+use Rattle.std.specs.Prelude.{ℕ, ◌+◌, ◌≤◌, ◌≡◌, refl, Bool, List, [], ◌++◌, length, take, drop, replicate}
 use Rattle.std.proofs.Common.{sym, ap, ap₂, ◌∙◌, arith, length-append, take_at}
 use Rattle.std.proofs.Math.Option.{none, some}
 use Rattle.std.specs.declared.result.Result.{Result}
+use Rattle.fields.specs.Sizes.{letter_places}
 use Rattle.std.specs.declared.result.Result.TheVariants.{Ok, Err}
 use Rattle.search.specs.declared.Record.{Record as Stored}
 use Rattle.search.specs.declared.Advanced.{Advanced}
@@ -42,6 +43,11 @@ pub finished_as : (P : Phase) (x : Advanced) {roster : Roster} → roster ≡ ro
     → Ok (record { after = x.after; penalty = x.penalty; steps = x.steps; ending = x.ending; roster = roster }) ≡ advance_of (answer_of P x, x.after)
 unfolding advance_of
 finished_as P x q = ap₂ (λ (y : Ending) (z : Roster). Ok (record { after = x.after; penalty = x.penalty; steps = x.steps; ending = y; roster = z })) (ending_back x.ending) q
+
+-- a roster of no letters
+pub roster_none : {r : Roster} → r.letters ≡ replicate letter_places 0 → r.count ≡ 0 → r ≡ roster_of []
+unfolding roster_of
+roster_none e q = ap₂ (λ (l : List ℕ) (n : ℕ). record { letters = l; count = n }) e q
 
 -- a call's result and what it leaves
 module _ (P : Phase) (r : Stored) (k : ℕ) (past_zero : Bool) (L buffer : List ℕ) where

@@ -1,17 +1,17 @@
 // What an advance and the check hand back where no question refuses them.
 #![tactic(auto)]
 
-ghost use Rattle.std.specs.Prelude.{◌≡◌, []};
+ghost use Rattle.std.specs.Prelude.{◌≡◌};
 ghost use Rattle.history.specs.Phase.{Phase};
 ghost use Rattle.search.specs.CodeSeek.{answer_of};
 ghost use Rattle.outcomes.specs.Outcomes.{roster_of, letters_of, advance_of};
 
-use fields::sizes::LETTERS;
 use letters::written::Roster;
 use search::{Advanced, Ending, Record};
 
 // The record after an advance, its penalty, the steps made by the advance, how it ended, and the roster: by day its letters and
-// their count where the advance leaves penalty zero, else 0.
+// their count where the advance leaves penalty zero, else 0, as C's words have it, and so no Option. Flat: an `Advanced` in it would put a second name
+// before each part for every caller of the published calls.
 #[derive(Clone, Copy)]
 pub struct Advance {
     pub after: Record,
@@ -26,16 +26,6 @@ pub struct Advance {
 pub enum Verdict {
     Passed,
     Broken,
-}
-
-#[tactic(auto, unfolding(crate::specs::Outcomes::roster_of))]
-pub fn no_roster() -> Roster
-    ensures { result ≡ roster_of [] }
-{
-    Roster {
-        letters: [0; LETTERS],
-        count: 0,
-    }
 }
 
 // What an advance that ran comes to, with the roster that it gives out.

@@ -1,7 +1,6 @@
--- A nurse's own patterns of the common list, written one after the other; and everyone's stretches, of which each begins where the last one ends.
-use Rattle.std.specs.Prelude.{◌≡◌, refl, Bool, true, false, cond, List, [], ◌∷◌, ◌++◌, ℕ, suc, ◌+◌, ◌-◌, ◌*◌, ◌/◌, ◌≤◌, ◌<◌, eqb, length, get_or, set, take, drop}
-use Rattle.std.proofs.Common.{sym, ap, ◌∙◌, subst, append-nil, append_assoc, add-one, arith, eqb-true, length-append, length-set, length-drop, take-append-drop, take-suc, take_all, take_at, drop_at, drop-cons, length-take-le, get_or-set_same, get_or-set_other}
-use Rattle.std.proofs.lemmas.List.{take-append-le, drop-append-le}
+-- A nurse's own patterns of the common list, written one after the other; and everyone's parts of a buffer.
+use Rattle.std.specs.Prelude.{◌≡◌, refl, Bool, true, false, cond, List, [], ◌∷◌, ◌++◌, ℕ, suc, ◌+◌, ◌*◌, ◌/◌, ◌≤◌, ◌<◌, eqb, length, get_or, set, take, drop}
+use Rattle.std.proofs.Common.{sym, ap, ◌∙◌, subst, append-nil, add-one, arith, eqb-true, length-append, length-set, take-suc, take_all, take_at, drop-cons, get_or-set_same, get_or-set_other}
 use Rattle.std.proofs.Math.Decide.{dec_lt}
 use Rattle.std.proofs.Math.Seq.{append_snoc, set-append_seam}
 use Rattle.numbers.specs.Digits.{has, number_of}
@@ -18,9 +17,9 @@ use Rattle.nursemasks.specs.declared.masks.Masks.{Masks}
 use Rattle.nursemasks.specs.CodeMasks.{workable, masks_by, masks_of}
 use Rattle.trials.specs.CodeTrials.{before_of, WorkableDays}
 use Rattle.ownlists.specs.declared.Source.{Source}
-use Rattle.ownlists.specs.declared.Source.TheVariants.{Kept, Whole, Among}
+use Rattle.ownlists.specs.declared.Source.TheVariants.{Whole, Among}
 use Rattle.ownlists.specs.declared.OwnList.{OwnList}
-use Rattle.ownlists.specs.CodeOwn.{stretch_from, SourceAt, OwnAt, OwnLists, no_list}
+use Rattle.ownlists.specs.CodeOwn.{SourceAt, OwnAt, OwnLists, no_list}
 
 -- ---- what a test keeps of a list, written from a buffer's start
 
@@ -154,54 +153,21 @@ module _ (w : List ℕ) (i : ℕ) {masks : Masks} (m : masks ≡ masks_of (rules
       go false true p q = refl
       go false false p q = refl
 
--- ---- stretches
-
--- a stretch within the front part
-stretch_front : (b e : ℕ) (xs rest : List ℕ) → b ≤ e → e ≤ length xs → take (e - b) (drop b (xs ++ rest)) ≡ take (e - b) (drop b xs)
-stretch_front b e xs rest l h =
-    ap (take (e - b)) (drop-append-le b xs rest (omega arith)) ∙ take-append-le (e - b) (drop b xs) rest (simp length-drop (omega arith))
-
--- the one after it
-stretch_next : (xs F ys rest : List ℕ) (at count : ℕ) → length xs ≡ at → length F ≡ count → take (at + count - at) (drop at (xs ++ ((F ++ ys) ++ rest))) ≡ F
-stretch_next xs F ys rest at count l c =
-    let n : at + count - at ≡ count = omega arith in
-    rw (n, drop_at xs ((F ++ ys) ++ rest) at l, append_assoc F ys rest) (take_at F (ys ++ rest) count c)
-
 -- ---- everyone's
 
--- the first i have theirs, kept up to `at`
-pub record OwnTo (w list before : List ℕ) (at i : ℕ) (own : List ℕ) (r : List OwnList) : Type 0 where
+-- the first i have theirs
+pub record OwnTo (w list : List ℕ) (i : ℕ) (r : List OwnList) : Type 0 where
   pub i_most : i ≤ nurses w
-  pub at_most : at ≤ length own
-  pub long : length own ≡ length before
   pub sized : length r ≡ nurse_places
-  pub each : (j : ℕ) → j < i → OwnAt w list own at j (get_or r j no_list)
+  pub each : (j : ℕ) → j < i → OwnAt w list j (get_or r j no_list)
 
-pub begin : (w list before : List ℕ) (r : List OwnList) → length r ≡ nurse_places → OwnTo w list before 0 0 before r
-begin w list before r sized = record {
-  i_most = omega arith;
-  at_most = omega arith;
-  long = refl;
-  sized = sized;
-  each = λ j l. absurd (omega arith);
-}
+pub begin : (w list : List ℕ) (r : List OwnList) → length r ≡ nurse_places → OwnTo w list 0 r
+begin w list r sized = record { i_most = omega arith; sized = sized; each = λ j l. absurd (omega arith) }
 
-pub everyone : {w list before : List ℕ} {at i : ℕ} {own : List ℕ} {r : List OwnList} → OwnTo w list before at i own r → nurses w ≤ i → OwnLists w list own r
-everyone {w} {list} {before} {at} {i} {own} {r} z l = record { each = λ j h. go j (get_or r j no_list) (z.each j (omega arith)) }
-  where
-    within : (j : ℕ) (s : Source) → SourceAt w list own at j s → SourceAt w list own (length own) j s
-    within j (Kept b e) k = record { begins = k.begins; finishes = omega (arith, k.finishes, z.at_most); stretch = k.stretch }
-    within j Whole k = k
-    within j Among k = k
+pub everyone : {w list : List ℕ} {i : ℕ} {r : List OwnList} → OwnTo w list i r → nurses w ≤ i → OwnLists w list r
+everyone z l = record { each = λ j h. z.each j (omega arith) }
 
-    go : (j : ℕ) (x : OwnList) → OwnAt w list own at j x → OwnAt w list own (length own) j x
-    go j x a = record { source_is = within j x.source a.source_is; workable_are = a.workable_are; before_is = a.before_is }
-
--- the buffer's part behind `at`, lent and given back
-abbrev pub behind : ℕ → List ℕ → List ℕ
-behind at own = take (length own - at) (drop at own)
-
--- what is then in it, and how many, for nurse i with these masks
+-- what is then in the buffer's part, and how many, for nurse i with these masks
 pub record Filled (w list : List ℕ) (i : ℕ) (masks : Masks) (before after : List ℕ) (count : ℕ) : Type 0 where
   pub hers : masks ≡ masks_of (rules_of w) (days w) (block w i)
   pub counted : count ≡ length (filter (hers_of w i) list)
@@ -211,65 +177,35 @@ pub filled_as : {v w list : List ℕ} {j i : ℕ} {masks : Masks} {before after 
 filled_as {v} {w} {list} {j} {i} {masks} {before} {after} {count} e f h =
     subst (λ (x : List ℕ). Filled x list i masks before after count) e (subst (λ (k : ℕ). Filled v list k masks before after count) f h)
 
-pub record Back (at : ℕ) (own ys own' : List ℕ) : Type 0 where
-  pub back_is : own' ≡ take at own ++ (ys ++ drop (length own - at) (drop at own))
-  pub same : length own' ≡ length own
+module _ {w list : List ℕ} {i : ℕ} {masks : Masks} {before after : List ℕ} {count : ℕ} (filled : Filled w list i masks before after count) where
+  -- kept, in the first part of the buffer
+  pub kept_hers : {kept : List ℕ} → kept ≡ take count after → count ≤ length before → kept ≡ filter (hers_of w i) list
+  kept_hers e room = e ∙ ap (take count) (filled.written room) ∙ take_at (filter (hers_of w i) list) (drop count before) count (sym filled.counted)
 
--- one nurse more
-module _ {w list before : List ℕ} {at i : ℕ} {own : List ℕ} {r : List OwnList} (z : OwnTo w list before at i own r) {ys own' : List ℕ} (back : Back at own ys own') where
-  front_long : length (take at own) ≡ at
-  front_long = length-take-le at own z.at_most
-
-  -- those before her keep theirs
-  front_same : (b e : ℕ) → b ≤ e → e ≤ at → stretch_from own' b e ≡ stretch_from own b e
-  front_same b e l h =
-      let inside : e ≤ length (take at own) = rw front_long h in
-      ap (λ (xs : List ℕ). stretch_from xs b e) back.back_is
-      ∙ stretch_front b e (take at own) (ys ++ drop (length own - at) (drop at own)) l inside
-      ∙ sym (stretch_front b e (take at own) (drop at own) l inside)
-      ∙ ap (λ (xs : List ℕ). stretch_from xs b e) (take-append-drop at own)
-
-  stays : {next : ℕ} (j : ℕ) (s : Source) → at ≤ next → SourceAt w list own at j s → SourceAt w list own' next j s
-  stays j (Kept b e) l k = record { begins = k.begins; finishes = omega (arith, k.finishes); stretch = front_same b e k.begins k.finishes ∙ k.stretch }
-  stays j Whole l k = k
-  stays j Among l k = k
-
-  module _ (l : i < nurses w) (few : nurses w ≤ nurse_places) {next : ℕ} {x : OwnList} (ahead : at ≤ next) (fits : next ≤ length own) (hers : OwnAt w list own' next i x) where
-    one_nurse : OwnTo w list before next (i + 1) own' (set r i x)
-    one_nurse = record {
-      i_most = omega arith;
-      at_most = omega (arith, back.same);
-      long = back.same ∙ z.long;
-      sized = length-set r i x ∙ z.sized;
-      each = λ j m. go j m (dec_lt j i);
-    }
-      where
-        go : (j : ℕ) → j < i + 1 → Dec (j < i) → OwnAt w list own' next j (get_or (set r i x) j no_list)
-        go j m (yes q) =
-            let a = z.each j q in
-            rw (get_or-set_other r i j x no_list (λ s. omega arith)) (record { source_is = stays j (get_or r j no_list).source ahead a.source_is; workable_are = a.workable_are; before_is = a.before_is })
-        go j m (no q) =
-            let s : j ≡ i = omega arith in
-            rw (s, get_or-set_same r i x no_list (omega (arith, z.sized))) hers
+  pub unkept_at : {s : Source} → s ≡ cond (eqb count (length list)) Whole Among → SourceAt w list i s
+  unkept_at {s} e = rw e (go (eqb count (length list)) refl)
+    where
+      go : (b : Bool) → eqb count (length list) ≡ b → SourceAt w list i (cond b Whole Among)
+      go true q = filter_whole (hers_of w i) list (sym filled.counted ∙ eqb-true count (length list) q)
+      go false q = tt
 
   -- as the code stores it
-  module _ {masks : Masks} {count : ℕ} (filled : Filled w list i masks (behind at own) ys count) (l : i < nurses w) (few : nurses w ≤ nurse_places) where
-    abbrev listed : Source → OwnList
-    listed s = record { source = s; workable = masks.workable / 2; before = 2 * masks.night + masks.second }
+  abbrev listed : Source → OwnList
+  listed s = record { source = s; workable = masks.workable / 2; before = 2 * masks.night + masks.second }
 
-    hers : {next : ℕ} {s : Source} → SourceAt w list own' next i s → OwnAt w list own' next i (listed s)
-    hers is = record { source_is = is; workable_are = work_are w i filled.hers; before_is = before_are w i filled.hers }
+  -- one nurse more
+  pub nurse_more : {r : List OwnList} (s : Source) → OwnTo w list i r → i < nurses w → nurses w ≤ nurse_places → SourceAt w list i s → OwnTo w list (i + 1) (set r i (listed s))
+  nurse_more {r} s z l few is = record {
+    i_most = omega arith;
+    sized = length-set r i (listed s) ∙ z.sized;
+    each = λ j m. go j m (dec_lt j i);
+  }
+    where
+      hers : OwnAt w list i (listed s)
+      hers = record { source_is = is; workable_are = work_are w i filled.hers; before_is = before_are w i filled.hers }
 
-    pub nurse_kept : {s : Source} {next : ℕ} → s ≡ Kept at (at + count) → next ≡ at + count → count ≤ length own - at → OwnTo w list before next (i + 1) own' (set r i (listed s))
-    nurse_kept {s} {next} e n room =
-        let long : length (behind at own) ≡ length own - at = length-take-le (length own - at) (drop at own) (simp length-drop (omega arith)) in
-        let is : stretch_from own' at (at + count) ≡ filter (hers_of w i) list = rw (back.back_is, filled.written (omega arith))
-        (stretch_next (take at own) (filter (hers_of w i) list) (drop count (behind at own)) (drop (length own - at) (drop at own)) at count front_long (sym filled.counted)) in
-        rw (e, n) (one_nurse l few (omega arith) (omega (arith, z.at_most)) (hers (record { begins = omega arith; finishes = omega arith; stretch = is })))
-
-    unkept_is : (b : Bool) → eqb count (length list) ≡ b → SourceAt w list own' at i (cond b Whole Among)
-    unkept_is true e = filter_whole (hers_of w i) list (sym filled.counted ∙ eqb-true count (length list) e)
-    unkept_is false e = tt
-
-    pub nurse_over : {s : Source} {next : ℕ} → s ≡ cond (eqb count (length list)) Whole Among → next ≡ at → OwnTo w list before next (i + 1) own' (set r i (listed s))
-    nurse_over {s} {next} e n = rw (e, n) (one_nurse l few (omega arith) z.at_most (hers (unkept_is (eqb count (length list)) refl)))
+      go : (j : ℕ) → j < i + 1 → Dec (j < i) → OwnAt w list j (get_or (set r i (listed s)) j no_list)
+      go j m (yes q) = rw (get_or-set_other r i j (listed s) no_list (λ s. omega arith)) (z.each j q)
+      go j m (no q) =
+          let same : j ≡ i = omega arith in
+          rw (same, get_or-set_same r i (listed s) no_list (omega (arith, z.sized))) hers

@@ -1,9 +1,11 @@
 -- Columns: what a nurse put in changes, how they come to show all nurses, and that counts over their 64 places are counts over the nurses.
-use Rattle.std.specs.Prelude.{◌≡◌, refl, Bool, true, false, cond, ◌&&◌, List, ℕ, zero, suc, ◌+◌, ◌-◌, ◌≤◌, ◌<◌, eqb, length, get_or, set as set_at, replicate}
-use Rattle.std.proofs.Common.{sym, ap, ap₂, ◌∙◌, ⊎_elim, add-sub_of_le, not-suc-le-zero, eq-or-lt_of_le, le_of_suc-le-suc, add-one, arith, length-set, get_or-set_same, get_or-set_other, ne_eqb, eq-eqb, eqb-true}
+use Rattle.std.specs.Prelude.{◌≡◌, refl, Bool, true, false, cond, ◌&&◌, List, ℕ, zero, suc, ◌+◌, ◌-◌, ◌≤◌, ◌<◌, eqb, length, get_or, set as set_at, replicate, ◌++◌, take, drop}
+use Rattle.std.proofs.Common.{sym, ap, ap₂, ◌∙◌, ⊎_elim, add-sub_of_le, not-suc-le-zero, eq-or-lt_of_le, le_of_suc-le-suc, add-one, arith, length-set, get_or-set_same, get_or-set_other, ne_eqb, eq-eqb, eqb-true, get_or-take, length-take-le}
 use Rattle.std.proofs.lemmas.Bool.{eqb-false}
+use Rattle.std.proofs.lemmas.List.{get_or_append_left}
+use Rattle.std.proofs.Math.Decide.{dec_lt}
+use Rattle.std.proofs.Math.ListN.{get_or-eq_default}
 use Rattle.std.proofs.Math.Option.{some}
-use Rattle.fields.specs.Sizes.{day_places}
 use Rattle.numbers.specs.Sum.{count_to, one_if}
 use Rattle.numbers.specs.Digits.{has, put}
 use Rattle.numbers.proofs.SumLaws.{sum_ext, sum_cut}
@@ -72,14 +74,14 @@ same_put m i f g on on' s e l o = record {
 
 -- the first d columns of l are done, the others are as in l₀
 pub record PutUpTo (l₀ l : List ℕ) (i set d : ℕ) : Type 0 where
-  pub long : length l ≡ day_places
+  pub long : length l ≡ length l₀
   pub done : (e : ℕ) → e < d → PutAt l₀ l i set e
   pub left : (e : ℕ) → d ≤ e → get_or l e 0 ≡ get_or l₀ e 0
 
-pub put_start : (l : List ℕ) (i set : ℕ) → length l ≡ day_places → PutUpTo l l i set 0
-put_start l i set h = record { long = h; done = λ e q. absurd (not-suc-le-zero q); left = λ e q. refl }
+pub put_start : (l : List ℕ) (i set : ℕ) → PutUpTo l l i set 0
+put_start l i set = record { long = refl; done = λ e q. absurd (not-suc-le-zero q); left = λ e q. refl }
 
-pub put_turn : (l₀ l : List ℕ) (i set d a : ℕ) {x : Bool} → PutUpTo l₀ l i set d → d < day_places → x ≡ has set d → has a ≡ put (has (get_or l d 0)) i x
+pub put_turn : (l₀ l : List ℕ) (i set d a : ℕ) {x : Bool} → PutUpTo l₀ l i set d → d < length l₀ → x ≡ has set d → has a ≡ put (has (get_or l d 0)) i x
     → PutUpTo l₀ (set_at l d a) i set (d + 1)
 put_turn l₀ l i set d a {x} p h ex ea = record {
   long = length-set l d a ∙ p.long;
@@ -95,10 +97,25 @@ put_turn l₀ l i set d a {x} p h ex ea = record {
     there : (e : ℕ) → e < d → PutAt l₀ (set_at l d a) i set e
     there e s = ap has (get_or-set_other l d e a 0 (λ t. omega arith)) ∙ p.done e s
 
+-- the first n columns are lent, and stand before the others again
+pub put_end : (l₀ l : List ℕ) (i set n d : ℕ) → PutUpTo (take n l₀) l i set d → n ≤ length l₀ → length (take n l₀) ≤ d
+    → (e : ℕ) → e < n → PutAt l₀ (l ++ drop n l₀) i set e
+put_end l₀ l i set n d p h q e s =
+    let long : length l ≡ n = p.long ∙ length-take-le n l₀ h in
+    rw (get_or_append_left l (drop n l₀) 0 e (omega arith), sym (get_or-take n l₀ e 0 s)) (p.done e (omega (arith, length-take-le n l₀ h)))
+
 pub zeros : (n d : ℕ) → ◌≡◌ {A = ℕ} (get_or (replicate n 0) d 0) 0
 zeros zero d = refl
 zeros (suc n) zero = refl
 zeros (suc n) (suc d) = zeros n d
+
+-- a list of zeros is 0 past its end too
+pub zeros_all : (l : List ℕ) (n : ℕ) → length l ≡ n → ((d : ℕ) → d < n → get_or l d 0 ≡ 0) → (d : ℕ) → get_or l d 0 ≡ 0
+zeros_all l n long e d = go (dec_lt d n)
+  where
+    go : Dec (d < n) → get_or l d 0 ≡ 0
+    go (yes h) = e d h
+    go (no h) = get_or-eq_default l 0 (omega arith)
 
 -- ---- the columns of a choice of slots
 

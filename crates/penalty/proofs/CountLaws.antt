@@ -8,11 +8,10 @@ use Rattle.numbers.proofs.DigitLaws.{count_put, count_put_all}
 use Rattle.fields.specs.Fields.{Accepted, nurses, days, groups, weight, member_sets, needs, need, low, high}
 use Rattle.penalty.specs.Weights.{Weights}
 use Rattle.penalty.specs.declared.duty.Duty.{Duty}
-use Rattle.penalty.specs.declared.Penalty.{Penalty}
 use Rattle.history.specs.declared.Search.{Search}
 use Rattle.history.specs.declared.Search.TheVariants.{Nights, Days}
 use Rattle.history.specs.Slot.{Slot}
-use Rattle.penalty.specs.Penalty.{parts_of, on_duty, members, short_on, over_on, unplaced_in, at_night, available_in, at_day, night_parts, day_parts, parts_in}
+use Rattle.penalty.specs.Penalty.{Parts, on_duty, members, short_on, over_on, unplaced_in, at_night, available_in, at_day, night_parts, day_parts, parts_in}
 use Rattle.penalty.specs.CodeCounts.{weights_of, no_high, members_in, need_term, low_term, high_term, group_term, duty_short, duty_over, duty_cost, short_in, over_in, DayCounts}
 use Rattle.penalty.specs.CodeColumns.{Same, DayShows, AllShow}
 use Rattle.fields.proofs.FieldLaws.{length_member_sets}
@@ -78,12 +77,11 @@ over_day Nights w slots d = over_on w 0 (at_night w slots d) d
 over_day Days w slots d = over_on w 1 (at_day w slots d) d
 
 -- the first d days are summed up; they are the slots' days where all columns show the slots
-pub record MonthSums (which : Search) (w : List ℕ) (gives : ℕ → ℕ × ℕ → Type 0) (unplaced d : ℕ) (p : Penalty) : Type 0 where
-  pub short_most : p.short ≤ 163200 * d
-  pub over_most : p.over ≤ 104000 * d
-  pub unplaced_is : p.unplaced ≡ unplaced
-  pub short_sum : (slots : ℕ → Slot) → AllShow gives which w slots → p.short ≡ sum_to d (short_day which w slots)
-  pub over_sum : (slots : ℕ → Slot) → AllShow gives which w slots → p.over ≡ sum_to d (over_day which w slots)
+pub record MonthSums (which : Search) (w : List ℕ) (gives : ℕ → ℕ × ℕ → Type 0) (d short over : ℕ) : Type 0 where
+  pub short_most : short ≤ 163200 * d
+  pub over_most : over ≤ 104000 * d
+  pub short_sum : (slots : ℕ → Slot) → AllShow gives which w slots → short ≡ sum_to d (short_day which w slots)
+  pub over_sum : (slots : ℕ → Slot) → AllShow gives which w slots → over ≡ sum_to d (over_day which w slots)
 
 module _ (w : List ℕ) (a : Accepted w) (slots : ℕ → Slot) (d night day : ℕ) {t : Duty} where
   day_short : (which : Search) → DayCounts which w d night day t → DayShows which w slots d night day → t.short ≡ short_day which w slots d
@@ -96,22 +94,20 @@ module _ (w : List ℕ) (a : Accepted w) (slots : ℕ → Slot) (d night day : �
   day_over Nights c s = c.over_is.is ∙ over_same w a 0 d _ _ s.0
   day_over Days c s = c.over_is.is ∙ over_same w a 1 d _ _ s
 
-module _ (w : List ℕ) (which : Search) (gives : ℕ → ℕ × ℕ → Type 0) (u : ℕ) where
-  pub month_start : {p : Penalty} → p.short ≡ 0 → p.over ≡ 0 → p.unplaced ≡ u → MonthSums which w gives u 0 p
-  month_start e q h = record {
+module _ (w : List ℕ) (which : Search) (gives : ℕ → ℕ × ℕ → Type 0) where
+  pub month_start : MonthSums which w gives 0 0 0
+  month_start = record {
     short_most = omega arith;
     over_most = omega arith;
-    unplaced_is = h;
-    short_sum = λ slots s. e ∙ sym (sum_zero _);
-    over_sum = λ slots s. q ∙ sym (sum_zero _);
+    short_sum = λ slots s. sym (sum_zero _);
+    over_sum = λ slots s. sym (sum_zero _);
   }
 
-  pub month_turn : {d : ℕ} {c : ℕ × ℕ} {p : Penalty} {t : Duty} → Accepted w → MonthSums which w gives u d p → d < days w → gives d c → DayCounts which w d c.0 c.1 t
-      → MonthSums which w gives u (d + 1) (record { short = p.short + t.short; over = p.over + t.over; unplaced = p.unplaced })
+  pub month_turn : {d x y : ℕ} {c : ℕ × ℕ} {t : Duty} → Accepted w → MonthSums which w gives d x y → d < days w → gives d c → DayCounts which w d c.0 c.1 t
+      → MonthSums which w gives (d + 1) (x + t.short) (y + t.over)
   month_turn {d} {c} a h l g k = record {
     short_most = omega (arith, h.short_most, k.short_is.most);
     over_most = omega (arith, h.over_most, k.over_is.most);
-    unplaced_is = h.unplaced_is;
     short_sum = λ slots s. ap₂ (λ (x y : ℕ). x + y) (h.short_sum slots s) (day_short w a slots d c.0 c.1 which k (s d c l g)) ∙ sym (sum_suc d _);
     over_sum = λ slots s. ap₂ (λ (x y : ℕ). x + y) (h.over_sum slots s) (day_over w a slots d c.0 c.1 which k (s d c l g)) ∙ sym (sum_suc d _);
   }
@@ -133,10 +129,10 @@ unplaced_are w slots Nights = refl
 unplaced_are w slots Days = refl
 
 -- at the end they are the ward's
-pub month_parts : (w : List ℕ) (which : Search) (gives : ℕ → ℕ × ℕ → Type 0) (u : ℕ) {d : ℕ} {p : Penalty} → MonthSums which w gives u d p → d ≡ days w
-    → (slots : ℕ → Slot) → AllShow gives which w slots → u ≡ unplaced_in w slots → parts_of p ≡ parts_in which w slots
-month_parts w which gives u {d} h e slots s q =
+pub month_parts : (w : List ℕ) (which : Search) (gives : ℕ → ℕ × ℕ → Type 0) (u : ℕ) {d x y : ℕ} → MonthSums which w gives d x y → d ≡ days w
+    → (slots : ℕ → Slot) → AllShow gives which w slots → u ≡ unplaced_in w slots → ◌≡◌ {A = Parts} (record { short = x; over = y; unplaced = u }) (parts_in which w slots)
+month_parts w which gives u h e slots s q =
     let x = h.short_sum slots s ∙ ap (λ (n : ℕ). sum_to n (short_day which w slots)) e ∙ short_in_all w slots which in
     let y = h.over_sum slots s ∙ ap (λ (n : ℕ). sum_to n (over_day which w slots)) e ∙ over_in_all w slots which in
-    let z = h.unplaced_is ∙ q ∙ unplaced_are w slots which in
+    let z = q ∙ unplaced_are w slots which in
     λ j. record { short = x j; over = y j; unplaced = z j }

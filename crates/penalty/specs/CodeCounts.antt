@@ -8,7 +8,6 @@ use Rattle.numbers.specs.Digits.{has}
 use Rattle.fields.specs.Fields.{weight, member_sets, needs, need, low, high}
 use Rattle.penalty.specs.Weights.{Weights}
 use Rattle.penalty.specs.declared.duty.Duty.{Duty}
-use Rattle.penalty.specs.declared.Penalty.{Penalty}
 
 -- the weights of a duty, and the same with highs ignored
 unfoldable pub weights_of : List ℕ → ℕ → Weights
@@ -77,7 +76,7 @@ abbrev pub DayCounts : Search → List ℕ → ℕ → ℕ → ℕ → Duty → 
 DayCounts which w d night day r = DutyIs r (short_with which w d night day) 163200 (over_with which w d night day) 104000
 
 -- a penalty's bounds, from which its total fits
-pub record Bounded (p : Penalty) : Type 0 where
-  pub short_most : p.short ≤ 5059200
-  pub over_most : p.over ≤ 3224000
-  pub unplaced_most : p.unplaced ≤ nurse_places
+pub record Bounded (short over unplaced : ℕ) : Type 0 where
+  pub short_most : short ≤ 5059200
+  pub over_most : over ≤ 3224000
+  pub unplaced_most : unplaced ≤ nurse_places

@@ -11,7 +11,7 @@ use Rattle.history.specs.Slot.{Slot, is_none, unplaced_cost}
 use Rattle.fields.specs.Fields.{nurses, days, groups, weight, block, member_sets, needs, need, low, high}
 use Rattle.rows.specs.Rows.{fixed_night, fixed_day}
 use Rattle.rows.specs.Pairs.{free_on}
-use Rattle.penalty.specs.declared.Penalty.{Penalty}
+use Rattle.penalty.specs.declared.total.Penalty.{Penalty}
 
 -- ---- one duty of one day: `on i` says whether nurse i counts
 

@@ -12,11 +12,11 @@ use fields::day::Shift;
 pub fn weights(w: &Body, shift: Shift) -> Weights
     ensures { result ≡ weights_of w.now.numbers.now (place shift) }
 {
-    let k = 3 * shift as usize;
+    let of_shift = w.weights(shift);
     Weights {
-        w: w.weight(k),
-        u: w.weight(k + 1),
-        v: w.weight(k + 2),
+        w: of_shift[0],
+        u: of_shift[1],
+        v: of_shift[2],
     }
 }
 

@@ -1,9 +1,14 @@
 -- A nurse's own patterns by the test of one pattern, the three parts of question 11, and question 10 as a loop over the nurses asks it.
-use Rattle.std.specs.Prelude.{ℕ, zero, suc, ◌+◌, ◌-◌, ◌≤◌, ◌<◌, ◌≡◌, refl, Bool, true, false, ◌&&◌, ◌||◌, List, [], ◌∷◌, map, ltb, eqb, length, get_or}
-use Rattle.std.proofs.Common.{suc-le-suc, sym, ap, ap₂, ◌∙◌, subst, not-suc-le-zero, le_of_suc-le-suc, add-one, arith, lt-ltb, le-ltb, eq-eqb, ne_eqb, eqb-true}
+use Rattle.std.specs.Prelude.{ℕ, zero, suc, ◌+◌, ◌-◌, ◌≤◌, ◌<◌, ◌≡◌, refl, Bool, true, false, ◌&&◌, ◌||◌, List, [], ◌∷◌, ◌++◌, map, ltb, eqb, length, get_or, take}
+use Rattle.std.proofs.Common.{suc-le-suc, sym, ap, ap₂, ◌∙◌, subst, not-suc-le-zero, le_of_suc-le-suc, add-one, take-suc, arith, lt-ltb, le-ltb, eq-eqb, ne_eqb, eqb-true}
 use Rattle.std.proofs.lemmas.Bool.{false≢true, eqb-false, or_right}
+use Rattle.std.proofs.Math.Bool.{and-true, and_assoc}
+use Rattle.std.specs.Bool.{then_some}
+use Rattle.std.specs.List.{list_all}
+use Rattle.std.specs.declared.option.Option.{Option as Handed}
 use Rattle.std.proofs.Math.Option.{Option, none, some}
 use Rattle.numbers.specs.Range.{up_from, all, At, Exactly}
+use Rattle.numbers.proofs.AllLaws.{all_none, all_more}
 use Rattle.numbers.specs.Patterns.{pattern, unpaired, days_of, pair_of}
 use Rattle.numbers.proofs.PatternLaws.{days_of_pattern, pair_of_pattern, back}
 use Rattle.fields.specs.Fields.{Accepted, nurses, tabu}
@@ -13,10 +18,7 @@ use Rattle.days.specs.Days.{day_rule_of, day_list}
 use Rattle.days.proofs.SheetLaws.{list_exactly}
 use Rattle.refusals.specs.Refusals.{numbered}
 use Rattle.refusals.specs.Questions as question
-use Rattle.history.specs.declared.Search.{Search}
-use Rattle.history.specs.declared.Search.TheVariants.{Nights, Days}
 use Rattle.history.specs.Slot.{Slot}
-use Rattle.history.specs.Phase.{Phase}
 use Rattle.refusals.specs.declared.Refusal.{Refusal}
 use Rattle.history.specs.Record.{among, hers, names, lacking}
 use Rattle.removals.specs.Removals.{slot}
@@ -25,8 +27,9 @@ use Rattle.search.proofs.Fits.{Fits}
 use Rattle.search.specs.declared.Record.{Record as Stored}
 use Rattle.history.proofs.TestLaws.{not_both}
 use Rattle.search.proofs.QuestionLaws.{question_eleven}
-use Rattle.phases.specs.Phases.{night_phase, day_phase}
-use Rattle.phases.specs.CodeQuestions.{phase_of}
+use Rattle.search.specs.declared.Searched.TheVariants.{Nights, Days}
+use Rattle.phases.specs.Phases.{night_phase, day_phase, night_of}
+use Rattle.phases.specs.CodeQuestions.{Which, phase_of, slot_in}
 use Rattle.phases.proofs.PhaseLaws.{night_fits, day_fits}
 
 -- ---- one of her own
@@ -86,90 +89,98 @@ module _ (w : List ℕ) (i night p : ℕ) where
   pub days_paired : (pair_of p ≡ 0 → ⊥) → false ≡ among (map unpaired (day_list w i night)) p
   days_paired n = sym (among_paired (day_list w i night) p n)
 
-module _ (w nights : List ℕ) (i p : ℕ) where
-  pub own_night : {which : Search} {r : Bool} → Accepted w → which ≡ Nights → r ≡ own_pattern w i p → r ≡ among ((phase_of which w nights).patterns i) p
+module _ (w : List ℕ) (i p : ℕ) where
+  pub own_night : {which : Which} {r : Bool} → Accepted w → which ≡ Nights → r ≡ own_pattern w i p → r ≡ among ((phase_of which w).patterns i) p
   unfolding phase_of night_phase
   own_night a e h = rw e (h ∙ sym (among_exactly (own_pattern w i) (pattern_list w i) p (own_exactly w i (omega (arith, a.pairs_most)))))
 
-  pub own_day : {which : Search} {r : Bool} → which ≡ Days → r ≡ among (map unpaired (day_list w i (get_or nights i 0))) p → r ≡ among ((phase_of which w nights).patterns i) p
+  pub own_day : {which : Which} {nights : _} {r : Bool} → which ≡ Days nights → r ≡ among (map unpaired (day_list w i (night_of nights.now i))) p → r ≡ among ((phase_of which w).patterns i) p
   unfolding phase_of day_phase
   own_day e h = rw e h
 
-pub slot_placed : (P : Phase) (i p : ℕ) {placed r : Bool} → placed ≡ true → r ≡ among (P.patterns i) p → r ≡ hers P i (slot placed p)
-slot_placed P i p e h = rw e h
-
 -- ---- the phase of a search
 
-module _ (w nights : List ℕ) where
-  pub phase_night : phase_of Nights w nights ≡ night_phase w
-  unfolding phase_of
-  phase_night = refl
-
-  pub phase_day : phase_of Days w nights ≡ day_phase w (λ i. get_or nights i 0)
-  unfolding phase_of
-  phase_day = refl
-
-  pub phase_nurses : (which : Search) → (phase_of which w nights).nurses ≡ nurses w
+module _ (w : List ℕ) where
+  pub phase_nurses : (which : Which) → (phase_of which w).nurses ≡ nurses w
   unfolding phase_of night_phase day_phase
   phase_nurses Nights = refl
-  phase_nurses Days = refl
+  phase_nurses (Days nights) = refl
 
-  pub phase_tabu : (which : Search) → (phase_of which w nights).tabu ≡ tabu w
+  pub phase_tabu : (which : Which) → (phase_of which w).tabu ≡ tabu w
   unfolding phase_of night_phase day_phase
   phase_tabu Nights = refl
-  phase_tabu Days = refl
+  phase_tabu (Days nights) = refl
 
-  pub phase_fits : (which : Search) → Accepted w → Fits (phase_of which w nights)
+  pub phase_fits : (which : Which) → Accepted w → Fits (phase_of which w)
   unfolding phase_of
   phase_fits Nights a = night_fits w a
-  phase_fits Days a = day_fits w (λ i. get_or nights i 0) a
+  phase_fits (Days nights) a = day_fits w (night_of nights.now) a
+
+-- ---- a slot of a nurse of the ward
+
+slot_said : (placed : Bool) (p : ℕ) → slot_in (then_some placed p) ≡ slot placed p
+slot_said true p = refl
+slot_said false p = refl
+
+pub hers_at : (which : Which) {v w : List ℕ} {k i : ℕ} {held : Handed ℕ} (placed : Bool) (p : ℕ) → v ≡ w → k ≡ i → held ≡ then_some placed p
+    → hers (phase_of which v) k (slot_in held) ≡ hers (phase_of which w) i (slot placed p)
+hers_at which {v} {w} {k} {i} placed p e n h = rw (e, n, h, slot_said placed p) refl
 
 -- ---- one removal
 
-number_of : (x : ℕ) → (x ≡ 0 → ⊥) → x ≡ suc (x - 1)
-number_of zero n = absurd (n refl)
-number_of (suc x) n = omega arith
+module _ (which : Which) (w : List ℕ) {x i : ℕ} (s : Slot) (e : x ≡ suc i) where
+  pub names_within : {m : ℕ} {r : Bool} → m ≡ nurses w → i < m → r ≡ hers (phase_of which w) i s → r ≡ names (phase_of which w) x s
+  names_within n l h =
+      let here : i < (phase_of which w).nurses = rw (phase_nurses w which) (omega arith) in
+      rw (e, lt-ltb i (phase_of which w).nurses here) h
 
-module _ (which : Search) (w nights : List ℕ) (x : ℕ) (s : Slot) (named : x ≡ 0 → ⊥) where
-  pub names_within : {m : ℕ} {r : Bool} → m ≡ nurses w → x - 1 < m → r ≡ hers (phase_of which w nights) (x - 1) s → r ≡ names (phase_of which w nights) x s
-  names_within e l h =
-      let here : x - 1 < (phase_of which w nights).nurses = rw (phase_nurses w nights which) (omega arith) in
-      h ∙ sym (ap (λ (b : Bool). b && hers (phase_of which w nights) (x - 1) s) (lt-ltb (x - 1) (phase_of which w nights).nurses here))
-      ∙ ap (λ (y : ℕ). names (phase_of which w nights) y s) (sym (number_of x named))
+  pub names_past : {m : ℕ} → m ≡ nurses w → m ≤ i → false ≡ names (phase_of which w) x s
+  names_past n l =
+      let past : (phase_of which w).nurses ≤ i = rw (phase_nurses w which) (omega arith) in
+      rw (e, le-ltb i (phase_of which w).nurses past) refl
 
-  pub names_past : {m : ℕ} → m ≡ nurses w → m ≤ x - 1 → false ≡ names (phase_of which w nights) x s
-  names_past e l =
-      let past : (phase_of which w nights).nurses ≤ x - 1 = rw (phase_nurses w nights which) (omega arith) in
-      sym (ap (λ (b : Bool). b && hers (phase_of which w nights) (x - 1) s) (le-ltb (x - 1) (phase_of which w nights).nurses past))
-      ∙ ap (λ (y : ℕ). names (phase_of which w nights) y s) (sym (number_of x named))
+-- ---- the removals held
+
+module _ {X : Type 0} (t : X → Bool) where
+  all_append : (xs ys : List X) → list_all t (xs ++ ys) ≡ (list_all t xs && list_all t ys)
+  all_append [] ys = refl
+  all_append (x ∷ xs) ys = ap (λ (b : Bool). t x && b) (all_append xs ys) ∙ sym (and_assoc (t x) (list_all t xs) (list_all t ys))
+
+  -- a test of the first n of a list, place by place
+  pub all_taken : (xs : List X) (d : X) (n : ℕ) → n ≤ length xs → list_all t (take n xs) ≡ all (λ j. t (get_or xs j d)) (up_from 0 n)
+  all_taken xs d zero l = sym (all_none (λ j. t (get_or xs j d)))
+  all_taken xs d (suc n) l =
+      ap (list_all t) (take-suc xs n d l) ∙ all_append (take n xs) (get_or xs n d ∷ [])
+      ∙ ap₂ (λ (a b : Bool). a && b) (all_taken xs d n (omega arith)) (and-true (t (get_or xs n d)))
+      ∙ sym (all_more (λ j. t (get_or xs j d)) n) ∙ ap (λ (k : ℕ). all (λ j. t (get_or xs j d)) (up_from 0 k)) (add-one n)
 
 -- ---- question 11, by its three parts
 
-module _ (which : Search) (w nights : List ℕ) (x : Stored) (a : Accepted w) (s : Sized x) where
+module _ (which : Which) (w : List ℕ) (x : Stored) (a : Accepted w) (s : Sized x) where
   abbrev slots_own : Bool
-  slots_own = all (λ i. hers (phase_of which w nights) i (slot_at x i)) (up_from 0 (phase_of which w nights).nurses)
+  slots_own = all (λ i. hers (phase_of which w) i (slot_at x i)) (up_from 0 (phase_of which w).nurses)
 
   abbrev removals_name : Bool
-  removals_name = all (names_at (phase_of which w nights) x.removals) (up_from 0 (held (phase_of which w nights).tabu x))
+  removals_name = all (names_at (phase_of which w) x.removals) (up_from 0 (held (phase_of which w).tabu x))
 
-  three_parts : sound_stored (phase_of which w nights) x ≡ (slots_own && (removals_name && unused_zero (phase_of which w nights).nurses (phase_of which w nights).tabu x))
-  three_parts = question_eleven (phase_of which w nights) x s (phase_fits w nights which a)
+  three_parts : sound_stored (phase_of which w) x ≡ (slots_own && (removals_name && unused_zero (phase_of which w).nurses (phase_of which w).tabu x))
+  three_parts = question_eleven (phase_of which w) x s (phase_fits w which a)
 
   pub sound_unused : {r q z : Bool} {m tl : ℕ} → r ≡ slots_own → r ≡ true → q ≡ removals_name → q ≡ true → m ≡ nurses w → tl ≡ tabu w → z ≡ unused_zero m tl x
-      → z ≡ sound_stored (phase_of which w nights) x
+      → z ≡ sound_stored (phase_of which w) x
   sound_unused {r} {q} {z} {m} {tl} e f g h n t u =
       let first : slots_own ≡ true = sym e ∙ f in
       let second : removals_name ≡ true = sym g ∙ h in
-      u ∙ ap₂ (λ (k l : ℕ). unused_zero k l x) (n ∙ sym (phase_nurses w nights which)) (t ∙ sym (phase_tabu w nights which))
+      u ∙ ap₂ (λ (k l : ℕ). unused_zero k l x) (n ∙ sym (phase_nurses w which)) (t ∙ sym (phase_tabu w which))
       ∙ sym (three_parts ∙ rw (first, second))
 
-  pub sound_removals : {r q : Bool} → r ≡ slots_own → r ≡ true → q ≡ removals_name → q ≡ false → false ≡ sound_stored (phase_of which w nights) x
+  pub sound_removals : {r q : Bool} → r ≡ slots_own → r ≡ true → q ≡ removals_name → q ≡ false → false ≡ sound_stored (phase_of which w) x
   sound_removals e f g h =
       let first : slots_own ≡ true = sym e ∙ f in
       let second : removals_name ≡ false = sym g ∙ h in
       sym (three_parts ∙ rw (first, second))
 
-  pub sound_slots : {r : Bool} → r ≡ slots_own → r ≡ false → false ≡ sound_stored (phase_of which w nights) x
+  pub sound_slots : {r : Bool} → r ≡ slots_own → r ≡ false → false ≡ sound_stored (phase_of which w) x
   sound_slots e f =
       let first : slots_own ≡ false = sym e ∙ f in
       sym (three_parts ∙ rw first)

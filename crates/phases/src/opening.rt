@@ -1,4 +1,4 @@
-// Question 8: whether the day search opens on a choice of nights.
+// Question 8: whether the day search opens on a choice of nights. The ward and the nights are two parameters, as in dayadvance/src/lib.rt.
 ghost use Rattle.std.specs.Prelude.{◌≡◌};
 ghost use Rattle.std.proofs.Math.Option.{some};
 ghost use Rattle.numbers.specs.Range.{up_from, all};
@@ -20,7 +20,7 @@ use search::Record;
 fn nights_hers(w: &Body, nights: &[u64; NURSES]) -> bool
     ensures { result ≡ all (λ i. own_pattern w.now.numbers.now i (night_of nights.now i)) (up_from 0 (nurses w.now.numbers.now)) }
 {
-    (0..w.nurses()).all(|i| nights::is_own(w, i, nights[i]))
+    (0..w.nurses()).all(|i| nights::is_own(&w.nurse_at(i), nights[i]))
 }
 
 // The night penalty, everyone placed.

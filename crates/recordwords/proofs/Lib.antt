@@ -1,3 +1,3 @@
 pub mod WordLaws
-pub mod WrittenLaws
+pub mod PartLaws
 pub mod BackLaws

@@ -1,8 +1,9 @@
 -- Where each field of a record stands among its words.
-use Rattle.std.specs.Prelude.{ℕ, zero, suc, ◌+◌, ◌*◌, ◌<◌, ◌≡◌, refl, Bool, false, List, [], ◌∷◌, ◌++◌, map, length, get_or, take, drop}
-use Rattle.std.proofs.Common.{sym, ap, ◌∙◌, arith, length-append, length-drop, get_or-append-add, get_or-take, get_or-drop, length-take-le}
+use Rattle.std.specs.Prelude.{ℕ, zero, suc, ◌+◌, ◌-◌, ◌*◌, ◌/◌, ◌<◌, ◌≡◌, refl, Bool, false, List, [], ◌∷◌, ◌++◌, map, length, get_or, take, drop}
+use Rattle.std.proofs.Common.{sym, ap, ◌∙◌, arith, length-append, length-drop, get_or-append-add, get_or-take, get_or-drop, length-take-le, lit<}
 use Rattle.std.proofs.lemmas.List.{length-map}
 use Rattle.std.proofs.Math.ListN.{get_or-append, get_or-map}
+use Rattle.std.specs.Simd.{first_chunks}
 use Rattle.fields.specs.Sizes.{nurse_places, removal_places}
 use Rattle.numbers.specs.Range.{up_from}
 use Rattle.numbers.specs.Patterns.{days_of, pair_of}
@@ -13,7 +14,7 @@ use Rattle.removals.specs.Removals.{no_removal}
 use Rattle.search.specs.Stored.{Sized}
 use Rattle.search.proofs.StoredLaws.{get_or_below}
 use Rattle.recordwords.specs.Words.{pairs_at, flags_at, record_words, removals_at, steps_at, pattern_at, patterns_of_words, flag_of, removal_at, record_of_words, flag_word, removal_words, words_of_record}
-use Rattle.recordwords.specs.CodeWords.{removal_word}
+use Rattle.recordwords.specs.CodeWords.{removal_word, removal_from}
 
 -- ---- read
 
@@ -39,6 +40,34 @@ module _ (words : List ℕ) (long : length words ≡ record_words) where
   pub flag_read : (i : ℕ) {f : Bool} → i < nurse_places → f ≡ flag_of (get_or words (flags_at + i) 0) → f ≡ get_or (map flag_of (take nurse_places (drop flags_at words))) i false
   flag_read i h e =
       e ∙ sym (get_or-map flag_of (take nurse_places (drop flags_at words)) i 0 ∙ ap flag_of (get_or-take nurse_places (drop flags_at words) i 0 h ∙ get_or-drop flags_at words i 0))
+
+-- word t of chunk j, where each has four
+chunk_word : (k j t : ℕ) (xs d : List ℕ) → j < k → t < 4 → get_or (get_or (first_chunks 4 k xs) j d) t 0 ≡ get_or xs (j * 4 + t) 0
+chunk_word zero j t xs d h l = absurd (omega arith)
+chunk_word (suc k) zero t xs d h l = get_or-take 4 xs t 0 l ∙ ap (λ (i : ℕ). get_or xs i 0) (omega arith)
+chunk_word (suc k) (suc j) t xs d h l =
+    chunk_word k j t (drop 4 xs) d (omega arith) l ∙ get_or-drop 4 xs (j * 4 + t) 0 ∙ ap (λ (i : ℕ). get_or xs i 0) (omega arith)
+
+module _ (words : List ℕ) (long : length words ≡ record_words) (each : List (List ℕ)) (d : List ℕ) where
+  abbrev part : List ℕ
+  part = take (steps_at - removals_at) (drop removals_at words)
+
+  module _ (is : each ≡ first_chunks 4 (length part / 4) part) (j : ℕ) (h : j < removal_places) where
+    many : length part / 4 ≡ removal_places
+    many = ap (λ (n : ℕ). n / 4) (length-take-le (steps_at - removals_at) (drop removals_at words) (omega (arith, long, length-drop removals_at words)))
+
+    word : (t : ℕ) → t < 4 → get_or (get_or each j d) t 0 ≡ get_or words (removals_at + j * 4 + t) 0
+    word t l =
+        ap (λ (e : List (List ℕ)). get_or (get_or e j d) t 0) (is ∙ ap (λ (n : ℕ). first_chunks 4 n part) many)
+        ∙ chunk_word removal_places j t part d h l
+        ∙ get_or-take (steps_at - removals_at) (drop removals_at words) (j * 4 + t) 0 (omega arith)
+        ∙ get_or-drop removals_at words (j * 4 + t) 0
+        ∙ ap (λ (i : ℕ). get_or words i 0) (omega arith)
+
+    pub removal_taken : removal_from (get_or each j d) ≡ removal_at words j
+    removal_taken =
+        let first : get_or (get_or each j d) 0 0 ≡ get_or words (removals_at + j * 4) 0 = word 0 (lit< tt) ∙ ap (λ (i : ℕ). get_or words i 0) (omega arith) in
+        rw (first, word 1 (lit< tt), word 2 (lit< tt), word 3 (lit< tt)) refl
 
 -- a record read from words has its declared sizes
 pub words_sized : (words : List ℕ) → length words ≡ record_words → Sized (record_of_words words)
@@ -68,7 +97,7 @@ removal_at4 [] q t h k = absurd (omega arith)
 removal_at4 (x ∷ rs) zero t h k = four x (removal_words rs) t k
 removal_at4 (x ∷ rs) (suc q) t h k = removal_at4 rs q t (omega arith) k
 
-removal_words_long : (rs : List StoredRemoval) → length (removal_words rs) ≡ length rs * 4
+pub removal_words_long : (rs : List StoredRemoval) → length (removal_words rs) ≡ length rs * 4
 removal_words_long [] = refl
 removal_words_long (x ∷ rs) = let e = removal_words_long rs in omega arith
 

@@ -2,10 +2,11 @@
 #![tactic(auto)]
 
 ghost use Rattle.std.specs.Prelude.{◌≡◌, ℕ, List, map, ◌+◌, ◌≤◌, ◌<◌, length, get_or, take, drop};
+ghost use Rattle.std.proofs.Math.Seq.{paste};
 ghost use Rattle.fields.specs.Sizes.{nurse_places, removal_places};
 ghost use Rattle.numbers.specs.Range.{up_from};
-ghost use Rattle.recordwords.specs.Words.{pattern_words, pairs_at, flags_at, removals_at, steps_at, record_words, patterns_of_words, flag_of, removal_at, record_of_words, flag_word, words_of_record};
-ghost use Rattle.recordwords.specs.CodeWords.{removal_word, WordsWritten};
+ghost use Rattle.recordwords.specs.Words.{pattern_words, pairs_at, flags_at, removals_at, steps_at, record_words, patterns_of_words, flag_of, removal_at, record_of_words, words_of_record};
+ghost use Rattle.recordwords.specs.CodeWords.{removal_from, words_of_removal};
 
 use fields::sizes::{NURSES, REMOVALS};
 use numbers::pattern;
@@ -44,25 +45,22 @@ fn flags_of(words: &[u32; WORDS]) -> [bool; NURSES]
     array::from_fn(|i| flag_of(words[PATTERNS + i]))
 }
 
-fn removal_at(words: &[u32; WORDS], j: usize) -> Removal
-    requires { j < removal_places }
-    ensures { result ≡ removal_at words.now j }
+fn removal_from(words: [u32; 4]) -> Removal
+    ensures { result ≡ removal_from words }
 {
-    let at = REMOVALS_AT + j * 4;
-    let nurse = words[at];
-    let has = flag_of(words[at + 1]);
-    let pattern = pattern::of(words[at + 2], words[at + 3]);
+    let [nurse, has, days, pair] = words;
     Removal {
         nurse,
-        has,
-        pattern,
+        has: flag_of(has),
+        pattern: pattern::of(days, pair),
     }
 }
 
 fn removals_of(words: &[u32; WORDS]) -> [Removal; REMOVALS]
     ensures { result ≡ map (removal_at words.now) (up_from 0 removal_places) }
 {
-    array::from_fn(|j| removal_at(words, j))
+    let (each, _) = words[REMOVALS_AT..STEPS_AT].as_chunks::<4>();
+    array::from_fn(|j| removal_from(each[j]))
 }
 
 #[tactic(auto, unfolding(crate::specs::Words::record_of_words))]
@@ -81,66 +79,39 @@ pub fn record_of(words: [u32; WORDS]) -> Record
     }
 }
 
-fn flag_word(flag: bool) -> u32
-    ensures { result ≡ flag_word flag }
+fn words_of_removal(x: Removal) -> [u32; 4]
+    ensures { result ≡ words_of_removal x }
 {
-    u32::from(flag)
+    [
+        x.nurse,
+        u32::from(x.has),
+        pattern::days_of(x.pattern),
+        pattern::pair_of(x.pattern),
+    ]
 }
 
-// Everyone's sets of days. The record by value, here and below: its arrays' lengths are known of a value.
-fn put_days(words: &mut [u32; WORDS], rec: Record)
-    ensures { WordsWritten (words_of_record rec) words.old 0 → WordsWritten (words_of_record rec) words.new pairs_at }
+// Writes a part of the words over what stood from `at` on.
+fn put_part(words: &mut [u32; WORDS], at: usize, part: &[u32])
+    requires { at + length part.now ≤ record_words }
+    ensures { words.new ≡ paste words.old at part.now (length part.now) }
 {
-    for (i, p) in rec.patterns.iter().enumerate() {
-        words[i] = pattern::days_of(*p);
-    }
+    words[at..at + part.len()].copy_from_slice(part);
 }
 
-// Everyone's pairs.
-fn put_pairs(words: &mut [u32; WORDS], rec: Record)
-    ensures { WordsWritten (words_of_record rec) words.old pairs_at → WordsWritten (words_of_record rec) words.new flags_at }
-{
-    for (i, p) in rec.patterns.iter().enumerate() {
-        words[NURSES + i] = pattern::pair_of(*p);
-    }
-}
-
-// Who is placed.
-fn put_flags(words: &mut [u32; WORDS], rec: Record)
-    ensures { WordsWritten (words_of_record rec) words.old flags_at → WordsWritten (words_of_record rec) words.new removals_at }
-{
-    for (i, flag) in rec.placed.iter().enumerate() {
-        words[PATTERNS + i] = flag_word(*flag);
-    }
-}
-
-// A removal's four words.
-fn put_removal(words: &mut [u32; WORDS], x: Removal, at: usize)
-    requires { at + 4 ≤ record_words }
-    ensures { (s : List ℕ) → WordsWritten s words.old at → ((k : ℕ) → k < 4 → removal_word x k ≡ get_or s (at + k) 0) → WordsWritten s words.new (at + 4) }
-{
-    words[at] = x.nurse;
-    words[at + 1] = flag_word(x.has);
-    words[at + 2] = pattern::days_of(x.pattern);
-    words[at + 3] = pattern::pair_of(x.pattern);
-}
-
-fn put_removals(words: &mut [u32; WORDS], rec: Record)
-    ensures { WordsWritten (words_of_record rec) words.old removals_at → WordsWritten (words_of_record rec) words.new steps_at }
-{
-    for (j, x) in rec.removals.iter().enumerate() {
-        put_removal(words, *x, REMOVALS_AT + j * 4);
-    }
-}
-
+// Everyone's sets of days, everyone's pairs, who is placed, the removals, and the steps. All but the removals by `from_fn`, which takes half of
+// `map`'s time; theirs got no proof so.
 pub fn words_of(rec: Record) -> [u32; WORDS]
     ensures { result ≡ words_of_record rec }
 {
+    let days: [u32; NURSES] = array::from_fn(|i| pattern::days_of(rec.patterns[i]));
+    let pairs: [u32; NURSES] = array::from_fn(|i| pattern::pair_of(rec.patterns[i]));
+    let flags: [u32; NURSES] = array::from_fn(|i| u32::from(rec.placed[i]));
+    let removals = rec.removals.map(words_of_removal);
     let mut words = [0u32; WORDS];
-    put_days(&mut words, rec);
-    put_pairs(&mut words, rec);
-    put_flags(&mut words, rec);
-    put_removals(&mut words, rec);
+    put_part(&mut words, 0, &days);
+    put_part(&mut words, NURSES, &pairs);
+    put_part(&mut words, PATTERNS, &flags);
+    put_part(&mut words, REMOVALS_AT, removals.as_flattened());
     words[STEPS_AT] = rec.steps;
     words
 }

@@ -18,7 +18,7 @@ fn slot_zero(here: bool, placed: bool, pattern: u64) -> bool
     }
 }
 
-// All 48, of whom the ward has m.
+// All 48, of whom the ward has m. By index, here and below: a place in use is told by its number, and a slot stands in two arrays.
 pub fn slots_zero(placed: [bool; NURSES], patterns: [u64; NURSES], m: usize) -> bool
     ensures { result ≡ all (slot_zero m placed patterns) (up_from 0 nurse_places) }
 {

@@ -3,7 +3,8 @@
 #![tactic(auto)]
 
 use fields::Body;
-use fields::sizes::LETTERS;
+use fields::sizes::{LETTERS, NUMBERS};
+use history::Search;
 use letters::written::Roster;
 use planner::{Advance, Ending};
 use refusals::Refusal;
@@ -14,7 +15,7 @@ use std::io::{Read, Write};
 // A ward has fewer bytes, and whatever is asked of a longer file is answered by its beginning.
 const INPUT_MOST: u64 = 65536;
 
-// A roster with the days of its month and the steps of both phases; or what is left in a phase.
+// A roster with the days of its month and the steps of both phases; or what is left in a phase. No Result: both are answers, and a refusal is the error.
 #[derive(Clone, Copy)]
 enum Plan {
     Zero {
@@ -24,13 +25,13 @@ enum Plan {
         day_steps: u32,
     },
     Left {
-        phase: u32,
+        phase: Search,
         penalty: u64,
         steps: u32,
     },
 }
 
-fn left(phase: u32, x: &Advance) -> Plan {
+fn left(phase: Search, x: &Advance) -> Plan {
     Plan::Left {
         phase,
         penalty: x.penalty,
@@ -38,23 +39,31 @@ fn left(phase: u32, x: &Advance) -> Plan {
     }
 }
 
-// The days of the ward's month.
+// A phase as this program alone prints it, so no Display of `Search`.
+fn number_of(phase: Search) -> u32 {
+    match phase {
+        Search::Nights => 1,
+        Search::Days => 2,
+    }
+}
+
+// The days of the ward's month. Read again: the calls take the file and tell no field, and a roster's count is its nurses' and days' product.
 fn days_of(file: &[u8]) -> Result<usize, Refusal> {
-    let ward = ward::read(file)?;
-    let numbers = ward.numbers;
-    Ok(Body::of(&numbers[..ward.count]).days())
+    let mut numbers = [0u64; NUMBERS];
+    let count = ward::read_into(file, &mut numbers)?;
+    Ok(Body::of(&numbers[..count]).days())
 }
 
 fn planned(file: &[u8]) -> Result<Plan, Refusal> {
     let mut buffer = [0u32; 16384];
     let nights = planner::advance_nights(Record::fresh(), file, 1000, false, &mut buffer)?;
-    if !matches!(nights.ending, Ending::Zero) {
-        return Ok(left(1, &nights));
+    if nights.ending != Ending::Zero {
+        return Ok(left(Search::Nights, &nights));
     }
     let over = nights.after.patterns;
     let days = planner::advance_days(Record::fresh(), file, &over, 1000, false, &mut buffer)?;
-    if !matches!(days.ending, Ending::Zero) {
-        return Ok(left(2, &days));
+    if days.ending != Ending::Zero {
+        return Ok(left(Search::Days, &days));
     }
     Ok(Plan::Zero {
         roster: days.roster,
@@ -89,7 +98,7 @@ fn show<W: Write>(out: &mut W, plan: Result<Plan, Refusal>) -> io::Result<()> {
                 penalty,
                 steps,
             },
-        ) => writeln!(out, "left {phase} {penalty} {steps}"),
+        ) => writeln!(out, "left {} {penalty} {steps}", number_of(phase)),
         Ok(
             Plan::Zero {
                 roster,

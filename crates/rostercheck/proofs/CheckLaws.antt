@@ -1,5 +1,5 @@
 -- The test says yes exactly when the roster's rules hold: every row follows from patterns, and every day's needs, lows and highs hold.
-use Rattle.std.specs.Prelude.{◌≡◌, Bool, true, ◌&&◌, List, ◌↔◌, ℕ, zero, suc, ◌+◌, ◌*◌, ◌^◌, ◌≤◌, ◌<◌, leb, length}
+use Rattle.std.specs.Prelude.{◌≡◌, Bool, true, ◌&&◌, List, ◌↔◌, ℕ, zero, suc, ◌*◌, ◌^◌, ◌≤◌, ◌<◌, leb, length}
 use Rattle.std.proofs.Common.{sym, ap, ap₂, ◌∙◌, arith, leb-true, le-leb}
 use Rattle.std.proofs.lemmas.Bool.{and_parts, and_from}
 use Rattle.numbers.specs.Range.{up_from, all, any_of}
@@ -16,20 +16,20 @@ use Rattle.days.specs.Days.{day_rule_of}
 use Rattle.days.proofs.SheetLaws.{rule_below}
 use Rattle.penalty.specs.Penalty.{on_duty, members}
 use Rattle.letters.specs.Letters.{letter, row_letters}
-use Rattle.rostercheck.specs.Check.{Follows, Holds, at_duty}
-use Rattle.rostercheck.specs.CodeCheck.{letters_at, same_row, pair_holds, row_holds, group_holds, duty_holds, day_holds, holds}
+use Rattle.rostercheck.specs.Check.{Follows, Holds, row_of, at_duty}
+use Rattle.rostercheck.specs.CodeCheck.{letters_in, same_row, pair_holds, row_holds, row_of_holds, group_holds, duty_holds, day_holds, holds}
 use Rattle.letters.proofs.RowLaws.{row_fits}
-use Rattle.rostercheck.proofs.RowLaws.{worked_available, each_of_row, row_of_each, same_each, each_same, starts_read, worked_read}
+use Rattle.rostercheck.proofs.RowLaws.{part_length, worked_available, each_of_row, row_of_each, same_each, each_same, starts_read, worked_read}
 
 -- some pair of the ward is hers under p, with q a day pattern of hers over both
 abbrev pub some_pair : List ℕ → ℕ → ℕ → ℕ → Bool
 some_pair w i p q = any_of (pair_holds w i p q) (pair_numbers w)
 
 -- a row's test by its patterns
-row_is : (w roster : List ℕ) (i p q : ℕ) → p ≡ letters_at w roster i (letter 2) → q ≡ letters_at w roster i (letter 1)
-    → row_holds w roster i ≡ (hers_of w i p && (some_pair w i p q && same_row (block w i) (days w) roster (i * days w) p q))
+row_is : (w row : List ℕ) (i p q : ℕ) → p ≡ letters_in row (letter 2) (days w) → q ≡ letters_in row (letter 1) (days w)
+    → row_holds w i row ≡ (hers_of w i p && (some_pair w i p q && same_row (block w i) (days w) row p q))
 unfolding row_holds
-row_is w roster i p q ep eq = sym (ap₂ (λ (x y : ℕ). hers_of w i x && (some_pair w i x y && same_row (block w i) (days w) roster (i * days w) x y)) ep eq)
+row_is w row i p q ep eq = sym (ap₂ (λ (x y : ℕ). hers_of w i x && (some_pair w i x y && same_row (block w i) (days w) row x y)) ep eq)
 
 -- a night pattern of hers with a pair of hers is a pattern of hers
 own_of : (w : List ℕ) (i p k : ℕ) → k < 2 ^ 32 → hers_of w i p ≡ true → pair_fits w i p k ≡ true → own_pattern w i (pattern p k) ≡ true
@@ -43,16 +43,17 @@ own_parts w i c e = e
 module _ (w roster : List ℕ) (few : pair_count w < 2 ^ 32) (long : length roster ≡ nurses w * days w) where
   -- ---- rows
 
-  fits : (i : ℕ) → i < nurses w → i * days w + days w ≤ length roster
-  fits i h = omega (arith, row_fits (nurses w) (days w) i h)
+  row_long : (i : ℕ) → i < nurses w → length (row_of w roster i) ≡ days w
+  row_long i h = part_length roster (i * days w) (days w) (omega (arith, row_fits (nurses w) (days w) i h))
 
-  pub row_sound : (i : ℕ) → i < nurses w → row_holds w roster i ≡ true → Follows w roster i
+  pub row_sound : (i : ℕ) → i < nurses w → row_of_holds w roster i ≡ true → Follows w roster i
   unfolding row_holds
   row_sound i h e =
-      let p = letters_at w roster i (letter 2) in
-      let q = letters_at w roster i (letter 1) in
-      let a = and_parts (hers_of w i p) (some_pair w i p q && same_row (block w i) (days w) roster (i * days w) p q) e in
-      let b = and_parts (some_pair w i p q) (same_row (block w i) (days w) roster (i * days w) p q) a.1 in
+      let row = row_of w roster i in
+      let p = letters_in row (letter 2) (days w) in
+      let q = letters_in row (letter 1) (days w) in
+      let a = and_parts (hers_of w i p) (some_pair w i p q && same_row (block w i) (days w) row p q) e in
+      let b = and_parts (some_pair w i p q) (same_row (block w i) (days w) row p q) a.1 in
       let found = pairs_some w (pair_holds w i p q) b.0 in
       let k = found.0 in
       let small : k < 2 ^ 32 = omega (arith, found.1) in
@@ -62,29 +63,31 @@ module _ (w roster : List ℕ) (few : pair_count w < 2 ^ 32) (long : length rost
         days = q;
         pattern_hers = own_of w i p k small a.0 parts.0;
         days_hers = parts.1;
-        row = row_of_each roster (i * days w) (days w) (fits i h) (block w i) p q (same_each roster (i * days w) (days w) (fits i h) (block w i) p q b.1)
+        row = row_of_each row (days w) (row_long i h) (block w i) p q (same_each row (days w) (row_long i h) (block w i) p q b.1)
             ∙ ap (λ (x : ℕ). row_letters w i x q) (sym (days_of_pattern p k small));
       }
 
   -- a row that follows from some patterns follows from those read off its letters
-  row_read : (i p q : ℕ) → p ≡ letters_at w roster i (letter 2) → q ≡ letters_at w roster i (letter 1)
-      → hers_of w i p ≡ true → some_pair w i p q ≡ true → same_row (block w i) (days w) roster (i * days w) p q ≡ true → row_holds w roster i ≡ true
-  row_read i p q ep eq h d s = row_is w roster i p q ep eq ∙ and_from _ _ h (and_from _ _ d s)
+  row_read : (i p q : ℕ) → p ≡ letters_in (row_of w roster i) (letter 2) (days w) → q ≡ letters_in (row_of w roster i) (letter 1) (days w)
+      → hers_of w i p ≡ true → some_pair w i p q ≡ true → same_row (block w i) (days w) (row_of w roster i) p q ≡ true → row_of_holds w roster i ≡ true
+  row_read i p q ep eq h d s = row_is w (row_of w roster i) i p q ep eq ∙ and_from _ _ h (and_from _ _ d s)
 
-  pub row_complete : (i : ℕ) → i < nurses w → Follows w roster i → row_holds w roster i ≡ true
+  pub row_complete : (i : ℕ) → i < nurses w → Follows w roster i → row_of_holds w roster i ≡ true
   row_complete i h f =
       let c = f.pattern in
       let p = days_of c in
       let k = pair_of c in
       let q = f.days in
       let n = days w in
+      let row = row_of w roster i in
+      let long = row_long i h in
       let hers = and_parts (hers_of w i p) (pair_fits w i p k) (own_parts w i c f.pattern_hers) in
-      let e = each_of_row roster (i * n) n (fits i h) (block w i) p q f.row in
+      let e = each_of_row row n long (block w i) p q f.row in
       let day : day_rule_of w i (pattern p k) q ≡ true = ap (λ (x : ℕ). day_rule_of w i x q) (back c) ∙ f.days_hers in
       row_read i p q
-      (starts_read roster (i * n) n (fits i h) (block w i) p q e (hers_below w i p hers.0))
-      (worked_read roster (i * n) n (fits i h) (block w i) p q e (rule_below w i c q f.days_hers) (λ d l. worked_available w i c q d f.days_hers l))
-      hers.0 (pairs_has w (pair_holds w i p q) i p k hers.1 (and_from _ _ hers.1 day)) (each_same roster (i * n) n (fits i h) (block w i) p q e)
+      (starts_read row n long (block w i) p q e (hers_below w i p hers.0))
+      (worked_read row n long (block w i) p q e (rule_below w i c q f.days_hers) (λ d l. worked_available w i c q d f.days_hers l))
+      hers.0 (pairs_has w (pair_holds w i p q) i p k hers.1 (and_from _ _ hers.1 day)) (each_same row n long (block w i) p q e)
 
   -- ---- needs, lows and highs
 
@@ -133,10 +136,10 @@ module _ (w roster : List ℕ) (few : pair_count w < 2 ^ 32) (long : length rost
   pub holds_sound : holds w roster ≡ true → Holds w roster
   unfolding holds
   holds_sound e =
-      let a = and_parts (all (row_holds w roster) (up_from 0 (nurses w))) (all (day_holds w roster) (up_from 0 (days w))) e in
+      let a = and_parts (all (row_of_holds w roster) (up_from 0 (nurses w))) (all (day_holds w roster) (up_from 0 (days w))) e in
       let each = duty_each (λ d l. range_each (day_holds w roster) 0 (days w) a.1 d (omega arith) (omega arith)) in
       record {
-        rows = λ i h. row_sound i h (range_each (row_holds w roster) 0 (nurses w) a.0 i (omega arith) (omega arith));
+        rows = λ i h. row_sound i h (range_each (row_of_holds w roster) 0 (nurses w) a.0 i (omega arith) (omega arith));
         needs_met = λ k d h l. (each k d h l).need_met;
         lows_met = λ k d g h l. (each k d h l).low_met g;
         highs_met = λ k d g h l. (each k d h l).high_met g;
@@ -149,7 +152,7 @@ module _ (w roster : List ℕ) (few : pair_count w < 2 ^ 32) (long : length rost
   unfolding holds
   holds_complete o =
       and_from _ _
-      (range_all (row_holds w roster) 0 (nurses w) (λ i a h. (let l : i < nurses w = omega arith in row_complete i l (o.rows i l))))
+      (range_all (row_of_holds w roster) 0 (nurses w) (λ i a h. (let l : i < nurses w = omega arith in row_complete i l (o.rows i l))))
       (range_all (day_holds w roster) 0 (days w) (λ d a h. (let l : d < days w = omega arith in day_complete d (met o 0 d (omega arith) l) (met o 1 d (omega arith) l))))
 
   -- yes exactly when every row follows from patterns and every day's needs, lows and highs hold

@@ -18,10 +18,10 @@ use Rattle.penalty.specs.Penalty.{on_duty, members, at_night, at_day, night_pena
 use Rattle.penalty.specs.Held.{LowsHeld, HighsHeld, NightHeld, DayHeld}
 use Rattle.penalty.proofs.HeldLaws.{night_zero, day_zero}
 use Rattle.letters.specs.Letters.{letter, row_letters_of, row_letters, letters, is_letter, first_bad, or_count, misplaced}
-use Rattle.rostercheck.specs.Check.{Follows, lettered, at_duty, Holds}
+use Rattle.rostercheck.specs.Check.{Follows, row_of, lettered, at_duty, Holds}
 use Rattle.rostercheck.specs.CodeCheck.{holds}
 use Rattle.letters.proofs.RowLaws.{row_fits, row_at, letters_length}
-use Rattle.rostercheck.proofs.RowLaws.{duty_five, starts_letter, worked_letter, worked_available, row_of_each}
+use Rattle.rostercheck.proofs.RowLaws.{duty_five, starts_letter, worked_letter, worked_available, part_length, part_at, row_of_each}
 use Rattle.rostercheck.proofs.CheckLaws.{holds_complete}
 
 -- ---- the letters of the first k nurses
@@ -124,6 +124,9 @@ module _ (w : List ℕ) (cs qs : ℕ → ℕ) (all_hers : Patterns w cs qs) wher
   unfolding given
   given_long = letters_length w (days_in cs) (days_in qs) (nurses w)
 
+  given_fits : (i : ℕ) → i < nurses w → i * days w + days w ≤ length given
+  given_fits i h = omega (arith, given_long, row_fits (nurses w) (days w) i h)
+
   given_follows : (i : ℕ) → i < nurses w → Follows w given i
   unfolding given
   given_follows i h = record {
@@ -131,8 +134,8 @@ module _ (w : List ℕ) (cs qs : ℕ → ℕ) (all_hers : Patterns w cs qs) wher
     days = days_of (qs i);
     pattern_hers = all_hers.nights_hers i h;
     days_hers = all_hers.days_hers i h;
-    row = row_of_each given (i * days w) (days w) (omega (arith, given_long, row_fits (nurses w) (days w) i h)) (block w i) (days_of (cs i)) (days_of (qs i))
-        (λ d l. letters_at w (days_in cs) (days_in qs) (nurses w) i d h l);
+    row = row_of_each (row_of w given i) (days w) (part_length given (i * days w) (days w) (given_fits i h)) (block w i) (days_of (cs i)) (days_of (qs i))
+        (λ d l. part_at given (i * days w) (days w) (given_fits i h) d l ∙ letters_at w (days_in cs) (days_in qs) (nurses w) i d h l);
   }
 
   given_night : (d : ℕ) → d < days w → (i : ℕ) → i < nurses w → at_duty w given 0 d i ≡ at_night w (placed_all cs) d i

@@ -51,16 +51,15 @@ module _ (w roster : List ℕ) (k d col : ℕ) (a : Accepted w) (s : Same (nurse
       ∙ rw (le-leb (need (needs w d) k) (on_duty w (at_duty w roster k d)) (omega (arith, q.is, column_count)))
 
 -- a set of the first m nurses
-pub same_set : (t : ℕ → Bool) (m x : ℕ) → x ≡ number_of t m → Same m (has x) t
-same_set t m x e = record {
-  above = λ i l. has_above m x i (rw e (number_lt t m)) l;
-  bits = λ i l. ap (λ (y : ℕ). has y i) e ∙ number_has t m i l;
-}
+pub same_set : (t : ℕ → Bool) (m x : ℕ) {k : ℕ} → k ≡ m → x ≡ number_of t k → Same m (has x) t
+same_set t m x q e =
+    let o : x ≡ number_of t m = e ∙ ap (number_of t) q in
+    record {
+      above = λ i l. has_above m x i (rw o (number_lt t m)) l;
+      bits = λ i l. ap (λ (y : ℕ). has y i) o ∙ number_has t m i l;
+    }
 
 -- the column as the code asks for it
-pub column_as : (w roster : List ℕ) (k d col : ℕ) {m n c : ℕ} → Same m (has col) (lettered roster n d c) → m ≡ nurses w → n ≡ days w → c ≡ duty_letter k
+pub column_as : (w roster : List ℕ) (k d col : ℕ) {c : ℕ} → Same (nurses w) (has col) (lettered roster (days w) d c) → c ≡ duty_letter k
     → Same (nurses w) (has col) (at_duty w roster k d)
-column_as w roster k d col {m} {n} {c} s em en ec =
-    subst (λ (x : ℕ). Same x (has col) (lettered roster (days w) d (duty_letter k))) em
-    (subst (λ (y : ℕ). Same m (has col) (lettered roster y d (duty_letter k))) en
-    (subst (λ (z : ℕ). Same m (has col) (lettered roster n d z)) ec s))
+column_as w roster k d col s e = subst (λ (z : ℕ). Same (nurses w) (has col) (lettered roster (days w) d z)) e s

@@ -39,6 +39,7 @@ worked_available w i c q d e h k =
 
 -- ---- a row of a roster
 
+-- where it lies in the roster
 module _ (roster : List ℕ) (at n : ℕ) (fits : at + n ≤ length roster) where
   pub part_length : length (take n (drop at roster)) ≡ n
   part_length = length-take-le n (drop at roster) (rw (length-drop at roster) (omega arith))
@@ -46,44 +47,45 @@ module _ (roster : List ℕ) (at n : ℕ) (fits : at + n ≤ length roster) wher
   pub part_at : (d : ℕ) → d < n → get_or (take n (drop at roster)) d 0 ≡ get_or roster (at + d) 0
   part_at d h = get_or-take n (drop at roster) d 0 h ∙ get_or-drop at roster d 0
 
+module _ (row : List ℕ) (n : ℕ) (long : length row ≡ n) where
   module _ (b : List ℕ) (p q : ℕ) where
     -- the letters one by one
     abbrev Each : Type 0
-    Each = (d : ℕ) → d < n → get_or roster (at + d) 0 ≡ letter (duty_on b p q (suc d))
+    Each = (d : ℕ) → d < n → get_or row d 0 ≡ letter (duty_on b p q (suc d))
 
-    pub each_of_row : take n (drop at roster) ≡ row_letters_of b n p q → Each
-    each_of_row e d h = sym (part_at d h) ∙ ap (λ (l : List ℕ). get_or l d 0) e ∙ row_at b n p q d h
+    pub each_of_row : row ≡ row_letters_of b n p q → Each
+    each_of_row e d h = ap (λ (l : List ℕ). get_or l d 0) e ∙ row_at b n p q d h
 
-    pub row_of_each : Each → take n (drop at roster) ≡ row_letters_of b n p q
+    pub row_of_each : Each → row ≡ row_letters_of b n p q
     row_of_each e =
-        ext_get_or 0 (take n (drop at roster)) (row_letters_of b n p q) (part_length ∙ sym (row_length b n p q))
-        (λ d h. (let l : d < n = rw part_length at h in part_at d l ∙ e d l ∙ sym (row_at b n p q d l)))
+        ext_get_or 0 row (row_letters_of b n p q) (long ∙ sym (row_length b n p q))
+        (λ d h. (let l : d < n = rw long at h in e d l ∙ sym (row_at b n p q d l)))
 
-    pub same_each : same_row b n roster at p q ≡ true → Each
+    pub same_each : same_row b n row p q ≡ true → Each
     unfolding same_row
     same_each e d h =
-        eqb-true (get_or roster (at + d) 0) (letter (duty_on b p q (suc d)))
-        (range_each (λ x. eqb (get_or roster (at + x) 0) (letter (duty_on b p q (suc x)))) 0 n e d (omega arith) (omega arith))
+        eqb-true (get_or row d 0) (letter (duty_on b p q (suc d)))
+        (range_each (λ x. eqb (get_or row x 0) (letter (duty_on b p q (suc x)))) 0 n e d (omega arith) (omega arith))
 
-    pub each_same : Each → same_row b n roster at p q ≡ true
+    pub each_same : Each → same_row b n row p q ≡ true
     unfolding same_row
     each_same e =
-        range_all (λ x. eqb (get_or roster (at + x) 0) (letter (duty_on b p q (suc x)))) 0 n
-        (λ d l h. (let m : d < n = omega arith in eq-eqb (get_or roster (at + d) 0) (letter (duty_on b p q (suc d))) (e d m)))
+        range_all (λ x. eqb (get_or row x 0) (letter (duty_on b p q (suc x)))) 0 n
+        (λ d l h. (let m : d < n = omega arith in eq-eqb (get_or row d 0) (letter (duty_on b p q (suc d))) (e d m)))
 
     -- as one comparison
-    pub row_same : {row : List ℕ} {r : Bool} → row ≡ row_letters_of b n p q → Decides r (take n (drop at roster) ≡ row) → r ≡ same_row b n roster at p q
+    pub row_same : {hers : List ℕ} {r : Bool} → hers ≡ row_letters_of b n p q → Decides r (row ≡ hers) → r ≡ same_row b n row p q
     row_same e d = tests_alike _ _ (λ t. each_same (each_of_row (d.0 t ∙ e))) (λ t. d.1 (row_of_each (same_each t) ∙ sym e))
 
     -- the patterns are the sets of its letters
-    pub starts_read : Each → p < 2 ^ n → p ≡ letters_in roster at (letter 2) n
+    pub starts_read : Each → p < 2 ^ n → p ≡ letters_in row (letter 2) n
     unfolding letters_in
     starts_read e l =
-        number_is (λ d. eqb (get_or roster (at + d) 0) (letter 2)) n p l
+        number_is (λ d. eqb (get_or row d 0) (letter 2)) n p l
         (λ d h. sym (ap (λ (c : ℕ). eqb c (letter 2)) (e d h) ∙ starts_letter b p q d))
 
-    pub worked_read : Each → q < 2 ^ n → ((d : ℕ) → d < n → has q d ≡ true → available_on b p (suc d) ≡ true) → q ≡ letters_in roster at (letter 1) n
+    pub worked_read : Each → q < 2 ^ n → ((d : ℕ) → d < n → has q d ≡ true → available_on b p (suc d) ≡ true) → q ≡ letters_in row (letter 1) n
     unfolding letters_in
     worked_read e l a =
-        number_is (λ d. eqb (get_or roster (at + d) 0) (letter 1)) n q l
+        number_is (λ d. eqb (get_or row d 0) (letter 1)) n q l
         (λ d h. sym (ap (λ (c : ℕ). eqb c (letter 1)) (e d h) ∙ worked_letter b p q d (a d h)))

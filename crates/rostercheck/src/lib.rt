@@ -2,6 +2,7 @@
 #![tactic(auto)]
 
 mod needs;
+mod roster;
 mod rows_of;
 
 ghost use Rattle.std.specs.Prelude.{◌≡◌, ◌*◌, length};
@@ -9,12 +10,17 @@ ghost use Rattle.fields.specs.Fields.{nurses, days};
 ghost use Rattle.rostercheck.specs.CodeCheck.{holds};
 
 use fields::Body;
+use roster::Letters;
 
 // Whether every row follows from patterns, and every day's needs, lows and highs hold.
+#[tactic(auto, unfolding(crate::specs::CodeCheck::holds))]
 pub fn roster_holds(w: &Body, roster: &[u8]) -> bool
     requires { length roster.now ≡ nurses w.now.numbers.now * days w.now.numbers.now }
     ensures { result ≡ holds w.now.numbers.now roster.now }
 {
-    (0..w.nurses()).all(|i| rows_of::row_holds(w, roster, i))
-        && (0..w.days()).all(|d| needs::day_holds(w, roster, d))
+    let letters = Letters {
+        ward: *w,
+        letters: roster,
+    };
+    rows_of::rows_hold(&letters) && needs::days_hold(&letters)
 }

@@ -1,45 +1,35 @@
 // Whether a roster meets the needs, lows and highs of every day.
-ghost use Rattle.std.specs.Prelude.{◌≡◌, ◌&&◌, ◌+◌, ◌*◌, ◌<◌, ◌≤◌, length};
-ghost use Rattle.fields.specs.Sizes.{nurse_places, day_places};
-ghost use Rattle.numbers.specs.Digits.{has};
+ghost use Rattle.std.specs.Prelude.{◌≡◌, ◌<◌, length};
+ghost use Rattle.numbers.specs.Range.{up_from, all};
 ghost use Rattle.fields.specs.Shifts.{place};
-ghost use Rattle.fields.specs.Fields.{nurses, days};
-ghost use Rattle.penalty.specs.CodeColumns.{Same};
-ghost use Rattle.rostercheck.specs.Check.{duty_letter, lettered};
+ghost use Rattle.fields.specs.Fields.{days};
+ghost use Rattle.rostercheck.specs.Check.{duty_letter};
 ghost use Rattle.rostercheck.specs.CodeCheck.{duty_holds, day_holds};
 ghost use Rattle.rostercheck.specs.CodeBounds.{bounds_hold, all_bounds_hold};
 
+use crate::roster::Letters;
 use fields::day::Shift;
-use fields::{Body, day};
-
-// The nurses with this letter on the day of index d.
-fn column(roster: &[u8], m: usize, n: usize, d: usize, c: u8) -> u64
-    requires { (m ≤ nurse_places) × (n ≤ day_places) × (d < n) × (length roster.now ≡ m * n) }
-    ensures { Same m (has result) (lettered roster.now n d c) }
-{
-    numbers::set_of(m, |i| roster[i * n + d] == c)
-}
+use penalty::duty::Conditions;
 
 // The low and high of the group of index g.
 #[tactic(auto, unfolding(crate::specs::CodeBounds::bounds_hold))]
-fn bounds_hold(sets: &[u64], needs: &[u64], shift: Shift, col: u64, g: usize) -> bool
-    requires { (g < length sets.now) × (length needs.now ≡ 4 * length sets.now + 2) × (length sets.now ≤ 16) }
-    ensures { result ≡ bounds_hold sets.now needs.now (place shift) col g }
+fn bounds_hold(c: &Conditions, col: u64, g: usize) -> bool
+    requires { g < length c.now.sets.now }
+    ensures { result ≡ bounds_hold c.now.sets.now c.now.needs.now (place c.now.shift) col g }
 {
-    let bounds = day::bounds_of(needs, shift, g);
-    let count = numbers::members(col, sets[g]);
-    bounds.low <= count && count <= bounds.high
+    let bounds = c.bounds(g);
+    let count = numbers::members(col, c.sets[g]);
+    (bounds.low..=bounds.high).contains(&count)
 }
 
-// Every group's.
-fn all_bounds_hold(sets: &[u64], needs: &[u64], shift: Shift, col: u64) -> bool
-    requires { (length needs.now ≡ 4 * length sets.now + 2) × (length sets.now ≤ 16) }
-    ensures { result ≡ all_bounds_hold sets.now needs.now (place shift) col }
+// Every group's. By index, since g names the group's bounds too.
+fn all_bounds_hold(c: &Conditions, col: u64) -> bool
+    ensures { result ≡ all_bounds_hold c.now.sets.now c.now.needs.now (place c.now.shift) col }
 {
-    (0..sets.len()).all(|g| bounds_hold(sets, needs, shift, col, g))
+    (0..c.sets.len()).all(|g| bounds_hold(c, col, g))
 }
 
-// N by night, `-` by day.
+// N by night, `-` by day. Written here again, since `letters` gives out whole rows and no letter of a duty.
 #[tactic(auto, unfolding(letters::specs::Letters::letter))]
 fn duty_letter(shift: Shift) -> u8
     ensures { result ≡ duty_letter (place shift) }
@@ -51,23 +41,27 @@ fn duty_letter(shift: Shift) -> u8
 }
 
 // One duty of the day of index d.
-fn duty_holds(w: &Body, roster: &[u8], shift: Shift, d: usize) -> bool
-    requires { (length roster.now ≡ nurses w.now.numbers.now * days w.now.numbers.now) × (d < days w.now.numbers.now) }
-    ensures { result ≡ duty_holds w.now.numbers.now roster.now (place shift) d }
+fn duty_holds(r: &Letters, shift: Shift, d: usize) -> bool
+    requires { d < days r.now.ward.numbers.now }
+    ensures { result ≡ duty_holds r.now.ward.numbers.now r.now.letters.now (place shift) d }
 {
-    let m = w.nurses();
-    let n = w.days();
-    let col = column(roster, m, n, d, duty_letter(shift));
-    let needs = w.needs(d);
-    day::need(needs, shift) <= numbers::on_duty(col)
-        && all_bounds_hold(w.member_sets(), needs, shift, col)
+    let col = r.column(d, duty_letter(shift));
+    let c = Conditions::of(&r.ward, shift, d);
+    c.need() <= numbers::on_duty(col) && all_bounds_hold(&c, col)
 }
 
 // Both duties of the day of index d.
 #[tactic(auto, unfolding(crate::specs::CodeCheck::day_holds))]
-pub(crate) fn day_holds(w: &Body, roster: &[u8], d: usize) -> bool
-    requires { (length roster.now ≡ nurses w.now.numbers.now * days w.now.numbers.now) × (d < days w.now.numbers.now) }
-    ensures { result ≡ day_holds w.now.numbers.now roster.now d }
+fn day_holds(r: &Letters, d: usize) -> bool
+    requires { d < days r.now.ward.numbers.now }
+    ensures { result ≡ day_holds r.now.ward.numbers.now r.now.letters.now d }
 {
-    duty_holds(w, roster, Shift::Night, d) && duty_holds(w, roster, Shift::Day, d)
+    duty_holds(r, Shift::Night, d) && duty_holds(r, Shift::Day, d)
+}
+
+// Every day.
+pub(crate) fn days_hold(r: &Letters) -> bool
+    ensures { result ≡ all (day_holds r.now.ward.numbers.now r.now.letters.now) (up_from 0 (days r.now.ward.numbers.now)) }
+{
+    (0..r.ward.days()).all(|d| day_holds(r, d))
 }

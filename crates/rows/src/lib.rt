@@ -22,9 +22,11 @@ pub enum State {
     Rest = 3,
 }
 
-// Marks and duties are the file's numbers, here and in every crate above, as fields/src/nurse.rt says.
+// Marks and duties are the file's numbers, here and in every crate above, as fields/src/nurse.rt says. So are the duties that the code works out: a
+// row has them beside the seven that are read, and is judged by functions that take any row.
 
-// What each mark allows, by the day's state.
+// What each mark allows, by the day's state: a constant table of tables, as document 01 has it. It is handed to whatever judges by it, and has
+// numbers and no bools, since a ward may bring a table of its own, with 0, 1 and 2 (document 02, job 7).
 const ALLOWS: [[u8; 4]; 7] = [
     [1, 1, 1, 1],
     [1, 0, 0, 1],
@@ -73,7 +75,8 @@ fn day_zero(duty: u64) -> State
     }
 }
 
-// The state of every day of a month under night pattern p, and open after them, by her numbers.
+// The state of every day of a month under night pattern p, and open after them, by her numbers. An array of the longest month, here and for a row's
+// letters and duties: no heap.
 #[tactic(auto, using(crate::proofs::RowLaws::row_zero))]
 pub fn states(numbers: &[u64], days: usize, p: u32) -> [State; DAYS]
     requires { (days ≤ day_places) × (7 ≤ length numbers.now) }

@@ -6,7 +6,7 @@ ghost use Rattle.rows.specs.States.{code};
 ghost use Rattle.rows.specs.Pairs.{in_pair, rest_mark, at_rest, pair_fits};
 
 use crate::State;
-use fields::Body;
+use fields::{Body, WardNurse};
 
 // A mark, the file's number, under which a day of a pair may stand.
 pub fn is_rest_mark(mark: u64) -> bool
@@ -34,22 +34,21 @@ pub fn pair_days(w: &Body, k: usize) -> u32
     numbers::bit(second - 1) | numbers::bit(second)
 }
 
-// Whether pair k is nurse i's under the night pattern p.
+// Whether pair k is hers under the night pattern p.
 #[tactic(auto, unfolding(crate::specs::Pairs::pair_fits, crate::specs::Pairs::at_rest_on))]
-pub fn pair_fits(w: &Body, i: usize, p: u32, k: usize) -> bool
-    requires { i < nurses w.now.numbers.now }
-    ensures { result ≡ pair_fits w.now.numbers.now i p k }
+pub fn pair_fits(her: &WardNurse, p: u32, k: usize) -> bool
+    ensures { result ≡ pair_fits her.now.ward.numbers.now her.now.index p k }
 {
-    let count = w.pair_count();
+    let count = her.ward.pair_count();
     if k == 0 {
         return count == 0;
     }
     if count < k {
         return false;
     }
-    let b = w.nurse(i);
+    let b = her.numbers();
     let states = crate::states(b.numbers, b.days, p);
-    let second = w.pair_day(k) as usize;
+    let second = her.ward.pair_day(k) as usize;
     let first = second - 1;
     is_at_rest(b.mark(first), states[first]) && is_at_rest(b.mark(second), states[second])
 }

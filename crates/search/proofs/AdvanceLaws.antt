@@ -116,16 +116,16 @@ module _ {P : Phase} {past_zero : Bool} {k : ℕ} {r₀ r : Stored} {made pen : 
       (ap (λ (c : ℕ). (ended e made c (letters_at c), r)) (sym t.cost))
 
   -- where it stops it ends with "zero"
-  pub ends_zero : stops past_zero pen ≡ true → reply_stored P past_zero k r₀ ≡ (ended end_zero made pen (letters_at pen), r)
+  pub ends_zero : {b : Bool} → b ≡ stops past_zero pen → b ≡ true → reply_stored P past_zero k r₀ ≡ (ended end_zero made pen (letters_at pen), r)
   unfolding proceed
-  ends_zero z = ends end_zero (run_zero stop_here (best P) (stepped P.tabu) (k - made) (view_of P r) (stop_is z))
+  ends_zero s z = ends end_zero (run_zero stop_here (best P) (stepped P.tabu) (k - made) (view_of P r) (stop_is (sym s ∙ z)))
 
   -- else k made, with "asked"
-  pub ends_asked : stops past_zero pen ≡ false → made ≡ k → reply_stored P past_zero k r₀ ≡ (ended end_asked made pen (letters_at pen), r)
+  pub ends_asked : {b : Bool} → b ≡ stops past_zero pen → b ≡ false → made ≡ k → reply_stored P past_zero k r₀ ≡ (ended end_asked made pen (letters_at pen), r)
   unfolding proceed
-  ends_asked n m =
+  ends_asked s n m =
       let d : k - made ≡ 0 = omega arith in
-      ends end_asked (rw d (run_asked stop_here (best P) (stepped P.tabu) (view_of P r) (stop_is n)))
+      ends end_asked (rw d (run_asked stop_here (best P) (stepped P.tabu) (view_of P r) (stop_is (sym s ∙ n))))
 
   -- else no exchange, with "none"
   ends_none : stops past_zero pen ≡ false → made < k → best P (view_of P r) ≡ none → reply_stored P past_zero k r₀ ≡ (ended end_none made pen (letters_at pen), r)
@@ -209,13 +209,13 @@ step_moves P r {x} e = go (best P (view_of P r)) refl
         }
 
 -- the loop's last two cases, by the step that it made
-module _ {P : Phase} {past_zero : Bool} {k : ℕ} {r₀ r : Stored} {made pen : ℕ} (t : Turn P past_zero k r₀ r made pen) (n : stops past_zero pen ≡ false) (l : made ≢ k)
+module _ {P : Phase} {past_zero : Bool} {k : ℕ} {r₀ r : Stored} {made pen : ℕ} (t : Turn P past_zero k r₀ r made pen) {b : Bool} (s : b ≡ stops past_zero pen) (n : b ≡ false) (l : made ≢ k)
     {o : StoredOption Stepped} (q : o ≡ stepped_of P r) where
   below : made < k
   below = omega (arith, t.running.at_most, l)
 
   pub stays_none : o ≡ None → reply_stored P past_zero k r₀ ≡ (ended end_none made pen (cond (eqb pen 0) (P.letters (view_of P r).slots) []), r)
-  stays_none m = ends_none t n below (step_stays P r (sym m ∙ q))
+  stays_none m = ends_none t (sym s ∙ n) below (step_stays P r (sym m ∙ q))
 
   -- the next turn: the penalty carried on is that of the record after the step
   pub turn_on : {x : Stepped} → o ≡ Some x → Turn P past_zero k r₀ x.after (made + 1) x.penalty
@@ -225,7 +225,7 @@ module _ {P : Phase} {past_zero : Bool} {k : ℕ} {r₀ r : Stored} {made pen : 
       let i = best_nurse P (view_of P r) y.exchange y.chosen in
       let then = view_exchanged P.nurses P.tabu r t.running.whole t.fits.nurses_most t.fits.tabu_at_most y.exchange.nurse y.exchange.pattern i in
       record {
-        running = subst (λ (z : Stored). Running P past_zero k r₀ z (made + 1)) (sym y.after_is) (goes_on t n below y.exchange y.chosen);
+        running = subst (λ (z : Stored). Running P past_zero k r₀ z (made + 1)) (sym y.after_is) (goes_on t (sym s ∙ n) below y.exchange y.chosen);
         fits = t.fits;
         cost = y.penalty_is ∙ sym (ap (λ (z : Stored). P.cost (view_of P z).slots) y.after_is ∙ ap (λ (R : Record). P.cost R.slots) then);
       }

@@ -16,8 +16,7 @@ use Rattle.history.specs.declared.Search.TheVariants.{Nights, Days}
 use Rattle.history.specs.Slot.{Slot, is_none, exchanged}
 use Rattle.history.specs.Phase.{Phase}
 use Rattle.history.specs.Record.{may_take, cost_after}
-use Rattle.penalty.specs.declared.Penalty.{Penalty}
-use Rattle.penalty.specs.Penalty.{parts_of, total, rest, unplaced_in, starts_in, at_night, available_in, at_day, parts_in}
+use Rattle.penalty.specs.Penalty.{Parts, total, rest, unplaced_in, starts_in, at_night, available_in, at_day, parts_in}
 use Rattle.penalty.specs.CodeColumns.{Same, Shows, NursePut}
 use Rattle.penalty.proofs.ColumnLaws.{same_as, night_after, available_after, day_after}
 use Rattle.penalty.proofs.BoundLaws.{night_split, day_split, unplaced_after}
@@ -29,15 +28,16 @@ use Rattle.best.specs.CodeBest.{Best, over_list, cost_in, best_over}
 use Rattle.best.proofs.BestLaws.{nurses_none, nurses_turn}
 use Rattle.best.specs.declared.Exchange.{Exchange}
 use Rattle.tries.specs.CodeTries.{Bars, AllHers, offered, NightList, tried_in}
-use Rattle.tries.specs.declared.nurse.Offered.{Offered}
-use Rattle.tries.specs.declared.nurse.Offered.TheVariants.{Own, Common}
+use Rattle.tries.specs.declared.lists.Offered.{Offered}
+use Rattle.tries.specs.declared.lists.Offered.TheVariants.{Own, Common}
 use Rattle.ownlists.specs.declared.Source.{Source}
 use Rattle.ownlists.specs.declared.Source.TheVariants.{Kept, Whole, Among}
 use Rattle.search.specs.Stored.{slot_at, held, view, view_of, sound_stored, Sized}
 use Rattle.search.specs.CodeSteps.{exchanged_in, stepped_of}
 use Rattle.search.specs.CodeSeek.{cost_of, Agree, SeeksBy, listed_by}
-use Rattle.search.specs.CodeChoice.{ColumnsOf, MayBy, IsOffered, SourceHers, BestNeeds, tried_in_offers, SeeksIn, StepNeeds}
-use Rattle.search.specs.declared.choice.Offers.{Offers}
+use Rattle.search.specs.CodePlan.{IsOffered, SourceHers}
+use Rattle.search.specs.CodeChoice.{ColumnsOf, MayBy, BestNeeds, tried_in_offers, SeeksIn, StepNeeds}
+use Rattle.search.specs.declared.offers.Offers.{Offers}
 use Rattle.penalty.specs.declared.columns.Columns.{Columns}
 use Rattle.search.specs.declared.Stepped.{Stepped}
 use Rattle.search.specs.declared.Record.{Record as Stored}
@@ -81,7 +81,7 @@ module _ {o : Offers} {cols : Columns} {u : ℕ} {r : Stored} (n : BestNeeds o c
     was_none = ap is_none (agree_at w r slots_in i agrees l) ∙ none_flag (get_or r.placed i false) (get_or r.patterns i 0)
 
     counted_now : u ≡ unplaced_in w slots_in
-    counted_now = n.counted.is ∙ unplaced_is w r slots_in refl agrees
+    counted_now = n.counted.is ∙ unplaced_is w r slots_in agrees
 
     pub others_then : (p : ℕ) → u ≡ unplaced_in w (exchanged slots_in i p) + one_if (not (get_or r.placed i false))
     others_then p = counted_now ∙ unplaced_after w slots_in i p l ∙ ap (λ (b : Bool). unplaced_in w (exchanged slots_in i p) + one_if b) was_none
@@ -128,22 +128,22 @@ bars_are may w i r bars m e q g p =
     m p ∙ ap not (sym (g p ∙ ap₂ (λ (b : Bool) (l : List StoredRemoval). b || given_up_by l (i + 1) p) placed q))
 
 -- by night her list is all hers, or the common one
-pub night_list : (w lists own : List ℕ) (i : ℕ) (s : Source) (list : Offered) → IsOffered lists own s list → SourceHers w lists own i s → NightList w i list
-night_list w lists own i (Kept b e) (Own l) q h = subst (AllHers w i) (sym q) h
-night_list w lists own i (Kept b e) (Common l) q h = absurd q
-night_list w lists own i Whole (Own l) q h = subst (AllHers w i) (sym q) h
-night_list w lists own i Whole (Common l) q h = absurd q
-night_list w lists own i Among (Own l) q h = absurd q
-night_list w lists own i Among (Common l) q h = q ∙ h
+pub night_list : (w lists : List ℕ) (i : ℕ) (s : Source) (list : Offered) → IsOffered lists s list → SourceHers w lists i s → NightList w i list
+night_list w lists i (Kept own) (Own l) q h = subst (AllHers w i) (sym q) (h.kept_hers own refl)
+night_list w lists i (Kept own) (Common l) q h = absurd q
+night_list w lists i Whole (Own l) q h = subst (AllHers w i) (sym q) (h.whole_hers refl)
+night_list w lists i Whole (Common l) q h = absurd q
+night_list w lists i Among (Own l) q h = absurd q
+night_list w lists i Among (Common l) q h = q ∙ h.among_common refl
 
 -- its patterns
-pub offered_is : (lists own : List ℕ) (s : Source) (list : Offered) → IsOffered lists own s list → offered list ≡ listed_by lists own s
-offered_is lists own (Kept b e) (Own l) q = q
-offered_is lists own (Kept b e) (Common l) q = absurd q
-offered_is lists own Whole (Own l) q = q
-offered_is lists own Whole (Common l) q = absurd q
-offered_is lists own Among (Own l) q = absurd q
-offered_is lists own Among (Common l) q = q
+pub offered_is : (lists : List ℕ) (s : Source) (list : Offered) → IsOffered lists s list → offered list ≡ listed_by lists s
+offered_is lists (Kept own) (Own l) q = q
+offered_is lists (Kept own) (Common l) q = absurd q
+offered_is lists Whole (Own l) q = q
+offered_is lists Whole (Common l) q = absurd q
+offered_is lists Among (Own l) q = absurd q
+offered_is lists Among (Common l) q = q
 
 -- what was found, by her list and the unplaced besides her
 pub found_in : (which : Search) (w : List ℕ) (may : ℕ → Bool) (cost : ℕ → ℕ) (i : ℕ) (held : Best) {others a : ℕ} {list tried : List ℕ} {r : Best} → a ≡ others → list ≡ tried
@@ -192,7 +192,7 @@ module _ {which : Search} {w : List ℕ} {tried : ℕ → List ℕ} {P : Phase} 
 
     unplaced_now : u ≡ unplaced_in w (exchanged slots_now i p) + one_if (not (get_or r.placed i false))
     unplaced_now =
-        count.is ∙ unplaced_is w r slots_now refl agrees_now ∙ unplaced_after w slots_now i p l
+        count.is ∙ unplaced_is w r slots_now agrees_now ∙ unplaced_after w slots_now i p l
         ∙ ap (λ (b : Bool). unplaced_in w (exchanged slots_now i p) + one_if b) (ap is_none (agree_at w r slots_now i agrees_now l) ∙ none_flag (get_or r.placed i false) (get_or r.patterns i 0))
 
     pub exchange_cost : {pen : ℕ} → ((slots : ℕ → Slot) → Shows which w slots cols → u ≡ unplaced_in w (exchanged slots i p) + one_if (not (get_or r.placed i false))
@@ -207,10 +207,6 @@ module _ {which : Search} {w : List ℕ} {tried : ℕ → List ℕ} {P : Phase} 
 -- ---- what a step asks, and its choice
 
 module _ {o : Offers} {cols : Columns} {r : Stored} (n : StepNeeds o cols r) where
-  pub count_as : {m u : ℕ} → m ≡ nurses o.ward.now.numbers.now → Is u (count_to m (λ j. not (get_or r.placed j false))) nurse_places
-      → Is u (count_to (nurses o.ward.now.numbers.now) (λ j. not (get_or r.placed j false))) nurse_places
-  count_as {u = u} e q = subst (λ (k : ℕ). Is u (count_to k (λ j. not (get_or r.placed j false))) nurse_places) e q
-
   -- the nurse of the exchange that was chosen
   pub chosen_nurse : {b : Best} {y : Exchange} → ((P : Phase) → SeeksIn o P → b ≡ best_over P (view_of P r) P.nurses) → b ≡ Some y → y.nurse < nurses o.ward.now.numbers.now
   chosen_nurse f q = seeks_nurse n.sought r (f n.phase n.sought) q
@@ -229,10 +225,10 @@ slot_after tl r i p j z l = go (eqb j i) refl
         rw (get_or-set_other r.placed i j true false (eqb-false j i e), get_or-set_other r.patterns i j p 0 (eqb-false j i e)) refl
 
 -- the trial's penalty, by the unplaced besides her
-pub trial_total : (which : Search) (w : List ℕ) (cols : Columns) (i p nights free : ℕ) (placed : Bool) {u o pen : ℕ} {y : Penalty} → ((a : ℕ) → u ≡ a + one_if (not placed) → o ≡ a)
+pub trial_total : (which : Search) (w : List ℕ) (cols : Columns) (i p nights free : ℕ) (placed : Bool) {u o pen : ℕ} {y : Parts} → ((a : ℕ) → u ≡ a + one_if (not placed) → o ≡ a)
     → CountsIn which w i p nights free
     → ((slots : ℕ → Slot) (q : ℕ) → Shows which w slots cols → CountsIn which w i q nights free → o ≡ unplaced_in w (exchanged slots i q)
-    → parts_of y ≡ parts_in which w (exchanged slots i q)) → pen ≡ total (parts_of y)
+    → y ≡ parts_in which w (exchanged slots i q)) → pen ≡ total y
     → (slots : ℕ → Slot) → Shows which w slots cols → u ≡ unplaced_in w (exchanged slots i p) + one_if (not placed) → pen ≡ total (parts_in which w (exchanged slots i p))
 trial_total which w cols i p nights free placed f c g e slots s q = e ∙ ap total (g slots p s c (f _ q))
 

@@ -1,6 +1,9 @@
 -- Everyone's lists by a plan: what is kept of them, and that nothing else is tried than by the lists themselves.
-use Rattle.std.specs.Prelude.{ℕ, ◌^◌, ◌<◌, ◌≤◌, ◌≡◌, refl, Bool, false, ◌&&◌, List, length, get_or}
-use Rattle.std.proofs.Common.{sym, ap, ◌∙◌, subst, arith}
+use Rattle.std.specs.Array.{IsFromFnResultFrom, IsFromFnResult}
+use Rattle.std.specs.Fn.{Called}
+use denote.Param.Members.{Mut}
+use Rattle.std.specs.Prelude.{ℕ, zero, suc, ◌+◌, ◌⊎◌, ◌^◌, ◌<◌, ◌≤◌, ◌≡◌, refl, Bool, false, ◌&&◌, List, get_or}
+use Rattle.std.proofs.Common.{sym, ap, ◌∙◌, subst, arith, inl, inr, eq-or-lt_of_le}
 use Rattle.numbers.specs.Range.{filter}
 use Rattle.numbers.proofs.RangeLaws.{filter_passes}
 use Rattle.numbers.proofs.MemberLaws.{Each}
@@ -18,9 +21,9 @@ use Rattle.tries.specs.CodeTries.{AllHers, tried_in}
 use Rattle.ownlists.specs.declared.Source.{Source}
 use Rattle.ownlists.specs.declared.Source.TheVariants.{Kept, Whole, Among}
 use Rattle.ownlists.specs.declared.OwnList.{OwnList}
-use Rattle.ownlists.specs.CodeOwn.{stretch_from, no_list, SourceAt, OwnLists}
-use Rattle.search.specs.CodeSeek.{tried_by, SeeksBy, listed_by, tried_at}
-use Rattle.search.specs.CodeChoice.{SourceFits, SourceHers, Tries, DayPlan}
+use Rattle.ownlists.specs.CodeOwn.{no_list, SourceAt, OwnLists}
+use Rattle.search.specs.CodeSeek.{Lists, tried_by, SeeksBy, listed_by, tried_at}
+use Rattle.search.specs.CodePlan.{SourceHers, Tries, DayPlan}
 
 -- ---- by night
 
@@ -40,47 +43,56 @@ tried_own w i list a = with_pairs_kept (own_pattern w i) (hers_of w i) w never l
         own_at w i p (get_or (pair_numbers w) j 0) (pair_number_lt w few j l) ∙ ap (λ (b : Bool). b && pair_fits w i p (get_or (pair_numbers w) j 0)) e
 
 -- what is known of her own patterns is what the search asks of them
-source_fits : (w list own : List ℕ) (i : ℕ) (s : Source) → SourceAt w list own (length own) i s → SourceFits own s
-source_fits w list own i (Kept b e) k = (k.begins, k.finishes)
-source_fits w list own i Whole k = tt
-source_fits w list own i Among k = tt
+source_hers : (w lists : List ℕ) (i : ℕ) (s : Source) → SourceAt w lists i s → lists ≡ common_of w → SourceHers w lists i s
+source_hers w lists i s k q = record {
+  kept_hers = λ own z. filtered_hers w i own.now lists (subst (SourceAt w lists i) z k);
+  whole_hers = λ z. filtered_hers w i lists lists (sym (subst (SourceAt w lists i) z k));
+  among_common = λ z. q;
+}
 
-source_hers : (w lists own : List ℕ) (i : ℕ) (s : Source) → SourceAt w lists own (length own) i s → lists ≡ common_of w → SourceHers w lists own i s
-source_hers w lists own i (Kept b e) k q = filtered_hers w i (stretch_from own b e) lists k.stretch
-source_hers w lists own i Whole k q = filtered_hers w i lists lists (sym k)
-source_hers w lists own i Among k q = q
+source_tried : (w lists : List ℕ) (i : ℕ) (s : Source) → Accepted w → SourceAt w lists i s → tried_in Nights w i (listed_by lists s) ≡ tried_in Nights w i lists
+source_tried w lists i (Kept own) a k = ap (tried_in Nights w i) k ∙ tried_own w i lists a
+source_tried w lists i Whole a k = refl
+source_tried w lists i Among a k = refl
 
-source_tried : (w lists own : List ℕ) (i : ℕ) (s : Source) → Accepted w → SourceAt w lists own (length own) i s → tried_in Nights w i (listed_by lists own s) ≡ tried_in Nights w i lists
-source_tried w lists own i (Kept b e) a k = ap (tried_in Nights w i) k.stretch ∙ tried_own w i lists a
-source_tried w lists own i Whole a k = refl
-source_tried w lists own i Among a k = refl
-
-module _ {w lists own : List ℕ} {plan : List OwnList} (o : OwnLists w lists own plan) where
-  pub own_tries : lists ≡ common_of w → Tries Nights w lists own plan
+module _ {w lists : List ℕ} {plan : List OwnList} (o : OwnLists w lists plan) where
+  pub own_tries : lists ≡ common_of w → Tries Nights w lists plan
   own_tries e = record {
-    each = λ i l. let at = o.each i l in record {
-      fits = source_fits w lists own i (get_or plan i no_list).source at.source_is;
-      by_night = λ z. record { source_hers = source_hers w lists own i (get_or plan i no_list).source at.source_is e; workable_are = at.workable_are; before_is = at.before_is };
-    };
+    each = λ i l. let at = o.each i l in record { by_night = λ z. record { source_hers = source_hers w lists i (get_or plan i no_list).source at.source_is e; workable_are = at.workable_are; before_is = at.before_is } };
   }
 
-  pub own_sought : (ends : List ℕ) {P : Phase} → Accepted w → SeeksBy Nights w (tried_by Nights w lists ends) P → SeeksBy Nights w (tried_at Nights w lists own plan) P
+  pub own_sought : (ends : List ℕ) {P : Phase} → Accepted w → SeeksBy Nights w (tried_by Nights w lists ends) P → SeeksBy Nights w (tried_at Nights w lists plan) P
   own_sought ends {P} a s = record {
     nurses_are = s.nurses_are;
     tabu_is = s.tabu_is;
     cost_is = s.cost_is;
-    patterns_are = λ i l. s.patterns_are i l ∙ sym (source_tried w lists own i (get_or plan i no_list).source a (o.each i l).source_is);
+    patterns_are = λ i l. s.patterns_are i l ∙ sym (source_tried w lists i (get_or plan i no_list).source a (o.each i l).source_is);
     ascending = s.ascending;
   }
 
 -- ---- by day
 
-module _ (w lists : List ℕ) {ends : List ℕ} {plan : List OwnList} (o : DayPlan ends plan) (few : nurses w ≤ nurse_places) where
-  pub day_sought : {P : Phase} → SeeksBy Days w (tried_by Days w lists ends) P → SeeksBy Days w (tried_at Days w lists lists plan) P
+-- of an array made by a closure each place is as the closure says
+module _ {F B : Type 0} {g : Mut F (ℕ × Unit {0}) B} {f : F} (ys : List B) (P : ℕ → B → Type 0) (z : B) (gives : (x : ℕ) (y : B) (q : F) → Called g f (x, tt) y q → (q ≡ f) × P x y) where
+  each_from : (n i : ℕ) (p : F) → p ≡ f → IsFromFnResultFrom g p ys i n → (j : ℕ) → i ≤ j → j < i + n → P j (get_or ys j z)
+  each_from zero i p e w j l h = absurd (omega arith)
+  each_from (suc n) i p e w j l h =
+      let told = gives i w.1 w.0 (subst (λ (x : F). Called g x (i, tt) w.1 w.0) e w.3) in
+      go (eq-or-lt_of_le l) told.1 (λ d. each_from n (i + 1) w.0 told.0 w.4 j (omega arith) (omega arith))
+    where
+      go : (i ≡ j) ⊎ (i < j) → P i w.1 → (i < j → P j (get_or ys j z)) → P j (get_or ys j z)
+      go (inl q) t rest = subst (λ (x : ℕ). P x (get_or ys x z)) q (subst (P i) (sym (w.2.1 z)) t)
+      go (inr d) t rest = rest d
+
+  pub each_made : {m : ℕ} → IsFromFnResult g f ys m → (j : ℕ) → j < m → P j (get_or ys j z)
+  each_made {m} r j h = each_from m 0 f refl r.each j (omega arith) (omega arith)
+
+module _ (w lists : List ℕ) {ends : List ℕ} {plan : List OwnList} (o : DayPlan lists ends plan) (few : nurses w ≤ nurse_places) (has : Lists Days w lists ends) where
+  pub day_sought : {P : Phase} → SeeksBy Days w (tried_by Days w lists ends) P → SeeksBy Days w (tried_at Days w lists plan) P
   day_sought {P} s = record {
     nurses_are = s.nurses_are;
     tabu_is = s.tabu_is;
     cost_is = s.cost_is;
-    patterns_are = λ i l. s.patterns_are i l ∙ ap (λ (x : Source). tried_in Days w i (listed_by lists lists x)) (sym (o.sources_are i (omega arith)));
+    patterns_are = λ i l. s.patterns_are i l ∙ ap (tried_in Days w i) (sym (o.each i (omega arith) (has.begins refl i l) (has.finishes refl i l)));
     ascending = s.ascending;
   }

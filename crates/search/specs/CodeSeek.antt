@@ -10,10 +10,12 @@ use Rattle.penalty.specs.Penalty.{starts_in, worked_in, night_penalty, day_penal
 use Rattle.ownlists.specs.declared.Source.{Source}
 use Rattle.ownlists.specs.declared.Source.TheVariants.{Kept, Whole, Among}
 use Rattle.ownlists.specs.declared.OwnList.{OwnList}
-use Rattle.ownlists.specs.CodeOwn.{stretch_from, no_list}
+use Rattle.ownlists.specs.CodeOwn.{no_list}
 use Rattle.tries.specs.CodeTries.{tried_in}
 use Rattle.history.specs.Phase.{Phase, Answer, ended, End, end_zero, end_asked, end_none}
 use Rattle.search.specs.Stored.{slot_at, view_of, sound_stored}
+use Rattle.search.specs.declared.Searched.{Searched}
+use Rattle.search.specs.declared.Searched.TheVariants.{Nights as ByNight, Days as ByDay}
 use Rattle.search.specs.declared.Ending.{Ending}
 use Rattle.search.specs.declared.Ending.TheVariants.{Zero, Asked, None}
 use Rattle.search.specs.declared.Advanced.{Advanced}
@@ -42,6 +44,15 @@ abbrev pub tried_by : Search → List ℕ → List ℕ → List ℕ → ℕ → 
 tried_by Days w lists ends i = tried_in Days w i (stretch lists ends i)
 tried_by Nights w lists ends i = tried_in Nights w i lists
 
+-- which search it is, and where its stretches end: by night there are none
+abbrev pub search_of : {D : Type 0} → Searched D → Search
+search_of ByNight = Nights
+search_of (ByDay ends) = Days
+
+abbrev pub ends_of : Searched (List ℕ) → List ℕ
+ends_of ByNight = []
+ends_of (ByDay ends) = ends
+
 -- the lists as the loops over them need them
 pub record Lists (which : Search) (w lists ends : List ℕ) : Type 0 where
   pub common_list : which ≡ Nights → lists ≡ common_of w
@@ -69,16 +80,16 @@ ServedSound which w lists ends r = SoughtSound which w (tried_by which w lists e
 
 -- ---- by a plan: where nurse i's own patterns stand says which list is hers
 
-abbrev pub listed_by : List ℕ → List ℕ → Source → List ℕ
-listed_by lists own (Kept b e) = stretch_from own b e
-listed_by lists own Whole = lists
-listed_by lists own Among = lists
+abbrev pub listed_by : List ℕ → Source → List ℕ
+listed_by lists (Kept own) = own.now
+listed_by lists Whole = lists
+listed_by lists Among = lists
 
-abbrev pub list_at : List ℕ → List ℕ → List OwnList → ℕ → List ℕ
-list_at lists own plan i = listed_by lists own (get_or plan i no_list).source
+abbrev pub list_at : List ℕ → List OwnList → ℕ → List ℕ
+list_at lists plan i = listed_by lists (get_or plan i no_list).source
 
-abbrev pub tried_at : Search → List ℕ → List ℕ → List ℕ → List OwnList → ℕ → List ℕ
-tried_at which w lists own plan i = tried_in which w i (list_at lists own plan i)
+abbrev pub tried_at : Search → List ℕ → List ℕ → List OwnList → ℕ → List ℕ
+tried_at which w lists plan i = tried_in which w i (list_at lists plan i)
 
 -- how an advance ended
 abbrev pub end_by : Ending → End

@@ -1,5 +1,6 @@
 pub mod Stored
 pub mod CodeSteps
 pub mod CodeSeek
+pub mod CodePlan
 pub mod CodeChoice
 pub mod Sound

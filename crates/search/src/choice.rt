@@ -2,38 +2,25 @@
 ghost use Rattle.std.specs.Prelude.{◌≡◌, Bool, false, not, ℕ, ◌+◌, ◌*◌, ◌≤◌, ◌<◌, get_or};
 ghost use Rattle.fields.specs.Sizes.{nurse_places};
 ghost use Rattle.numbers.specs.Sum.{one_if};
+ghost use Rattle.fields.specs.Fields.{nurses};
 ghost use Rattle.history.specs.Slot.{Slot, exchanged};
 ghost use Rattle.history.specs.Phase.{Phase};
 ghost use Rattle.penalty.specs.Penalty.{rest, parts_in};
 ghost use Rattle.penalty.specs.CodeColumns.{Shows};
-ghost use Rattle.ownlists.specs.CodeOwn.{no_list};
 ghost use Rattle.best.specs.CodeBest.{over_list, best_over};
-ghost use Rattle.tries.specs.CodeTries.{MarginsIn};
+ghost use Rattle.tries.specs.CodeTries.{MarginsIn, margins_prop};
 ghost use Rattle.search.specs.Stored.{view_of};
-ghost use Rattle.search.specs.CodeChoice.{MayBy, SourceFits, IsOffered, OneNeeds, BestNeeds, tried_in_offers, SeeksIn, DayPlan};
+ghost use Rattle.search.specs.CodeChoice.{MayBy, BestNeeds, tried_in_offers, SeeksIn};
 
 use crate::Record;
+use crate::offers::Offers;
 use best::Exchange;
-use fields::Body;
-use fields::sizes::{ENDS, NURSES};
-use history::Search;
 use margins::Margins;
-use ownlists::{OwnList, Source};
 use penalty::columns::Columns;
 use removals::BARS;
-use std::array;
 use tables::Table;
-use tries::nurse::{InForce, Offered, Tried};
-
-// What a search offers: the lists of a ward, and by a plan everyone's own of them.
-#[derive(Clone, Copy)]
-pub(crate) struct Offers<'a> {
-    pub(crate) ward: &'a Body<'a>,
-    pub(crate) search: Search,
-    pub(crate) lists: &'a [u32],
-    pub(crate) own: &'a [u32],
-    pub(crate) plan: &'a [OwnList; NURSES],
-}
+use tries::lists::Tried;
+use tries::nurse::InForce;
 
 // What a step writes into, lent from step to step: the margins, and a nurse's table.
 #[derive(Drop)]
@@ -43,6 +30,7 @@ pub(crate) struct Work {
 }
 
 // What a step chooses by: what is offered, the columns in force with their margins, and the record, of whom so many are unplaced.
+// The record is lent, not copied: it is large, and only read.
 #[derive(Clone, Copy)]
 struct Choice<'a> {
     offers: &'a Offers<'a>,
@@ -50,20 +38,8 @@ struct Choice<'a> {
     margins: &'a Margins,
     rec: &'a Record,
     unplaced: u64,
-}
-
-// By day each nurse's stretch, by where the lists end.
-pub(crate) fn day_plan(ends: [usize; ENDS]) -> [OwnList; NURSES]
-    ensures { DayPlan ends result }
-{
-    array::from_fn(|i| OwnList {
-        source: Source::Kept {
-            begin: ends[i],
-            end: ends[i + 1],
-        },
-        workable: 0,
-        before: 0,
-    })
+    ghost unplaced_most: { unplaced ≤ nurse_places },
+    ghost made: { MarginsIn offers.now.search offers.now.ward.now.numbers.now cols.now margins.now } by { margins_prop offers.now.search offers.now.ward.now.numbers.now cols.now margins.now },
 }
 
 // The unplaced nurses besides one who is placed or not.
@@ -75,18 +51,6 @@ pub(crate) fn others_than(placed: bool, unplaced: u64) -> u64
 }
 
 impl Offers<'_> {
-    // Nurse i's list: her own stretch where it is kept, else the lists, which are hers or have hers among them.
-    fn list(&self, i: usize) -> Offered<'_>
-        requires { SourceFits self.now.own.now (get_or self.now.plan.now i no_list).source × (i < nurse_places) }
-        ensures { IsOffered self.now.lists.now self.now.own.now (get_or self.now.plan.now i no_list).source result }
-    {
-        match self.plan[i].source {
-            Source::Kept { begin, end } => Offered::Own(&self.own[begin..end]),
-            Source::Whole => Offered::Own(self.lists),
-            Source::Among => Offered::Common(self.lists),
-        }
-    }
-
     // The exchange that a step takes. The margins are made once from the columns in force; each nurse's table is made from them.
     pub(crate) fn best_of(
         &self,
@@ -113,15 +77,15 @@ impl Offers<'_> {
 impl Choice<'_> {
     // The best of what is held and of what nurse i tries.
     fn over_one(&self, table: &mut Table, i: usize, held: Option<Exchange>) -> Option<Exchange>
-        requires { OneNeeds self.now i }
+        requires { i < nurses self.now.offers.now.ward.now.numbers.now }
         ensures { (slots : ℕ → Slot) (may : ℕ → Bool) (others : ℕ) → Shows self.now.offers.now.search self.now.offers.now.ward.now.numbers.now slots self.now.cols.now →
             MayBy may self.now.offers.now.ward.now.numbers.now i self.now.rec.now → self.now.unplaced ≡ others + one_if (not (get_or self.now.rec.now.placed i false)) →
             result ≡ over_list may (λ p. rest (parts_in self.now.offers.now.search self.now.offers.now.ward.now.numbers.now (exchanged slots i p)) + 10000000 * others) i held (tried_in_offers self.now.offers.now i) }
     {
         let offers = self.offers;
         let placed = self.rec.placed[i];
-        let current = placed.then_some(self.rec.patterns[i]);
-        let count = (self.rec.steps as usize).min(offers.ward.tabu());
+        let current = self.rec.slot(i);
+        let count = self.rec.held(offers.ward.tabu());
         let mut bars = [0u64; BARS];
         let barred = removals::bars_of(
             &self.rec.removals[..count],
@@ -130,15 +94,14 @@ impl Choice<'_> {
             &mut bars,
         );
         let tried = Tried {
+            nurse: offers.ward.nurse_at(i),
             list: offers.list(i),
             workable: offers.plan[i].workable,
             before: offers.plan[i].before,
             barred: &bars[..barred],
             others: others_than(placed, self.unplaced),
-            nurse: i,
         };
         let counts = InForce {
-            ward: offers.ward,
             search: offers.search,
             cols: self.cols,
             margins: self.margins,
@@ -148,8 +111,7 @@ impl Choice<'_> {
 
     // The best of what everyone tries, nurse by nurse.
     fn over_everyone(&self, table: &mut Table) -> Option<Exchange>
-        requires needs { BestNeeds self.now.offers.now self.now.cols.now self.now.unplaced self.now.rec.now }
-        requires margins { MarginsIn self.now.offers.now.search self.now.offers.now.ward.now.numbers.now self.now.cols.now self.now.margins.now }
+        requires { BestNeeds self.now.offers.now self.now.cols.now self.now.unplaced self.now.rec.now }
         ensures { (P : Phase) → SeeksIn self.now.offers.now P → result ≡ best_over P (view_of P self.now.rec.now) P.nurses }
     {
         let mut best = None;

@@ -2,28 +2,32 @@
 #![tactic(auto)]
 
 mod choice;
+mod offers;
 pub mod slots;
 
-ghost use Rattle.std.specs.Prelude.{◌≡◌, true, false, not, ◌&&◌, [], ℕ, List, ◌+◌, ◌*◌, ◌<◌, ◌≤◌, leb, get_or, IfSome};
+ghost use Rattle.std.specs.Prelude.{◌≡◌, true, false, not, ◌&&◌, [], ℕ, List, ◌+◌, ◌*◌, ◌<◌, ◌≤◌, leb, get_or, IfSome, None};
 ghost use Rattle.fields.specs.Sizes.{nurse_places, tabu_most};
+ghost use Rattle.std.specs.Bool.{then_some};
 ghost use Rattle.numbers.specs.Sum.{one_if};
-ghost use Rattle.fields.specs.Fields.{tabu};
+ghost use Rattle.fields.specs.Fields.{nurses, tabu};
 ghost use Rattle.nights.specs.Nights.{common_of};
 ghost use Rattle.history.specs.declared.Search.TheVariants.{Nights};
 ghost use Rattle.history.specs.Slot.{Slot, exchanged};
 ghost use Rattle.history.specs.Phase.{Phase, stops};
 ghost use Rattle.penalty.specs.Penalty.{total, unplaced_in, parts_in};
 ghost use Rattle.penalty.specs.CodeColumns.{Shows};
-ghost use Rattle.search.specs.CodeSeek.{Lists, Seeks, SeeksBy, tried_by, ServedSound, SoughtSound, answer_of};
-ghost use Rattle.search.specs.Stored.{all_zero, unused_zero, Sized, sound_stored, reply_stored};
+ghost use Rattle.search.specs.CodeSeek.{search_of, ends_of, Lists, Seeks, SeeksBy, tried_by, ServedSound, SoughtSound, answer_of};
+ghost use Rattle.search.specs.Stored.{all_zero, held, unused_zero, Sized, sound_stored, reply_stored};
 ghost use Rattle.search.specs.CodeSteps.{removal_by, exchanged_in, stepped_of};
-ghost use Rattle.search.specs.CodeChoice.{ColumnsOf, TriesIn, SeeksIn, SoundIn, ExchangeNeeds, StepNeeds};
+ghost use Rattle.search.specs.CodeChoice.{ColumnsOf, SeeksIn, SoundIn, ExchangeNeeds, StepNeeds};
 
-use choice::{Offers, Work};
+use best::Exchange;
+use choice::Work;
 use fields::Body;
 use fields::sizes::{ENDS, NURSES, REMOVALS};
 use history::Search;
 use margins::Margins;
+use offers::Offers;
 use penalty::columns::Columns;
 use removals::Removal;
 use tables::Table;
@@ -39,11 +43,12 @@ pub struct Record {
     pub steps: u32,
 }
 
-// Which search it is, and by day where each nurse's stretch of the lists ends.
+// Which search it is; by day with what it needs besides: an advance where each nurse's stretch of the lists ends, the questions the
+// nights. No Option: each case says which search it is.
 #[derive(Clone, Copy)]
-pub struct Stretches {
-    pub search: Search,
-    pub ends: [usize; ENDS],
+pub enum Searched<D> {
+    Nights,
+    Days(D),
 }
 
 // The record after an exchange, and its penalty.
@@ -54,7 +59,7 @@ pub struct Stepped {
 }
 
 // How an advance ended: at penalty zero, with the steps asked, or with no exchange left.
-#[derive(Clone, Copy)]
+#[derive(Clone, Copy, Debug, PartialEq, Eq)]
 pub enum Ending {
     Zero,
     Asked,
@@ -70,6 +75,17 @@ pub struct Advanced {
     pub ending: Ending,
 }
 
+impl<D> Searched<D> {
+    fn search(&self) -> Search
+        ensures { result ≡ search_of self.now }
+    {
+        match self {
+            Searched::Nights => Search::Nights,
+            Searched::Days(_) => Search::Days,
+        }
+    }
+}
+
 impl Record {
     pub fn fresh() -> Record
         ensures { result ≡ all_zero }
@@ -77,13 +93,24 @@ impl Record {
         Record {
             patterns: [0; NURSES],
             placed: [false; NURSES],
-            removals: [Removal {
-                nurse: 0,
-                has: false,
-                pattern: 0,
-            }; REMOVALS],
+            removals: [Removal::default(); REMOVALS],
             steps: 0,
         }
+    }
+
+    // How many removals are held: as many as steps so far, but not above TL.
+    pub fn held(&self, tl: usize) -> usize
+        ensures { result ≡ held tl self.now }
+    {
+        (self.steps as usize).min(tl)
+    }
+
+    // The pattern of the nurse at this place, where her flag says that she has one.
+    pub fn slot(&self, nurse: usize) -> Option<u64>
+        requires { nurse < nurse_places }
+        ensures { result ≡ then_some (get_or self.now.placed nurse false) (get_or self.now.patterns nurse 0) }
+    {
+        self.placed[nurse].then_some(self.patterns[nurse])
     }
 
     // What a step of the nurse takes away.
@@ -91,11 +118,11 @@ impl Record {
         requires { nurse < nurse_places }
         ensures { result ≡ removal_by self nurse }
     {
-        let placed = self.placed[nurse];
+        let held = self.slot(nurse);
         Removal {
             nurse: nurse as u32 + 1,
-            has: placed,
-            pattern: if placed { self.patterns[nurse] } else { 0 },
+            has: held.is_some(),
+            pattern: held.unwrap_or(0),
         }
     }
 
@@ -119,18 +146,16 @@ impl Record {
         ensures zero { result ≡ unused_zero m tl self }
         ensures sized { Sized self }
     {
-        let held = (self.steps as usize).min(tl);
         removals::unused::slots_zero(self.placed, self.patterns, m)
-            && removals::unused::removals_zero(self.removals, held)
+            && removals::unused::removals_zero(self.removals, self.held(tl))
     }
 }
 
-// Whether the lists of m nurses, each of at most n patterns, surely fit into the smaller array. Either array serves every ward.
-fn fits_small(m: usize, n: usize) -> bool
-    requires { m ≤ nurse_places }
-    ensures { result ≡ (leb n 1024 && leb (m * n) 2048) }
+// Whether everyone's lists, each of at most n patterns, surely fit into the smaller array. Either array serves every ward.
+fn fits_small(w: &Body, n: usize) -> bool
+    ensures { result ≡ (leb n 1024 && leb (nurses w.now.numbers.now * n) 2048) }
 {
-    n <= 1024 && m * n <= 2048
+    n <= 1024 && w.nurses() * n <= 2048
 }
 
 // Whether penalty 0 ends an advance here, unless it is to go on past zero.
@@ -147,42 +172,44 @@ impl Record {
         self,
         offers: &Offers,
         cols: &mut Columns,
-        nurse: usize,
-        pattern: u64,
+        chosen: Exchange,
         unplaced: u64,
     ) -> Stepped
-        requires { ExchangeNeeds offers.now.ward.now.numbers.now nurse unplaced self }
-        ensures made { result.after ≡ exchanged_in (tabu offers.now.ward.now.numbers.now) self nurse pattern }
+        requires { ExchangeNeeds offers.now.ward.now.numbers.now chosen.nurse unplaced self }
+        ensures made { result.after ≡ exchanged_in (tabu offers.now.ward.now.numbers.now) self chosen.nurse chosen.pattern }
         ensures costs { (slots : ℕ → Slot) → Shows offers.now.search offers.now.ward.now.numbers.now slots cols.old →
-            unplaced ≡ unplaced_in offers.now.ward.now.numbers.now (exchanged slots nurse pattern) + one_if (not (get_or self.placed nurse false)) →
-            result.penalty ≡ total (parts_in offers.now.search offers.now.ward.now.numbers.now (exchanged slots nurse pattern)) }
+            unplaced ≡ unplaced_in offers.now.ward.now.numbers.now (exchanged slots chosen.nurse chosen.pattern) + one_if (not (get_or self.placed chosen.nurse false)) →
+            result.penalty ≡ total (parts_in offers.now.search offers.now.ward.now.numbers.now (exchanged slots chosen.nurse chosen.pattern)) }
         ensures shows { ColumnsOf offers.now.search offers.now.ward.now.numbers.now self cols.old → ColumnsOf offers.now.search offers.now.ward.now.numbers.now result.after cols.new }
     {
         let w = offers.ward;
         let search = offers.search;
-        let sets = slots::sets_of(w, nurse, pattern, search);
-        let others = choice::others_than(self.placed[nurse], unplaced);
-        let parts = trials::trial(w, cols, nurse, sets, others, search);
+        let her = w.nurse_at(chosen.nurse);
+        let sets = slots::sets_of(&her, chosen.pattern, search);
+        let others = choice::others_than(self.placed[chosen.nurse], unplaced);
+        let parts = trials::trial(&her, cols, sets, others, search);
         let penalty = parts.total();
-        *cols = cols.with_nurse(w.days(), nurse, sets);
-        let after = self.exchanged(w.tabu(), nurse, pattern);
+        *cols = cols.with_nurse(w.days(), chosen.nurse, sets);
+        let after = self.exchanged(w.tabu(), chosen.nurse, chosen.pattern);
         Stepped { after, penalty }
     }
 
-    // One step, if there is an exchange to make: the columns are those of the record, and then those of the record after it.
+    // One step, if there is an exchange to make: the columns are those of the record, and then those of the record after it. With none they
+    // stay. No struct joins the two here and in `exchange`: the columns are changed in place, and the record comes by value. `Choice`, which reads alone, lends both.
     fn step(self, offers: &Offers, cols: &mut Columns, work: &mut Work) -> Option<Stepped>
         requires { StepNeeds offers.now cols.old self }
         ensures takes { (P : Phase) → SeeksIn offers.now P → result ≡ stepped_of P self }
         ensures shows { IfSome result (λ x. ColumnsOf offers.now.search offers.now.ward.now.numbers.now x.after cols.new) }
+        ensures stays { result ≡ None → cols.new ≡ cols.old }
     {
-        let unplaced = slots::unplaced(self, offers.ward.nurses());
+        let unplaced = slots::unplaced(self, offers.ward);
         let best = offers.best_of(cols, work, &self, unplaced)?;
-        Some(self.exchange(offers, cols, best.nurse, best.pattern, unplaced))
+        Some(self.exchange(offers, cols, best, unplaced))
     }
 
     // Up to k steps, past zero or not; columns and penalty are carried through them.
     fn advance_over(self, offers: &Offers, k: u32, past: bool) -> Advanced
-        requires offered { TriesIn offers.now × (self.steps + k ≤ 1000000) }
+        requires few { self.steps + k ≤ 1000000 }
         requires sought_sound { SoundIn offers.now self }
         ensures { (P : Phase) → SeeksIn offers.now P → sound_stored P self ≡ true → reply_stored P past k self ≡ (answer_of P result, result.after) }
     {
@@ -217,7 +244,7 @@ impl Record {
         }
     }
 
-    // An advance of no steps. Beside `advance_over`, which would first test the common list for every nurse.
+    // An advance of no steps. Apart, since by night `advance_kept` would first test the common list for every nurse.
     fn advance_none(self, w: &Body, search: Search, past: bool) -> Advanced
         ensures { (P : Phase) (tried : ℕ → List ℕ) → SeeksBy search w.now.numbers.now tried P → sound_stored P self ≡ true → reply_stored P past 0 self ≡ (answer_of P result, result.after) }
     {
@@ -256,45 +283,43 @@ impl Record {
             ward: &*w,
             search: Search::Nights,
             lists,
-            own: &own,
             plan: &plan,
         };
         self.advance_over(&offers, k, past)
     }
 
-    // Up to k steps, past zero or not.
+    // Up to k steps, past zero or not. Both are parameters of the published calls; a struct of them would be made here only, and
+    // `advance_over` alone reads both.
     pub fn advance(
         self,
         w: &Body,
         lists: &[u32],
-        stretches: Stretches,
+        searched: Searched<[usize; ENDS]>,
         k: u32,
         past: bool,
     ) -> Advanced
-        requires lists { Lists stretches.search w.now.numbers.now lists.now stretches.ends × (self.steps + k ≤ 1000000) }
-        requires served_sound { ServedSound stretches.search w.now.numbers.now lists.now stretches.ends self }
-        ensures { (P : Phase) → Seeks stretches.search w.now.numbers.now lists.now stretches.ends P → sound_stored P self ≡ true → reply_stored P past k self ≡ (answer_of P result, result.after) }
+        requires lists { Lists (search_of searched) w.now.numbers.now lists.now (ends_of searched) × (self.steps + k ≤ 1000000) }
+        requires served_sound { ServedSound (search_of searched) w.now.numbers.now lists.now (ends_of searched) self }
+        ensures { (P : Phase) → Seeks (search_of searched) w.now.numbers.now lists.now (ends_of searched) P → sound_stored P self ≡ true → reply_stored P past k self ≡ (answer_of P result, result.after) }
     {
-        let search = stretches.search;
         if k == 0 {
-            return self.advance_none(w, search, past);
+            return self.advance_none(w, searched.search(), past);
         }
         // By `match`: each arm lends lists of its own making.
-        match search {
-            Search::Nights => {
-                if fits_small(w.nurses(), lists.len()) {
+        match searched {
+            Searched::Nights => {
+                if fits_small(w, lists.len()) {
                     self.advance_kept::<2048>(w, lists, k, past)
                 } else {
                     self.advance_kept::<20480>(w, lists, k, past)
                 }
             }
-            Search::Days => {
+            Searched::Days(ends) => {
                 let offers = Offers {
                     ward: &*w,
-                    search,
+                    search: Search::Days,
                     lists,
-                    own: lists,
-                    plan: &choice::day_plan(stretches.ends),
+                    plan: &offers::day_plan(lists, ends),
                 };
                 self.advance_over(&offers, k, past)
             }

@@ -1,5 +1,5 @@
 // What a record's slots count on: everyone's columns and the penalty.
-ghost use Rattle.std.specs.Prelude.{◌≡◌, false, not, ℕ, suc, ◌+◌, ◌≤◌, ◌<◌, eqb, get_or};
+ghost use Rattle.std.specs.Prelude.{◌≡◌, false, not, ℕ, suc, ◌+◌, ◌≤◌, eqb, get_or};
 ghost use Rattle.fields.specs.Sizes.{nurse_places};
 ghost use Rattle.numbers.specs.Sum.{count_to, Is};
 ghost use Rattle.numbers.specs.Digits.{number_of};
@@ -11,8 +11,8 @@ ghost use Rattle.trials.specs.Trials.{CountsIn};
 ghost use Rattle.search.specs.CodeSeek.{cost_of, pattern_for, Agree};
 
 use crate::Record;
-use fields::Body;
 use fields::nurse::Nurse;
+use fields::{Body, WardNurse};
 use history::Search;
 use numbers::pattern;
 use penalty::columns::{Columns, Sets};
@@ -24,42 +24,40 @@ fn marked_days(b: &Nurse, mark: u64) -> u32
     numbers::set_of(b.days, |d| b.mark(d) == mark) as u32
 }
 
-// The pattern that nurse i counts with: hers, or while she is unplaced her marks 3 by night and her marks 2 by day, with no pair.
-fn pattern_in(w: &Body, rec: Record, i: usize, search: Search) -> u64
-    requires { i < nurses w.now.numbers.now }
-    ensures { result ≡ pattern_for search w.now.numbers.now i (slot_at rec i) }
+// The pattern that she counts with: hers, or while she is unplaced her marks 3 by night and her marks 2 by day, with no pair.
+fn pattern_in(her: &WardNurse, rec: Record, search: Search) -> u64
+    ensures { result ≡ pattern_for search her.now.ward.numbers.now her.now.index (slot_at rec her.now.index) }
 {
-    if rec.placed[i] {
-        return rec.patterns[i];
+    if let Some(p) = rec.slot(her.index) {
+        return p;
     }
-    let b = w.nurse(i);
-    // By `match`, here and below: each arm is a few lines over the same arguments, which closures handed in would carry all.
-    match search {
-        Search::Nights => pattern::of(marked_days(&b, 3), 0),
-        Search::Days => pattern::of(marked_days(&b, 2), 0),
-    }
+    // By `match`: a number for each search, and one call.
+    let mark = match search {
+        Search::Nights => 3,
+        Search::Days => 2,
+    };
+    pattern::of(marked_days(&her.numbers(), mark), 0)
 }
 
-// The days on which nurse i is available under the pattern p.
-fn free_days(w: &Body, i: usize, p: u64) -> u32
-    requires { i < nurses w.now.numbers.now }
-    ensures { FreeUnder w.now.numbers.now i p result }
+// The days on which she is available under the pattern p.
+fn free_days(her: &WardNurse, p: u64) -> u32
+    ensures { FreeUnder her.now.ward.numbers.now her.now.index p result }
 {
-    // `&*w`, not `w`: the masks borrow the ward for a shorter time.
-    let hers = nursemasks::masks::masks_of(&*w, i);
-    let off = rows::pairs::pair_days(w, pattern::pair_of(p) as usize);
+    let hers = nursemasks::masks::masks_of(her);
+    let off = rows::pairs::pair_days(&her.ward, pattern::pair_of(p) as usize);
     hers.available_days(pattern::days_of(p)) & !off
 }
 
-// The sets of days in which nurse i counts under the pattern p.
-pub(crate) fn sets_of(w: &Body, i: usize, p: u64, search: Search) -> Sets
-    requires { i < nurses w.now.numbers.now }
-    ensures { CountsIn search w.now.numbers.now i p result.nights result.available }
+// The sets of days in which she counts under the pattern p.
+pub(crate) fn sets_of(her: &WardNurse, p: u64, search: Search) -> Sets
+    ensures { CountsIn search her.now.ward.numbers.now her.now.index p result.nights result.available }
 {
     let days = pattern::days_of(p);
+    // By `match`: each arm is a few lines over the same arguments, which closures handed in would carry all. With a trait and an impl for
+    // each search, every function from `advance` down to here would be generic, with its contract, for these few lines.
     match search {
         Search::Nights => {
-            let available = free_days(w, i, p);
+            let available = free_days(her, p);
             Sets {
                 nights: days,
                 available,
@@ -72,42 +70,42 @@ pub(crate) fn sets_of(w: &Body, i: usize, p: u64, search: Search) -> Sets
     }
 }
 
-// The columns of the nurses before i, with nurse i.
-fn with_row(cols: Columns, w: &Body, rec: Record, i: usize, search: Search) -> Columns
-    requires { i < nurses w.now.numbers.now }
-    ensures { (slots : ℕ → Slot) → slots i ≡ slot_at rec i → Shown search w.now.numbers.now slots i cols → Shown search w.now.numbers.now slots (i + 1) result }
+// The columns of the nurses before her, with her own.
+fn with_row(cols: Columns, her: &WardNurse, rec: Record, search: Search) -> Columns
+    ensures { (slots : ℕ → Slot) → slots her.now.index ≡ slot_at rec her.now.index → Shown search her.now.ward.numbers.now slots her.now.index cols → Shown search her.now.ward.numbers.now slots (her.now.index + 1) result }
 {
-    let n = w.days();
-    let p = pattern_in(w, rec, i, search);
-    let sets = sets_of(w, i, p, search);
-    cols.with_nurse(n, i, sets)
+    let p = pattern_in(her, rec, search);
+    let sets = sets_of(her, p, search);
+    cols.with_nurse(her.ward.days(), her.index, sets)
 }
 
-// Everyone's columns.
+// Everyone's columns. Ward and search come apart, here and below: no fact joins them, and half of these functions take a nurse of
+// the ward in place of the ward.
 pub(crate) fn columns(w: &Body, rec: Record, search: Search) -> Columns
     ensures { (slots : ℕ → Slot) → Agree w.now.numbers.now rec slots → Shown search w.now.numbers.now slots (nurses w.now.numbers.now) result }
 {
     let mut cols = Columns::empty();
     for i in 0..w.nurses() {
-        cols = with_row(cols, w, rec, i, search);
+        cols = with_row(cols, &w.nurse_at(i), rec, search);
     }
     cols
 }
 
-// How many of the first m nurses are unplaced.
-pub(crate) fn unplaced(rec: Record, m: usize) -> u64
-    requires { m ≤ nurse_places }
-    ensures { Is result (count_to m (λ i. not (get_or rec.placed i false))) nurse_places }
+// How many nurses of the ward are unplaced.
+pub(crate) fn unplaced(rec: Record, w: &Body) -> u64
+    ensures { Is result (count_to (nurses w.now.numbers.now) (λ i. not (get_or rec.placed i false))) nurse_places }
 {
-    rec.placed[..m].iter().filter(|placed| !**placed).count() as u64
+    rec.placed[..w.nurses()]
+        .iter()
+        .filter(|placed| !**placed)
+        .count() as u64
 }
 
 // The penalty of a record, by its columns.
 pub(crate) fn penalty_by(w: &Body, rec: Record, cols: Columns, search: Search) -> u64
     ensures { (slots : ℕ → Slot) → Agree w.now.numbers.now rec slots → Shown search w.now.numbers.now slots (nurses w.now.numbers.now) cols → result ≡ cost_of search w.now.numbers.now slots }
 {
-    let m = w.nurses();
-    let unplaced = unplaced(rec, m);
+    let unplaced = unplaced(rec, w);
     let parts = penalty::parts(w, cols, unplaced, search);
     parts.total()
 }

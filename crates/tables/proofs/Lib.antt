@@ -1,3 +1,4 @@
 pub mod TrialLaws
 pub mod DayLaws
 pub mod SumLaws
+mod RangeSums

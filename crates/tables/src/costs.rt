@@ -1,5 +1,5 @@
 // A nurse's days one by one: a trial with days on which she is not available, and what no trial comes below.
-ghost use Rattle.std.specs.Prelude.{◌≡◌, ℕ, ◌≤◌, ◌<◌};
+ghost use Rattle.std.specs.Prelude.{ℕ, ◌≤◌, ◌<◌};
 ghost use Rattle.numbers.specs.Sum.{Is};
 ghost use Rattle.tables.specs.CodeTables.{Small, trial_of, trial_without, day_without};
 
@@ -11,7 +11,8 @@ pub const OPEN: usize = 36;
 
 pub const NONE: usize = 72;
 
-// A nurse's costs in a month of so many days: 36 days each with her at night, open, and neither; 0 past the month.
+// A nurse's costs in a month of so many days: 36 days each with her at night, open, and neither; 0 past the month. One array: contracts
+// speak of her costs as one list, which rows of 36 would be flattened to, and three arrays by name would be parallel ones.
 #[derive(Clone, Copy)]
 pub struct Costs {
     pub costs: [u32; COST_PLACES],
@@ -39,11 +40,7 @@ impl Costs {
     pub fn without(&self, x: u64, off: u32) -> u32
         ensures { Is result (trial_without self.now.costs self.now.days x off) 13363200 }
     {
-        let mut total: u32 = 0;
-        for d in 0..self.days {
-            total += self.day_without(x, off, d);
-        }
-        total
+        (0..self.days).map(|d| self.day_without(x, off, d)).sum()
     }
 
     // The least of each day: no trial costs less.
@@ -52,10 +49,8 @@ impl Costs {
         ensures without { (x off : ℕ) → result ≤ trial_without self.now.costs self.now.days x off }
     {
         let c = &self.costs;
-        let mut total: u32 = 0;
-        for d in 0..self.days {
-            total += c[d].min(c[OPEN + d]).min(c[NONE + d]);
-        }
-        total
+        (0..self.days)
+            .map(|d| c[d].min(c[OPEN + d]).min(c[NONE + d]))
+            .sum()
     }
 }

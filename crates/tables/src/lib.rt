@@ -13,7 +13,8 @@ use std::marker::Model;
 
 pub const SUM_PLACES: usize = 1536;
 
-// For each six days 256 sums, by the eight bits that they depend on, each small enough to be added up.
+// For each six days 256 sums, by the eight bits that they depend on, each small enough to be added up. One array and no rows of 256, since
+// `clear` goes over the places of several sixes at once.
 #[derive(Drop)]
 pub struct Table {
     sums: [u32; SUM_PLACES],
@@ -28,7 +29,7 @@ impl Model for Table {
 }
 
 impl Table {
-    // Of a nurse whose days cost nothing.
+    // Of a nurse whose days cost nothing. Written out: its clause says that the list is zeros, and a derived Default's place by place.
     pub fn new() -> Table
         ensures { result ≡ replicate 1536 0 }
     {
@@ -53,11 +54,11 @@ impl Table {
         ensures is { result ≡ table_trial self.now x }
         ensures most { result ≤ 13363200 }
     {
-        let mut total: u32 = 0;
-        for b in 0..6 {
+        let sums = &self.sums;
+        let read = |b: usize| {
             let key = ((x >> (6 * b)) % 256) as usize;
-            total += self.sums[256 * b + key];
-        }
-        total
+            sums[256 * b + key]
+        };
+        (0..6).map(read).sum()
     }
 }

@@ -6,10 +6,11 @@ ghost use Rattle.tables.specs.CodeTables.{Low, Raised, Extended, Cleared, SixSum
 use crate::SUM_PLACES;
 use crate::costs::{COST_PLACES, NONE, OPEN};
 
-// In so many places from `to` on: those from `from` on, which are the same or lie before them, with x more.
+// In so many places from `to` on: those from `from` on, which are the same or lie before them, with x more. By index: where they are the
+// same no two slices of them can be lent to a `zip`.
 fn raise(t: &mut [u32; SUM_PLACES], from: usize, to: usize, count: usize, x: u32)
     requires apart { (from ≡ to) ⊎ (from + count ≤ to) }
-    requires small { (to + count ≤ 1536) × (x ≤ 371200) × (length t.old ≡ 1536) × Low t.old 3000000 }
+    requires small { (to + count ≤ 1536) × (x ≤ 371200) × Low t.old 3000000 }
     ensures { Raised t.old t.new from to count x }
 {
     for y in 0..count {
@@ -19,7 +20,7 @@ fn raise(t: &mut [u32; SUM_PLACES], from: usize, to: usize, count: usize, x: u32
 
 // One day more: `one` is the bit of the start two days before it.
 fn extend(t: &mut [u32; SUM_PLACES], base: usize, one: usize, night: u32, opened: u32, none: u32)
-    requires { (base + 8 * one ≤ 1536) × (night ≤ 371200) × (opened ≤ 371200) × (none ≤ 371200) × (length t.old ≡ 1536) × Low t.old 2227200 }
+    requires { (base + 8 * one ≤ 1536) × (night ≤ 371200) × (opened ≤ 371200) × (none ≤ 371200) × Low t.old 2227200 }
     ensures { Extended t.old t.new base one night opened none }
 {
     raise(t, base, base + 4 * one, 4 * one, night);
@@ -29,7 +30,7 @@ fn extend(t: &mut [u32; SUM_PLACES], base: usize, one: usize, night: u32, opened
 
 // The places from `from` to `to`.
 pub(crate) fn clear(t: &mut [u32; SUM_PLACES], from: usize, to: usize)
-    requires { (from ≤ to) × (to ≤ 1536) × (length t.old ≡ 1536) }
+    requires { (from ≤ to) × (to ≤ 1536) }
     ensures { Cleared t.old t.new from to }
 {
     t[from..to].fill(0);
@@ -37,7 +38,7 @@ pub(crate) fn clear(t: &mut [u32; SUM_PLACES], from: usize, to: usize)
 
 // The sums of the six days from 6 * b on.
 pub(crate) fn six(t: &mut [u32; SUM_PLACES], c: &[u32; COST_PLACES], b: usize)
-    requires { (b < 6) × Low c.now 371200 × (length t.old ≡ 1536) × Low t.old 2227200 }
+    requires { (b < 6) × Low c.now 371200 × Low t.old 2227200 }
     ensures { SixSummed c.now b t.old t.new }
 {
     let base = 256 * b;

@@ -1,6 +1,7 @@
 -- A nurse's list by night or by day: what the loops over it ask and find, and that nothing is missed where no trial goes before what is held.
 use Rattle.std.specs.Prelude.{ℕ, suc, ◌+◌, ◌*◌, ◌^◌, ◌≤◌, ◌<◌, ◌≡◌, Bool, true, false, ◌&&◌, List, map, get_or}
 use Rattle.std.proofs.Common.{sym, ap, ◌∙◌, subst, arith}
+use Rattle.std.proofs.Math.Path.{fun_ext}
 use Rattle.numbers.specs.Digits.{number_of}
 use Rattle.numbers.specs.Patterns.{pattern, unpaired}
 use Rattle.numbers.proofs.DigitLaws.{number_has}
@@ -15,26 +16,29 @@ use Rattle.tables.specs.CodeTables.{trial_of, trial_without}
 use Rattle.trials.specs.CodeTrials.{start_set, NightTrials, DayTrials, CostTrials}
 use Rattle.best.specs.CodeBest.{Best, over_list, improves}
 use Rattle.best.proofs.BestLaws.{improves_less, over_none, over_filter}
-use Rattle.tries.specs.declared.nurse.Offered.{Offered}
-use Rattle.tries.specs.CodeTries.{NightTable, DayTable, offered, tried_in, ListNeeds}
+use Rattle.tries.specs.declared.lists.Tried.{Tried}
+use Rattle.tries.specs.CodeTries.{allowed_by, Bars, NightTable, offered, tried_in, ListNeeds}
 
-module _ {which : Search} {w : List ℕ} {list : Offered} {c t : List ℕ} {before i : ℕ} (n : ListNeeds which w list c t before i) where
-  module _ (cost : ℕ → ℕ) (y : CostTrials which w before c cost) where
-    -- her trials by the table
-    pub night_table : which ≡ Nights → NightTable w before c t cost
-    night_table e = record { table = n.table; trials = subst (λ (s : Search). CostTrials s w before c cost) e y }
+module _ {which : Search} {x : Tried} {c t : List ℕ} (n : ListNeeds which x c t) where
+  abbrev w : List ℕ
+  w = x.nurse.ward.numbers.now
 
-    pub day_table : which ≡ Days → DayTable w c t cost
-    day_table e = record { table = n.table; trials = subst (λ (s : Search). CostTrials s w before c cost) e y }
+  abbrev i : ℕ
+  i = x.nurse.index
+
+  -- her trials by the table
+  pub night_table : (cost : ℕ → ℕ) → CostTrials which w x.before c cost → which ≡ Nights → NightTable w x.before c t cost
+  night_table cost y e = record { table = n.table; trials = subst (λ (s : Search). CostTrials s w x.before c cost) e y }
 
   -- what they found
-  pub night_found : (may : ℕ → Bool) (cost : ℕ → ℕ) (held : Best) {r : Best} → which ≡ Nights → r ≡ over_list (λ x. own_pattern w i x && may x) cost i held (with_pairs w (offered list))
-      → r ≡ over_list may cost i held (tried_in which w i (offered list))
+  pub night_found : (may : ℕ → Bool) (cost : ℕ → ℕ) (held : Best) {r : Best} → which ≡ Nights → r ≡ over_list (λ p. own_pattern w i p && may p) cost i held (with_pairs w (offered x.list))
+      → r ≡ over_list may cost i held (tried_in which w i (offered x.list))
   night_found may cost held e f =
-      f ∙ sym (over_filter (own_pattern w i) may cost i held (with_pairs w (offered list))) ∙ ap (λ (s : Search). over_list may cost i held (tried_in s w i (offered list))) (sym e)
+      f ∙ sym (over_filter (own_pattern w i) may cost i held (with_pairs w (offered x.list))) ∙ ap (λ (s : Search). over_list may cost i held (tried_in s w i (offered x.list))) (sym e)
 
-  pub day_found : (may : ℕ → Bool) (cost : ℕ → ℕ) (held : Best) {r : Best} → which ≡ Days → r ≡ over_list may cost i held (map unpaired (offered list)) → r ≡ over_list may cost i held (tried_in which w i (offered list))
-  day_found may cost held e f = f ∙ ap (λ (s : Search). over_list may cost i held (tried_in s w i (offered list))) (sym e)
+-- she may take what is not barred
+pub by_bars : (may : ℕ → Bool) (bars : List ℕ) (cost : ℕ → ℕ) (i : ℕ) (held : Best) (list : List ℕ) {r : Best} → Bars may bars → r ≡ over_list (allowed_by bars) cost i held list → r ≡ over_list may cost i held list
+by_bars may bars cost i held list b e = e ∙ ap (λ (f : ℕ → Bool). over_list f cost i held list) (sym (fun_ext b))
 
 -- ---- no trial goes before what is held
 

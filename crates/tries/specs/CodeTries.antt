@@ -1,10 +1,9 @@
 -- What the loops over a nurse's list ask, and what they look at.
-use Rattle.std.specs.Prelude.{◌≡◌, Bool, true, not, List, map, ℕ, ◌≤◌, ◌<◌, eqb, length, get_or}
+use Rattle.std.specs.Prelude.{◌≡◌, Bool, true, not, List, map, ℕ, ◌<◌, eqb, length, get_or}
 use Rattle.std.proofs.Props.{props}
-use Rattle.fields.specs.Sizes.{nurse_places}
 use Rattle.numbers.specs.Range.{filter, any_of}
 use Rattle.numbers.specs.Patterns.{unpaired}
-use Rattle.fields.specs.Fields.{Accepted, nurses, days, block}
+use Rattle.fields.specs.Fields.{Accepted, days, block}
 use Rattle.nights.specs.Nights.{common_of}
 use Rattle.nights.specs.Hers.{hers_of}
 use Rattle.nights.specs.Own.{own_pattern, with_pairs}
@@ -15,13 +14,17 @@ use Rattle.tables.specs.CodeTables.{TableOf}
 use Rattle.margins.specs.declared.Margins.{Margins}
 use Rattle.margins.specs.CodeMargins.{SearchMargins}
 use Rattle.trials.specs.CodeTrials.{before_of, start_set, WorkableDays, NightTrials, DayTrials}
-use Rattle.tries.specs.declared.nurse.Offered.{Offered}
-use Rattle.tries.specs.declared.nurse.Offered.TheVariants.{Own, Common}
-use Rattle.tries.specs.declared.nurse.Tried.{Tried}
+use Rattle.tries.specs.declared.lists.Offered.{Offered}
+use Rattle.tries.specs.declared.lists.Offered.TheVariants.{Own, Common}
+use Rattle.tries.specs.declared.lists.Tried.{Tried}
+use Rattle.tries.specs.declared.nurse.InForce.{InForce}
 
 -- she may take what is not barred
+abbrev pub allowed_by : List ℕ → ℕ → Bool
+allowed_by bars p = not (any_of (λ x. eqb x p) bars)
+
 abbrev pub Bars : (ℕ → Bool) → List ℕ → Type 0
-Bars may bars = (p : ℕ) → may p ≡ not (any_of (λ x. eqb x p) bars)
+Bars may bars = (p : ℕ) → may p ≡ allowed_by bars p
 
 -- t tells of each of the list whether its nights are nurse i's
 abbrev pub Tells : (ℕ → Bool → Type 0) → List ℕ → ℕ → List ℕ → Type 0
@@ -62,17 +65,10 @@ abbrev pub NightList : List ℕ → ℕ → Offered → Type 0
 NightList w i (Own list) = AllHers w i list.now
 NightList w i (Common list) = list.now ≡ common_of w
 
-pub record ListNeeds (which : Search) (w : List ℕ) (list : Offered) (c t : List ℕ) (before i : ℕ) : Type 0 where
-  pub listed : which ≡ Nights → NightList w i list
-  pub before_is : which ≡ Nights → before ≡ before_of (block w i)
-  pub table : TableOf c (days w) t
-
-pub record NurseNeeds (which : Search) (w : List ℕ) (x : Tried) : Type 0 where
-  pub nurse : x.nurse < nurses w
-  pub listed : which ≡ Nights → NightList w x.nurse x.list
-  pub before_is : which ≡ Nights → x.before ≡ before_of (block w x.nurse)
-  pub workable_are : which ≡ Nights → WorkableDays w x.nurse x.workable
-  pub others_most : x.others ≤ nurse_places
+pub record ListNeeds (which : Search) (x : Tried) (c t : List ℕ) : Type 0 where
+  pub listed : which ≡ Nights → NightList x.nurse.ward.numbers.now x.nurse.index x.list
+  pub before_is : which ≡ Nights → x.before ≡ before_of (block x.nurse.ward.numbers.now x.nurse.index)
+  pub table : TableOf c (days x.nurse.ward.numbers.now) t
 
 -- the margins are those of the columns
 abbrev pub MarginsIn : Search → List ℕ → Columns → Margins → Type 0
@@ -82,3 +78,10 @@ MarginsIn which w cols m = SearchMargins which w cols.night cols.day m.nightly m
 pub margins_prop : (which : Search) (w : List ℕ) (cols : Columns) (m : Margins) → IsProp (MarginsIn which w cols m)
 margins_prop Nights w cols m = Prim.hlevel props
 margins_prop Days w cols m = Prim.hlevel props
+
+-- what is tried of a nurse, by what a step counts by
+pub record NurseNeeds (y : InForce) (x : Tried) : Type 0 where
+  pub listed : y.search ≡ Nights → NightList x.nurse.ward.numbers.now x.nurse.index x.list
+  pub before_is : y.search ≡ Nights → x.before ≡ before_of (block x.nurse.ward.numbers.now x.nurse.index)
+  pub workable_are : y.search ≡ Nights → WorkableDays x.nurse.ward.numbers.now x.nurse.index x.workable
+  pub made : MarginsIn y.search x.nurse.ward.numbers.now y.cols.now y.margins.now

@@ -1,68 +1,62 @@
 // The best exchange over a nurse's list. A trial goes by her table of days, all others as they are.
 #![tactic(auto)]
 
+pub mod lists;
 pub mod nurse;
 mod pairs;
 
-ghost use Rattle.std.specs.Prelude.{◌≡◌, Bool, ◌&&◌, List, map, ℕ, ◌+◌, ◌*◌, ◌≤◌, ◌<◌};
-ghost use Rattle.fields.specs.Sizes.{nurse_places};
-ghost use Rattle.fields.specs.Fields.{nurses, days, block};
+ghost use Rattle.std.specs.Prelude.{◌≡◌, Bool, ◌&&◌, List, map, ℕ, ◌+◌, ◌*◌};
+ghost use Rattle.fields.specs.Fields.{days, block};
 ghost use Rattle.numbers.specs.Patterns.{unpaired};
 ghost use Rattle.nights.specs.Own.{own_pattern, with_pairs};
 ghost use Rattle.tables.specs.CodeTables.{table_trial};
 ghost use Rattle.trials.specs.CodeTrials.{before_of};
 ghost use Rattle.best.specs.CodeBest.{considered, over_list};
-ghost use Rattle.tries.specs.CodeTries.{Bars, Tells, NightTable, DayTable};
+ghost use Rattle.tries.specs.CodeTries.{allowed_by, Tells, NightTable, DayTable};
 
 use best::Exchange;
-use fields::Body;
+use lists::Tried;
 use numbers::pattern;
-use penalty::Penalty;
 use tables::Table;
 use tables::costs::Costs;
 
-// What one nurse's trials go by: her costs and their table, the starts before her month, and how many others are unplaced.
+// What one nurse's trials go by: what is tried of her, and her costs with their table.
 #[derive(Clone, Copy)]
 pub(crate) struct Trials<'a> {
-    ward: &'a Body<'a>,
+    tried: &'a Tried<'a>,
     costs: &'a Costs,
     table: &'a Table,
-    barred: &'a [u64],
-    before: u64,
-    others: u64,
-    nurse: usize,
-    ghost in_ward: { nurse < nurses ward.now.numbers.now },
-    ghost month: { costs.now.days ≡ days ward.now.numbers.now },
-    ghost others_most: { others ≤ nurse_places },
+    ghost month: { costs.now.days ≡ days tried.now.nurse.ward.numbers.now },
 }
 
 impl Trials<'_> {
     // What the trial by a set of starts costs.
     fn cost(&self, starts: u64) -> u64
-        ensures { result ≡ table_trial self.now.table.now starts + 10000000 * self.now.others }
+        ensures { result ≡ table_trial self.now.table.now starts + 10000000 * self.now.tried.now.others }
     {
-        self.table.trial(starts) as u64 + Penalty::UNPLACED * self.others
+        self.tried.in_all(self.table.trial(starts))
     }
 
     // The best with one exchange more, which counts if the pattern is not barred.
-    // A loop asks `improves` first: few exchanges pass that, and only for those the barred patterns are looked through.
+    // `improves` first: few exchanges pass that, and only for those the barred patterns are looked through.
     #[tactic(auto, using(numbers::proofs::IterLaws::any_is))]
+    #[inline]
     pub(crate) fn consider(
         &self,
         best: Option<Exchange>,
         pattern: u64,
         cost: u64,
     ) -> Option<Exchange>
-        ensures { (may : ℕ → Bool) → Bars may self.now.barred.now → result ≡ considered may (λ q. cost) self.now.nurse best pattern }
+        ensures { result ≡ considered (allowed_by self.now.tried.now.barred.now) (λ q. cost) self.now.tried.now.nurse.index best pattern }
     {
-        if self.barred.contains(&pattern) {
-            return best;
-        }
         if !best::improves(best, cost) {
             return best;
         }
+        if self.tried.barred.contains(&pattern) {
+            return best;
+        }
         Some(Exchange {
-            nurse: self.nurse,
+            nurse: self.tried.nurse.index,
             pattern,
             cost,
         })
@@ -70,15 +64,13 @@ impl Trials<'_> {
 
     // The best of what is held and of her day list.
     fn over_days(&self, list: &[u32], held: Option<Exchange>) -> Option<Exchange>
-        ensures { (w c : List ℕ) (may : ℕ → Bool) (cost : ℕ → ℕ) → Bars may self.now.barred.now → DayTable w c self.now.table.now cost →
-            result ≡ over_list may (λ q. cost q + 10000000 * self.now.others) self.now.nurse held (map unpaired list.now) }
+        ensures { let tried = self.now.tried.now in (w c : List ℕ) (cost : ℕ → ℕ) → DayTable w c self.now.table.now cost →
+            result ≡ over_list (allowed_by tried.barred.now) (λ q. cost q + 10000000 * tried.others) tried.nurse.index held (map unpaired list.now) }
     {
         let mut best = held;
         for &days in list {
             let cost = self.cost((days as u64) * 4);
-            if best::improves(best, cost) {
-                best = self.consider(best, pattern::of(days, 0), cost);
-            }
+            best = self.consider(best, pattern::of(days, 0), cost);
         }
         best
     }
@@ -90,16 +82,16 @@ impl Trials<'_> {
         hers: F,
         held: Option<Exchange>,
     ) -> Option<Exchange>
-        requires before { self.now.before ≡ before_of (block self.now.ward.now.numbers.now self.now.nurse) }
+        requires before { let tried = self.now.tried.now in tried.before ≡ before_of (block tried.nurse.ward.numbers.now tried.nurse.index) }
         requires callable { F.IsAlwaysCallable hers }
-        ensures { (may : ℕ → Bool) (cost : ℕ → ℕ) → Bars may self.now.barred.now → NightTable self.now.ward.now.numbers.now self.now.before self.now.costs.now.costs self.now.table.now cost →
-            Tells (F.post hers) self.now.ward.now.numbers.now self.now.nurse list.now →
-            result ≡ over_list (λ x. own_pattern self.now.ward.now.numbers.now self.now.nurse x && may x) (λ x. cost x + 10000000 * self.now.others) self.now.nurse held (with_pairs self.now.ward.now.numbers.now list.now) }
+        ensures { let tried = self.now.tried.now in (cost : ℕ → ℕ) → NightTable tried.nurse.ward.numbers.now tried.before self.now.costs.now.costs self.now.table.now cost →
+            Tells (F.post hers) tried.nurse.ward.numbers.now tried.nurse.index list.now →
+            result ≡ over_list (λ x. own_pattern tried.nurse.ward.numbers.now tried.nurse.index x && allowed_by tried.barred.now x) (λ x. cost x + 10000000 * tried.others) tried.nurse.index held (with_pairs tried.nurse.ward.numbers.now list.now) }
     {
         let mut best = held;
         for &nights in list {
             if hers(nights) {
-                let starts = (nights as u64) * 4 + self.before;
+                let starts = (nights as u64) * 4 + self.tried.before;
                 let cost = self.cost(starts);
                 // With a pair she is available on fewer days, and by night that never costs less.
                 if best::improves(best, cost) {

@@ -5,32 +5,22 @@ ghost use Rattle.penalty.specs.Penalty.{rest, parts_in};
 ghost use Rattle.penalty.specs.CodeColumns.{Shows};
 ghost use Rattle.trials.specs.CodeTrials.{CostTrials};
 ghost use Rattle.best.specs.CodeBest.{over_list};
-ghost use Rattle.tries.specs.CodeTries.{Bars, offered, ListNeeds, NurseNeeds, MarginsIn, margins_prop, tried_in};
+ghost use Rattle.tries.specs.CodeTries.{allowed_by, Bars, offered, ListNeeds, NurseNeeds, tried_in};
 
 use crate::Trials;
+use crate::lists::{Offered, Tried};
 use best::Exchange;
-use fields::Body;
 use history::Search;
 use margins::Margins;
-use penalty::Penalty;
 use penalty::columns::Columns;
 use tables::Table;
 
 // What a step counts by: the columns in force, and the margins made from them.
 #[derive(Clone, Copy)]
 pub struct InForce<'a> {
-    pub ward: &'a Body<'a>,
     pub search: Search,
     pub cols: &'a Columns,
     pub margins: &'a Margins,
-    pub ghost made: { MarginsIn search ward.now.numbers.now cols.now margins.now } by { margins_prop search ward.now.numbers.now cols.now margins.now },
-}
-
-// A list that a nurse tries: her own, or by night the common one with hers among it.
-#[derive(Clone, Copy)]
-pub enum Offered<'a> {
-    Own(&'a [u32]),
-    Common(&'a [u32]),
 }
 
 impl<'a> Offered<'a> {
@@ -44,35 +34,21 @@ impl<'a> Offered<'a> {
     }
 }
 
-// What is tried of a nurse: her list; the days that she may work where they are open; the starts before her month; what is barred for her; and how many
-// others are unplaced.
-#[derive(Clone, Copy)]
-pub struct Tried<'a> {
-    pub list: Offered<'a>,
-    pub workable: u32,
-    pub before: u64,
-    pub barred: &'a [u64],
-    pub others: u64,
-    pub nurse: usize,
-}
-
 impl Trials<'_> {
     // The best of what is held and of her list.
     // By `match`: each arm is a line or two over the same arguments, which closures handed in would carry all.
-    fn over_list(&self, list: Offered, search: Search, held: Option<Exchange>) -> Option<Exchange>
-        requires { ListNeeds search self.now.ward.now.numbers.now list self.now.costs.now.costs self.now.table.now self.now.before self.now.nurse }
-        ensures { (may : ℕ → Bool) (cost : ℕ → ℕ) → Bars may self.now.barred.now → CostTrials search self.now.ward.now.numbers.now self.now.before self.now.costs.now.costs cost →
-            result ≡ over_list may (λ x. cost x + 10000000 * self.now.others) self.now.nurse held (tried_in search self.now.ward.now.numbers.now self.now.nurse (offered list.entry)) }
+    fn over_list(&self, search: Search, held: Option<Exchange>) -> Option<Exchange>
+        requires { ListNeeds search self.now.tried.now self.now.costs.now.costs self.now.table.now }
+        ensures { let tried = self.now.tried.now in (cost : ℕ → ℕ) → CostTrials search tried.nurse.ward.numbers.now tried.before self.now.costs.now.costs cost →
+            result ≡ over_list (allowed_by tried.barred.now) (λ x. cost x + 10000000 * tried.others) tried.nurse.index held (tried_in search tried.nurse.ward.numbers.now tried.nurse.index (offered tried.list)) }
     {
-        match search {
-            Search::Days => self.over_days(list.patterns(), held),
-            Search::Nights => match list {
-                Offered::Own(own) => self.over_nights(own, |_| true, held),
-                Offered::Common(all) => {
-                    let hers = nursemasks::masks::masks_of(self.ward, self.nurse);
-                    self.over_nights(all, |p| hers.passes(p), held)
-                }
-            },
+        match (search, self.tried.list) {
+            (Search::Days, list) => self.over_days(list.patterns(), held),
+            (Search::Nights, Offered::Own(own)) => self.over_nights(own, |_| true, held),
+            (Search::Nights, Offered::Common(all)) => {
+                let hers = nursemasks::masks::masks_of(&self.tried.nurse);
+                self.over_nights(all, |p| hers.passes(p), held)
+            }
         }
     }
 }
@@ -81,32 +57,28 @@ impl InForce<'_> {
     // The best of what is held and of what a nurse tries. No trial of hers costs less than the least of each of her days: where that does not go before
     // what is held, neither her table is made nor her list looked at.
     pub fn over_nurse(&self, t: &mut Table, x: &Tried, held: Option<Exchange>) -> Option<Exchange>
-        requires { NurseNeeds self.now.search self.now.ward.now.numbers.now x.now }
-        ensures { (slots : ℕ → Slot) (may : ℕ → Bool) → Shows self.now.search self.now.ward.now.numbers.now slots self.now.cols.now → Bars may x.now.barred.now →
-            result ≡ over_list may (λ p. rest (parts_in self.now.search self.now.ward.now.numbers.now (exchanged slots x.now.nurse p)) + 10000000 * x.now.others) x.now.nurse held (tried_in self.now.search self.now.ward.now.numbers.now x.now.nurse (offered x.now.list)) }
+        requires { NurseNeeds self.now x.now }
+        ensures { (slots : ℕ → Slot) (may : ℕ → Bool) → Shows self.now.search x.now.nurse.ward.numbers.now slots self.now.cols.now → Bars may x.now.barred.now →
+            result ≡ over_list may (λ p. rest (parts_in self.now.search x.now.nurse.ward.numbers.now (exchanged slots x.now.nurse.index p)) + 10000000 * x.now.others) x.now.nurse.index held (tried_in self.now.search x.now.nurse.ward.numbers.now x.now.nurse.index (offered x.now.list)) }
     {
+        // No method of `InForce`, which would say this contract again for one call.
         let costs = margins::costs::nurse_costs(
-            self.ward,
+            &x.nurse,
             self.cols,
-            x.nurse,
             self.margins,
             x.workable,
             self.search,
         );
-        let least = costs.least() as u64 + Penalty::UNPLACED * x.others;
+        let least = x.in_all(costs.least());
         if !best::improves(held, least) {
             return held;
         }
         t.fill(&costs);
         let trials = Trials {
-            ward: self.ward,
+            tried: x,
             costs: &costs,
             table: t,
-            barred: x.barred,
-            before: x.before,
-            others: x.others,
-            nurse: x.nurse,
         };
-        trials.over_list(x.list, self.search, held)
+        trials.over_list(self.search, held)
     }
 }

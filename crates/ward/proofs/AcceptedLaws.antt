@@ -1,18 +1,18 @@
 -- The reader's yes says that the ward's body is `Accepted`.
-use Rattle.std.specs.Prelude.{ℕ, zero, suc, ◌+◌, ◌-◌, ◌*◌, ◌^◌, ◌≤◌, ◌<◌, ◌≡◌, refl, Bool, true, false, cond, List, [], ◌∷◌, ◌⊎◌, length, get_or, take, drop, eqb}
+use Rattle.std.specs.Prelude.{ℕ, zero, suc, ◌+◌, ◌-◌, ◌*◌, ◌^◌, ◌≤◌, ◌<◌, ◌≡◌, refl, Bool, true, false, cond, List, [], ◌∷◌, length, get_or, take, drop, eqb}
 use Rattle.std.proofs.Common.{sym, ap, ◌∙◌, subst, ⊎_elim, arith, mul-le-mul_right, suc-mul, length-take, length-drop, length-take-le, get_or-take, get_or-drop, pow_pos}
 use Rattle.std.proofs.lemmas.Bool.{cases_lt}
 use Rattle.std.proofs.Math.ListN.{get_or-eq_default}
 use Rattle.layout.specs.declared.Head.{Head}
 use Rattle.layout.specs.declared.Field.{Field}
-use Rattle.layout.specs.Grammar.{Grammar, number, failed_by, good, check}
+use Rattle.layout.specs.Grammar.{Grammar, number, good, check}
 use Rattle.layout.specs.Layout.{range, one, repeat, two, day, days, group, groups, nurse, nurses, weights, limits, gaps, rules, sizes, body, last_edition, later, first, ward}
 use Rattle.ward.specs.Answers.{check_ward}
 use Rattle.fields.specs.Sizes.{number_places}
 use Rattle.fields.specs.Fields.{body_of, Accepted, Block, block_at, block, groups_at, member_sets, needs_at, needs, tail_at, pair_count}
 use Rattle.fields.proofs.FieldLaws.{body_one}
 use Rattle.layout.proofs.GrammarLaws.{in_range}
-use Rattle.layout.proofs.AcceptLaws.{let_through, accepted}
+use Rattle.layout.proofs.AcceptLaws.{first_let_through, accepted}
 use Rattle.layout.proofs.PairLaws.{FirstDay, Paired, paired}
 use Rattle.ward.proofs.FitsLaws.{ward_fits}
 use Rattle.layout.proofs.AccessLaws.{After, First, Both, Most, Takes, reached, number_has, numbers_have, after_at, past, takes_one, takes_both, takes_repeat, in_repeat, takes_day, takes_group, takes_nurse, nurse_duty, nurse_least_nights, nurse_most_nights, nurse_least_rests, nurse_most_rests, nurse_mark, day_in, day_pair}
@@ -101,17 +101,9 @@ module _ (h : Head) where
   tail_past : After (rules h) (13 + (h.m * (11 + h.n) + (h.r * 1 + h.n * (2 + h.r * 4)))) (λ g. g ≡ two h)
   tail_past = days_past (λ g. g ≡ two h) (h.n * (2 + h.r * 4)) (takes_repeat (day h.r) (2 + h.r * 4) (takes_day h.r) h.n (two h))
 
-number_in :
-    (f : Field) (k : ℕ → Grammar) (i w : ℕ) (ws vs : List ℕ) → check (number f k) i (w ∷ ws) ≡ good vs →
-    (us : List ℕ) × (failed_by f w ≡ 0) × (check (k w) (i + 1) ws ≡ good us)
-unfolding check
-number_in f k i w ws vs e =
-    let t = let_through (failed_by f w) i w (check (k w) (i + 1) ws) vs e in
-    (t.1.0, t.0, t.1.1)
-
 none_in : (f : Field) (k : ℕ → Grammar) (i : ℕ) (vs : List ℕ) → check (number f k) i [] ≡ good vs → ⊥
 unfolding check
-none_in f k i vs e = let z : ◌≡◌ {A = ℕ} 0 1 = cc in omega arith
+none_in f k i vs e = cc
 
 -- ---- a ward's body by its three numbers and the others
 
@@ -299,23 +291,23 @@ sizes_accepted : (edition m at : ℕ) (ws vs : List ℕ) → Between 1 48 m → 
 sizes_accepted edition m at [] vs hm few e =
     absurd (none_in (range 1 31) (λ n. number (range 0 16) (λ r. rules (record { m = m; n = n; r = r; edition = edition }))) at vs e)
 sizes_accepted edition m at (n ∷ []) vs hm few e =
-    let a = number_in (range 1 31) (λ y. number (range 0 16) (λ r. rules (record { m = m; n = y; r = r; edition = edition }))) at n [] vs e in
-    absurd (none_in (range 0 16) (λ r. rules (record { m = m; n = n; r = r; edition = edition })) (at + 1) a.0 a.2)
+    let a = first_let_through (range 1 31) (λ y. number (range 0 16) (λ r. rules (record { m = m; n = y; r = r; edition = edition }))) at n [] vs e in
+    absurd (none_in (range 0 16) (λ r. rules (record { m = m; n = n; r = r; edition = edition })) (at + 1) a.1.0 a.1.1)
 sizes_accepted edition m at (n ∷ r ∷ ws) vs hm few e =
-    let a = number_in (range 1 31) (λ y. number (range 0 16) (λ z. rules (record { m = m; n = y; r = z; edition = edition }))) at n (r ∷ ws) vs e in
-    let b = number_in (range 0 16) (λ z. rules (record { m = m; n = n; r = z; edition = edition })) (at + 1) r ws a.0 a.2 in
-    by_parts m n r ws b.0 hm (in_range (range 1 31) n a.1) (in_range (range 0 16) r b.1) few edition (at + 1 + 1) b.2
+    let a = first_let_through (range 1 31) (λ y. number (range 0 16) (λ z. rules (record { m = m; n = y; r = z; edition = edition }))) at n (r ∷ ws) vs e in
+    let b = first_let_through (range 0 16) (λ z. rules (record { m = m; n = n; r = z; edition = edition })) (at + 1) r ws a.1.0 a.1.1 in
+    by_parts m n r ws b.1.0 hm (in_range (range 1 31) n a.0) (in_range (range 0 16) r b.0) few edition (at + 1 + 1) b.1.1
 
 -- from m on, after 0 and the edition
 later_accepted : (at : ℕ) (ws vs : List ℕ) → length ws ≤ number_places → check later at ws ≡ good vs → Accepted (drop 1 ws)
 later_accepted at [] vs few e = absurd (none_in (range 2 last_edition) (λ x. body x) at vs e)
 later_accepted at (x ∷ []) vs few e =
-    let a = number_in (range 2 last_edition) (λ y. body y) at x [] vs e in
-    absurd (none_in (range 1 48) (λ m. sizes x m) (at + 1) a.0 a.2)
+    let a = first_let_through (range 2 last_edition) (λ y. body y) at x [] vs e in
+    absurd (none_in (range 1 48) (λ m. sizes x m) (at + 1) a.1.0 a.1.1)
 later_accepted at (x ∷ m ∷ ws) vs few e =
-    let a = number_in (range 2 last_edition) (λ y. body y) at x (m ∷ ws) vs e in
-    let b = number_in (range 1 48) (λ y. sizes x y) (at + 1) m ws a.0 a.2 in
-    sizes_accepted x m (at + 1 + 1) ws b.0 (in_range (range 1 48) m b.1) (omega (arith, few)) b.2
+    let a = first_let_through (range 2 last_edition) (λ y. body y) at x (m ∷ ws) vs e in
+    let b = first_let_through (range 1 48) (λ y. sizes x y) (at + 1) m ws a.1.0 a.1.1 in
+    sizes_accepted x m (at + 1 + 1) ws b.1.0 (in_range (range 1 48) m b.0) (omega (arith, few)) b.1.1
 
 few_numbers : (ws vs : List ℕ) → check_ward ws ≡ good vs → length ws ≤ number_places
 unfolding check_ward
@@ -326,12 +318,12 @@ pub accepted_ward : (ws vs : List ℕ) → check_ward ws ≡ good vs → Accepte
 unfolding check_ward ward body_of
 accepted_ward [] vs e = absurd (none_in (range 0 48) (λ m. first m) 0 vs e)
 accepted_ward (zero ∷ ws) vs e =
-    let a = number_in (range 0 48) (λ m. first m) 0 0 ws vs e in
-    later_accepted (0 + 1) ws a.0 (omega (arith, few_numbers (0 ∷ ws) vs e)) a.2
+    let a = first_let_through (range 0 48) (λ m. first m) 0 0 ws vs e in
+    later_accepted (0 + 1) ws a.1.0 (omega (arith, few_numbers (0 ∷ ws) vs e)) a.1.1
 accepted_ward (suc m ∷ ws) vs e =
-    let a = number_in (range 0 48) (λ x. first x) 0 (suc m) ws vs e in
+    let a = first_let_through (range 0 48) (λ x. first x) 0 (suc m) ws vs e in
     subst Accepted (body_one (suc m ∷ ws) (λ z. absurd (omega arith)))
-    (sizes_accepted 1 (suc m) (0 + 1) ws a.0 (omega arith, (in_range (range 0 48) (suc m) a.1).1) (few_numbers (suc m ∷ ws) vs e) a.2)
+    (sizes_accepted 1 (suc m) (0 + 1) ws a.1.0 (omega arith, (in_range (range 0 48) (suc m) a.0).1) (few_numbers (suc m ∷ ws) vs e) a.1.1)
 
 -- so m and n are there, or 0 and the edition
 pub long_ward : (ws vs : List ℕ) → check_ward ws ≡ good vs → 2 ≤ length ws

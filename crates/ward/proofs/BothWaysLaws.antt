@@ -1,6 +1,6 @@
 -- Reading and writing undo each other.
 use Rattle.std.specs.Prelude.{ℕ, ◌-◌, ◌≤◌, Bool, true, false, cond, ◌≡◌, refl, List, ◌++◌, ltb, length, take, drop, replicate}
-use Rattle.std.proofs.Common.{sym, ap, ◌∙◌, subst, append_assoc, arith, le-ltb, take_at}
+use Rattle.std.proofs.Common.{sym, ap, ◌∙◌, subst, append_assoc, le-ltb, take_at}
 use Rattle.std.specs.declared.result.Result.TheVariants.{Ok, Err}
 use Rattle.fields.specs.Sizes.{number_places}
 use Rattle.ward.specs.declared.Ward.{Ward}
@@ -32,7 +32,7 @@ unfolding writing_of
 fits_in m w {bytes} e = go (ltb m (length (bytes_of w))) refl e
   where
     go : (b : Bool) → ltb m (length (bytes_of w)) ≡ b → cond b (Err (numbered question.bytes 0)) (Ok (length (bytes_of w))) ≡ Ok bytes → (bytes ≡ length (bytes_of w)) × (b ≡ false)
-    go true q y = let z : ◌≡◌ {A = ℕ} 0 1 = cc in absurd (omega arith)
+    go true q y = absurd (cc)
     go false q y = (cc, refl)
 
 module _ (buffer : List ℕ) where
@@ -43,7 +43,7 @@ module _ (buffer : List ℕ) where
       let f = fits_in (length buffer) vs y in
       let c : check_ward vs ≡ good vs = ap check_ward s ∙ e in
       rw (f.0, f.1, take_at (bytes_of vs) (drop (length (bytes_of vs)) buffer) (length (bytes_of vs)) refl) (ward_out vs c ∙ ap good s)
-  written ws bytes (bad n) e y = let z : ◌≡◌ {A = ℕ} 0 1 = cc in absurd (omega arith)
+  written ws bytes (bad n) e y = absurd (cc)
 
   back : (file : List ℕ) (w : Ward) (r : Read) → read_ward file ≡ r → AllBytes file → reading_of r ≡ Ok w → length file ≤ length buffer
       → (writing_of (length buffer) (check_ward (counted w)) ≡ Ok (length file)) × (left_of buffer (check_ward (counted w)) ≡ file ++ drop (length file) buffer)
@@ -55,7 +55,7 @@ module _ (buffer : List ℕ) where
         ap (writing_of (length buffer)) c ∙ simp (le-ltb _ _ room) (ap (λ (x : List ℕ). Ok (length x)) b.0),
         ap (left_of buffer) c ∙ simp (le-ltb _ _ room) (ap (λ (x : List ℕ). x ++ drop (length x) buffer) b.0),
       )
-  back file w (bad n) e a y l = let z : ◌≡◌ {A = ℕ} 0 1 = cc in absurd (omega arith)
+  back file w (bad n) e a y l = absurd (cc)
 
 pub both_ways : BothWays
 both_ways = record {

@@ -33,7 +33,7 @@ of_reading P file w holds e = go (read_ward file) refl e
         let r : w ≡ record { numbers = ws ++ replicate (number_places - length ws) 0; count = length ws } = cc in
         let is : take w.count w.numbers ≡ ws = ap (λ (y : Ward). take y.count y.numbers) r ∙ take_at ws _ (length ws) refl in
         subst P (sym is) (holds ws q)
-    go (bad n) q same = let z : ◌≡◌ {A = ℕ} 0 1 = cc in absurd (omega arith)
+    go (bad n) q same = absurd (cc)
 
 pub reading_accepted : (file : List ℕ) (w : Ward) → ((i : ℕ) → get_or file i 0 < 256) → Ok w ≡ reading_of (read_ward file)
     → Accepted (body_of (take w.count w.numbers))
@@ -54,7 +54,7 @@ reading_fits file w e = go (read_ward file) e
     go (good ws) same =
         let r : w ≡ record { numbers = ws ++ replicate (number_places - length ws) 0; count = length ws } = cc in
         subst (λ (y : Ward). y.count ≤ length y.numbers) (sym r) (simp length-append (omega arith))
-    go (bad n) same = let z : ◌≡◌ {A = ℕ} 0 1 = cc in absurd (omega arith)
+    go (bad n) same = absurd (cc)
 
 pub ward_in : (file : List ℕ) (w : Ward) → ((i : ℕ) → get_or file i 0 < 256) → Ok w ≡ reading_of (read_ward file) → WardIn w.numbers w.count
 ward_in file w bytes e = record { fits = reading_fits file w e; long = reading_long file w bytes e; accepted = reading_accepted file w bytes e }

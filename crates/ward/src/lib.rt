@@ -1,7 +1,7 @@
 // The ward file: its reader and its writer.
 #![tactic(auto)]
 
-ghost use Rattle.std.specs.Prelude.{◌≡◌, ◌≤◌, IfOk, length, drop, replicate};
+ghost use Rattle.std.specs.Prelude.{◌≡◌, IfOk, length, replicate};
 ghost use Rattle.codec.specs.Groups.{decode};
 ghost use Rattle.fields.specs.Sizes.{number_places};
 ghost use Rattle.layout.specs.Grammar.{failed_by};
@@ -39,17 +39,16 @@ fn ask(field: Field, v: u64, place: usize) -> Result<(), Refusal>
     layout::ask(field, v).map_err(|question| question.at(place))
 }
 
-// Questions 1 to 4 of the number that starts at `at`.
-fn number_at(file: &[u8], at: usize, field: Field) -> Result<Number, Refusal>
-    requires { at ≤ length file.now }
-    ensures { result ≡ number_asked field at (decode (drop at file.now)) }
+// Questions 1 to 4 of the number at the front of what is left from `at` on.
+fn number_at(rest: &[u8], at: usize, field: Field) -> Result<Number, Refusal>
+    ensures { result ≡ number_asked field at (decode rest.now) }
 {
-    let number = codec::number_at(file, at).map_err(|fault| fault_question(fault).at(at))?;
+    let number = codec::number_in(rest).map_err(|fault| fault_question(fault).at(at))?;
     ask(field, number.value, at)?;
     Ok(number)
 }
 
-// The ward of a file in a lent array of zeros, and how many numbers it has, or the first question that it fails: what stands there is then of no use.
+// The ward of a file in an array of zeros that is lent, so that a call from C has no second one on its stack, and how many numbers it has, or the first question that it fails: what stands there is then of no use.
 pub fn read_into(file: &[u8], numbers: &mut [u64; NUMBERS]) -> Result<usize, Refusal>
     requires { numbers.old ≡ replicate number_places 0 }
     ensures says { result ≡ count_of (reading_of (read_ward file.now)) }
@@ -61,7 +60,7 @@ pub fn read_into(file: &[u8], numbers: &mut [u64; NUMBERS]) -> Result<usize, Ref
     let mut c = layout::start();
     // The layout leads: how many numbers there are is known only at its end.
     while let Some(field) = layout::wanted_at(c) {
-        let number = number_at(file, at, field)?;
+        let number = number_at(&file[at..], at, field)?;
         numbers[count] = number.value;
         count += 1;
         at += number.used;
@@ -87,24 +86,22 @@ pub fn read(file: &[u8]) -> Result<Ward, Refusal>
 fn questions(ward: &Ward) -> Result<usize, Refusal>
     ensures { result ≡ checked_of (check_ward (counted ward.now)) }
 {
-    let mut i: usize = 0;
+    // A count above the array needs no answer of its own: the longest ward has 4,107 numbers, so the layout ends before the array does.
+    let numbers = &ward.numbers[..ward.count.min(NUMBERS)];
     let mut bytes: usize = 0;
     let mut c = layout::start();
-    // The layout leads: it may end before the numbers, and the numbers before it.
-    while let Some(field) = layout::wanted_at(c) {
-        if i >= ward.count {
-            return Err(Question::Whole.at(i));
-        }
-        let v = ward.numbers[i];
-        ask(field, v, i)?;
-        bytes += codec::size(v);
-        i += 1;
-        c = layout::step(c, v);
+    for (i, v) in numbers.iter().enumerate() {
+        let Some(field) = layout::wanted_at(c) else {
+            return Err(Question::End.at(i));
+        };
+        ask(field, *v, i)?;
+        bytes += codec::size(*v);
+        c = layout::step(c, *v);
     }
-    if i < ward.count {
-        return Err(Question::End.at(i));
+    match layout::wanted_at(c) {
+        Some(_) => Err(Question::Whole.at(ward.count)),
+        None => Ok(bytes),
     }
-    Ok(bytes)
 }
 
 // The counted numbers as bytes from the buffer's start, and how many.

@@ -52,7 +52,7 @@ fn whole(file: &[u8]) -> Tally {
     tally
 }
 
-// The file cut after each of its bytes.
+// The file cut after each of its bytes. By place: all before it is read, where an iterator gives one byte.
 fn cuts(file: &[u8]) -> Tally {
     let mut tally = Tally::default();
     for end in 0..file.len() {

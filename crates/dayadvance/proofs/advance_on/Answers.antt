@@ -1,11 +1,11 @@
-use Rattle.std.proofs.Common.{length, sym, ap, ◌∙◌, []}
+use Rattle.std.proofs.Common.{length, sym, ap, ◌∙◌}
 use Rattle.refusals.specs.Refusals.{refusal_in}
 use Rattle.fields.specs.Fields.{nurses}
 use Rattle.daylists.specs.Lists.{up_to}
 use Rattle.phases.specs.Phases.{day_phase, day_list_over, night_of}
 use Rattle.phases.proofs.ExitLaws.{exit_err}
 use Rattle.outcomes.proofs.OutcomeLaws.{told_refused, told_advanced}
-use Rattle.dayadvance.proofs.DayLaws.{day_lists, day_seeks, opened, lists_front, stored_zero}
+use Rattle.dayadvance.proofs.DayLaws.{ready, stored_zero}
 use Rattle.dayadvance.proofs.advance_on.Goals as goal
 
 pub returns-in_err-ends : goal.returns-in_err-ends
@@ -21,23 +21,16 @@ pub advance-x-requires : goal.advance-x-requires
 advance-x-requires c =
     let s = c.args in
     let w = s.w.now.numbers.now in
-    let over = night_of s.nights.now in
-    let ok = opened w s.nights.now s.rec s.k (length s.buffer.now) s.past (sym (c.first_no.ensures.asked s.past) ∙ ap refusal_in c.in_ok-ends.was) in
-    let front = lists_front (up_to (day_list_over w over) (nurses w)) _ c.lists_fill-len.ensures.value c.lists_fill-len.ensures.buf_after in
-    record {
-      lists = (day_lists w over [] c.in_ok-ends.ensures.ends front, ok.steps_fit);
-      served_sound = (day_phase w over, day_seeks w over [] c.in_ok-ends.ensures.ends front, ok.sound);
-    }
+    let go = ready w s.nights.now s.rec s.k (length s.buffer.now) s.past _ (c.first_no.ensures.asked s.past) c.in_ok-ends.was c.in_ok-ends.ensures.ends c.lists_fill-len.ensures.value c.lists_fill-len.ensures.buf_after in
+    record { lists = (go.lists_are, go.steps_fit); served_sound = (day_phase w (night_of s.nights.now), go.seeks, go.sound) }
 
 pub roster_given-roster-requires : goal.roster_given-roster-requires
 roster_given-roster-requires c =
     let s = c.args in
-    let w = s.w.now.numbers.now in
-    let over = night_of s.nights.now in
-    let ok = opened w s.nights.now s.rec s.k (length s.buffer.now) s.past (sym (c.first_no.ensures.asked s.past) ∙ ap refusal_in c.in_ok-ends.was) in
-    let front = lists_front (up_to (day_list_over w over) (nurses w)) _ c.lists_fill-len.ensures.value c.lists_fill-len.ensures.buf_after in
-    let seeks = day_seeks w over [] c.in_ok-ends.ensures.ends front in
-    stored_zero w (day_phase w over) s.past s.k s.rec s.w.now.accepted (c.advance-x.ensures (day_phase w over) seeks ok.sound)
+    let w = s.w.now in
+    let go = ready w.numbers.now s.nights.now s.rec s.k (length s.buffer.now) s.past _ (c.first_no.ensures.asked s.past) c.in_ok-ends.was c.in_ok-ends.ensures.ends c.lists_fill-len.ensures.value c.lists_fill-len.ensures.buf_after in
+    let phase = day_phase w.numbers.now (night_of s.nights.now) in
+    stored_zero w.numbers.now phase s.past s.k s.rec w.accepted (c.advance-x.ensures phase go.seeks go.sound)
 
 pub returns : goal.returns
 returns c =
@@ -45,11 +38,8 @@ returns c =
     let w = s.w.now.numbers.now in
     let over = night_of s.nights.now in
     let phase = day_phase w over in
-    let all = up_to (day_list_over w over) (nurses w) in
-    let yes_all = sym (c.first_no.ensures.asked s.past) ∙ ap refusal_in c.in_ok-ends.was in
-    let ok = opened w s.nights.now s.rec s.k (length s.buffer.now) s.past yes_all in
-    let front = lists_front all _ c.lists_fill-len.ensures.value c.lists_fill-len.ensures.buf_after in
-    let seeks = day_seeks w over [] c.in_ok-ends.ensures.ends front in
-    let told = told_advanced phase s.rec s.k s.past all s.buffer.now c.advance-x.result yes_all
-    (c.advance-x.ensures phase seeks ok.sound) (c.finished.ensures phase c.roster_given-roster.ensures) c.lists_fill-len.ensures.buf_after in
+    let go = ready w s.nights.now s.rec s.k (length s.buffer.now) s.past _ (c.first_no.ensures.asked s.past) c.in_ok-ends.was c.in_ok-ends.ensures.ends c.lists_fill-len.ensures.value c.lists_fill-len.ensures.buf_after in
+    let yes = sym (c.first_no.ensures.asked s.past) ∙ ap refusal_in c.in_ok-ends.was in
+    let told = told_advanced phase s.rec s.k s.past (up_to (day_list_over w over) (nurses w)) s.buffer.now c.advance-x.result yes
+    (c.advance-x.ensures phase go.seeks go.sound) (c.finished.ensures phase c.roster_given-roster.ensures) c.lists_fill-len.ensures.buf_after in
     record { says = told.0; leaves = told.1 }

@@ -4,7 +4,7 @@ use Rattle.nights.proofs.last_run.Goals as goal
 use Rattle.nights.proofs.last_run.Goals.{then-duty-eq2, else-duty-eq2}
 
 pub loop-i-init : goal.loop-i-init
-loop-i-init c = (omega arith, omega arith, lately_all _)
+loop-i-init c = rw (c.default-last.ensures.0, c.default-last.ensures.1) (omega arith, omega arith, lately_all _)
 
 pub loop-i-preserved : goal.loop-i-preserved
 loop-i-preserved c =

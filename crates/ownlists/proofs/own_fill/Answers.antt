@@ -11,9 +11,9 @@ loop-p-init c = own_start _ _ _
 pub loop-p-preserved : goal.loop-p-preserved
 loop-p-preserved c =
     let her = c.args.her.now in
-    let w = her.ward.now.numbers.now in
+    let w = her.nurse.ward.numbers.now in
     let there = common_at w c.args.list.now c.loop-p.p-index c.requires c.loop-p-test.true in
-    let is : c.passes.result ≡ hers_of w her.nurse (get_or c.args.list.now c.loop-p.p-index 0) = c.passes.ensures there.0 there.1 in
+    let is : c.passes.result ≡ hers_of w her.nurse.index (get_or c.args.list.now c.loop-p.p-index 0) = c.passes.ensures there.0 there.1 in
     elim c.if-passes.branch [
       | then-passes x ↦ elim x.if-at-own.branch [
         | then-at-own y ↦ own_stored c.loop-p.invariant c.loop-p-test.true is x.if-passes.true y.if-at-own.true (x.own-is ∙ y.own-is) x.at-is

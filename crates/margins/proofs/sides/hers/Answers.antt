@@ -1,10 +1,10 @@
-use Rattle.std.proofs.Common.{arith, refl, sym, ◌∙◌}
+use Rattle.std.proofs.Common.{arith, sym, ◌∙◌}
 use Rattle.margins.proofs.SideLaws.{blank_low, hers_start, hers_in, hers_out}
 use Rattle.margins.proofs.sides.hers.Goals.{then-has, else-has}
 use Rattle.margins.proofs.sides.hers.Goals as goal
 
 pub add_row-requires : goal.add_row-requires
-add_row-requires c = (omega arith, blank_low 64 _, refl)
+add_row-requires c = (omega arith, blank_low 64 _)
 
 pub loop-g-init : goal.loop-g-init
 loop-g-init c = hers_start _ _ _ c.add_row.ensures

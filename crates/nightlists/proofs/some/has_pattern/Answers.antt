@@ -1,12 +1,17 @@
+use Rattle.std.proofs.Common.{◌≡◌}
 use Rattle.fields.specs.Fields.{days}
 use Rattle.fields.specs.Rules.{rules_of}
+use Rattle.fields.specs.declared.rules.Rules.{Rules}
+use Rattle.nights.specs.Nights.{common}
 use Rattle.std.proofs.Common.{ap, ◌∙◌}
-use Rattle.nightlists.proofs.CommonLaws.{walk_from}
 use Rattle.nightlists.proofs.SomeLaws.{some_of_list, says_as}
 use Rattle.nightlists.proofs.some.has_pattern.Goals as goal
 
 pub returns : goal.returns
 returns c =
-    let w = c.args.w.now in
-    let all = walk_from (rules_of w.numbers.now) (days w.numbers.now) w.accepted.run_some c.default.result (c.of-k.ensures ∙ c.rules.ensures) c.days.ensures.0 c.default.ensures in
-    some_of_list w.numbers.now c.args.i _ _ w.accepted all (says_as _ _ (ap (λ b. b.numbers.now) c.masks_of.ensures.0) c.masks_of.ensures.1 c.some.ensures)
+    let her = c.args.her.now in
+    let w = her.ward.numbers.now in
+    let k : c.of-k.result.rules ≡ rules_of w = c.of-k.ensures ∙ c.rules.ensures in
+    let n : c.days.result ≡ days w = c.days.ensures.0 in
+    let all = c.none.ensures c.of-k.result.rules (rw k her.ward.accepted.run_some) ∙ ap (λ (r : Rules). common r c.days.result) k ∙ ap (common (rules_of w)) n in
+    some_of_list w her.index _ _ her.ward.accepted all (says_as _ _ (ap (λ h. h.ward.numbers.now) c.masks_of.ensures) (ap (λ h. h.index) c.masks_of.ensures) c.some.ensures)

@@ -1,25 +1,21 @@
-use Rattle.std.proofs.Common.{arith, sym, ◌∙◌, ◌≡◌, ◌-◌, refl}
+use Rattle.std.proofs.Common.{rules, tests, arith, sym, ap, cond, None, ◌∙◌, ◌≡◌, ◌-◌}
+use Rattle.numbers.specs.Digits.{has}
 use Rattle.nightlists.proofs.OnwardLaws.{Long, long_is}
+use Rattle.nightlists.proofs.SomeLaws.{filter_is}
 use Rattle.nightlists.proofs.some.her_lengthened.Goals as goal
 
-pub overflow_sub-t : goal.overflow_sub-t
-overflow_sub-t c =
-    let long : Long c.args.k.now.rules c.args.left c.args.s c.in_ok-t.t = long_is c.args.k.now.rules c.args.left c.args.s c.in_ok-t.t (sym c.lengthened.ensures ∙ c.in_ok-t.was) in
-    long.some
-
-pub has-requires : goal.has-requires
-has-requires c =
-    let long : Long c.args.k.now.rules c.args.left c.args.s c.in_ok-t.t = long_is c.args.k.now.rules c.args.left c.args.s c.in_ok-t.t (sym c.lengthened.ensures ∙ c.in_ok-t.was) in
-    omega (arith, long.below)
-
-pub returns-then-has : goal.returns-then-has
-returns-then-has c =
-    let long : Long c.args.k.now.rules c.args.left c.args.s c.in_ok-t.t = long_is c.args.k.now.rules c.args.left c.args.s c.in_ok-t.t (sym c.lengthened.ensures ∙ c.in_ok-t.was) in
-    let is : c.args.s.first - 3 ≡ c.in_ok-t.t.first - 1 = omega (arith, long.day) in
-    rw (is, ← c.has.ensures, c.if-has.true) refl
+pub filter-requires : goal.filter-requires
+filter-requires c = λ x e p q.
+    let s = c.args.part.now in
+    let long : Long c.args.k.now.rules s.left s.state x = long_is c.args.k.now.rules s.left s.state x (sym c.lengthened.ensures ∙ e) in
+    let first = ap (λ t. t.first) q in
+    (λ κs v h a b. omega (arith, long.some), λ κs v h a b d. omega (arith, long.some, long.below, s.ready.few_days))
 
 pub returns : goal.returns
 returns c =
-    let long : Long c.args.k.now.rules c.args.left c.args.s c.in_ok-t.t = long_is c.args.k.now.rules c.args.left c.args.s c.in_ok-t.t (sym c.lengthened.ensures ∙ c.in_ok-t.was) in
-    let is : c.args.s.first - 3 ≡ c.in_ok-t.t.first - 1 = omega (arith, long.day) in
-    rw (is, ← c.has.ensures, c.if-has.false) (sym c.in_ok-t.was ∙ c.lengthened.ensures)
+    filter_is _ _ _ _ c.filter.ensures (λ x b e post.
+    let s = c.args.part.now in
+    let long : Long c.args.k.now.rules s.left s.state x = long_is c.args.k.now.rules s.left s.state x (sym c.lengthened.ensures ∙ e) in
+    let is : s.state.first - 3 ≡ x.first - 1 = omega (arith, long.day) in
+    rw is (search (rules, tests)))
+    ∙ ap (λ N. cond (has c.args.never (c.args.part.now.state.first - 3)) None N) c.lengthened.ensures

@@ -6,4 +6,6 @@ use Rattle.rostercheck.proofs.needs.all_bounds_hold.Goals as goal
 
 pub returns : goal.returns
 unfolding all_bounds_hold
-returns c = all_below (bounds_hold c.args.sets.now c.args.needs.now (place c.args.shift) c.args.col) _ _ c.all.ensures.ran refl refl (λ x b q k. search (rules, tests))
+returns c =
+    let d = c.args.c.now in
+    all_below (bounds_hold d.sets.now d.needs.now (place d.shift) c.args.col) _ _ c.all.ensures.ran refl refl (λ x b q k. search (rules, tests))

@@ -10,5 +10,5 @@ returns-then-count-eq0 c = c.pair_holds.ensures ∙ sym (pairs_none _ _ (sym c.p
 pub returns : goal.returns
 returns c =
     let s = c.args in
-    any_over (pair_holds s.w.now.numbers.now s.i s.p s.q) 1 _ c.pair_count-count.result c.any.ensures.ran refl (omega arith) (λ x b q k. search (rules, tests))
+    any_over (pair_holds s.her.now.ward.numbers.now s.her.now.index s.p s.q) 1 _ c.pair_count-count.result c.any.ensures.ran refl (omega arith) (λ x b q k. search (rules, tests))
     ∙ pairs_all _ _ c.pair_count-count.ensures.0 c.if-count-eq0.false

@@ -6,10 +6,10 @@ pub returns-then-is_at_rest : goal.returns-then-is_at_rest
 returns-then-is_at_rest c =
     let s = c.args in
     let day = c.pair_day-second.ensures in
-    let first : c.pair_day-second.result - 1 < c.nurse-b.result.days = omega (arith, c.nurse-b.ensures.1, day.2) in
-    let second : c.pair_day-second.result < c.nurse-b.result.days = omega (arith, c.nurse-b.ensures.1, day.2) in
+    let first : c.pair_day-second.result - 1 < c.numbers-b.result.days = omega (arith, c.numbers-b.ensures.1, day.2) in
+    let second : c.pair_day-second.result < c.numbers-b.result.days = omega (arith, c.numbers-b.ensures.1, day.2) in
     rw (
-      fits_days s.w.now.numbers.now s.i s.p s.k c.if-k-eq0.false c.if-count-k.false c.pair_count-count.ensures.0 c.nurse-b.ensures.0 day.0 day.1,
+      fits_days s.her.now.ward.numbers.now s.her.now.index s.p s.k c.if-k-eq0.false c.if-count-k.false c.pair_count-count.ensures.0 c.numbers-b.ensures.0 day.0 day.1,
       ← c.mark.ensures.is,
       ← c.states-states.ensures _ first,
       ← c.is_at_rest.ensures,
@@ -22,9 +22,9 @@ pub returns-else-is_at_rest : goal.returns-else-is_at_rest
 returns-else-is_at_rest c =
     let s = c.args in
     let day = c.pair_day-second.ensures in
-    let first : c.pair_day-second.result - 1 < c.nurse-b.result.days = omega (arith, c.nurse-b.ensures.1, day.2) in
+    let first : c.pair_day-second.result - 1 < c.numbers-b.result.days = omega (arith, c.numbers-b.ensures.1, day.2) in
     rw (
-      fits_days s.w.now.numbers.now s.i s.p s.k c.if-k-eq0.false c.if-count-k.false c.pair_count-count.ensures.0 c.nurse-b.ensures.0 day.0 day.1,
+      fits_days s.her.now.ward.numbers.now s.her.now.index s.p s.k c.if-k-eq0.false c.if-count-k.false c.pair_count-count.ensures.0 c.numbers-b.ensures.0 day.0 day.1,
       ← c.mark.ensures.is,
       ← c.states-states.ensures _ first,
       ← c.is_at_rest.ensures,

@@ -2,8 +2,8 @@ use Rattle.std.proofs.Common.{[]}
 use Rattle.search.proofs.PlanLaws.{own_tries, own_sought}
 use Rattle.search.proofs.Record.advance_kept.Goals as goal
 
-pub advance_over-requires-clause-offered : goal.advance_over-requires-clause-offered
-advance_over-requires-clause-offered g c = (own_tries c.own_lists-plan.ensures c.requires.common.0, c.requires.common.1)
+pub invariant_of-offers : goal.invariant_of-offers
+invariant_of-offers g c = record { tries = own_tries c.own_lists-plan.ensures c.requires.common.0 }
 
 pub advance_over-requires-clause-sought_sound : goal.advance_over-requires-clause-sought_sound
 advance_over-requires-clause-sought_sound g c = let served = c.requires.sought_sound in (served.0, own_sought c.own_lists-plan.ensures [] c.args.w.now.accepted served.1, served.2)

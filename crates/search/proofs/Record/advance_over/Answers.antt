@@ -1,4 +1,4 @@
-use Rattle.std.proofs.Common.{rules, sym, ◌∙◌}
+use Rattle.std.proofs.Common.{rules}
 use Rattle.search.specs.Stored.{Sized}
 use Rattle.search.proofs.AdvanceLaws.{ends_zero, ends_asked, stays_none, turn_on}
 use Rattle.search.proofs.ChoiceLaws.{turn_start}
@@ -12,18 +12,16 @@ steps-init c =
     )
 
 pub returns-then-stops : goal.returns-then-stops
-returns-then-stops c = λ P s e. ends_zero (c.steps.invariant.1 P s e) (sym c.stops.ensures ∙ c.if-stops.true)
+returns-then-stops c = λ P s e. ends_zero (c.steps.invariant.1 P s e) c.stops.ensures c.if-stops.true
 
 pub returns-then-made-k : goal.returns-then-made-k
-returns-then-made-k c = λ P s e. ends_asked (c.steps.invariant.1 P s e) (sym c.stops.ensures ∙ c.if-stops.false) c.if-made-k.true
+returns-then-made-k c = λ P s e. ends_asked (c.steps.invariant.1 P s e) c.stops.ensures c.if-stops.false c.if-made-k.true
 
 pub returns-in_default : goal.returns-in_default
-returns-in_default c = λ P s e.
-    let turn = c.steps.invariant.1 P s e in
-    stays_none turn (sym c.stops.ensures ∙ c.if-stops.false) c.if-made-k.false (c.step.ensures.takes P s) c.in_default.is
+returns-in_default c = λ P s e. stays_none (c.steps.invariant.1 P s e) c.stops.ensures c.if-stops.false c.if-made-k.false (c.step.ensures.takes P s) c.in_default.is
 
 pub steps-preserved : goal.steps-preserved
 steps-preserved c = (
   c.in-Some.ensures.shows,
-  λ P s e. let turn = c.steps.invariant.1 P s e in turn_on turn (sym c.stops.ensures ∙ c.if-stops.false) c.if-made-k.false (c.step.ensures.takes P s) c.in-Some.is,
+  λ P s e. turn_on (c.steps.invariant.1 P s e) c.stops.ensures c.if-stops.false c.if-made-k.false (c.step.ensures.takes P s) c.in-Some.is,
 )

@@ -1,6 +1,6 @@
 use Rattle.std.proofs.Common.{rules, ◌<◌, ◌≡◌, ◌∙◌, None}
 use Rattle.fields.specs.Fields.{nurses as nurses_in}
-use Rattle.search.proofs.ChoiceLaws.{chosen_nurse, count_as, seeks_none, seeks_some, exchange_cost}
+use Rattle.search.proofs.ChoiceLaws.{chosen_nurse, seeks_none, seeks_some, exchange_cost}
 use Rattle.search.proofs.Record.step.Goals as goal
 
 pub returns-in_err-best-clause-takes : goal.returns-in_err-best-clause-takes
@@ -21,4 +21,4 @@ pub returns-clause-takes : goal.returns-clause-takes
 returns-clause-takes c =
     let l : c.in_ok-best.best.nurse < nurses_in c.args.offers.now.ward.now.numbers.now = chosen_nurse c.requires c.best_of.ensures c.in_ok-best.was in
     λ P s. seeks_some s c.args.self (c.best_of.ensures P s) c.in_ok-best.was c.exchange.ensures.made
-    (exchange_cost s _ _ c.requires.shown l (count_as c.requires c.nurses.ensures.0 c.unplaced-unplaced.ensures) c.exchange.ensures.costs)
+    (exchange_cost s _ _ c.requires.shown l c.unplaced-unplaced.ensures c.exchange.ensures.costs)

@@ -1,8 +1,11 @@
-use Rattle.search.proofs.SlotLaws.{pattern_days, pattern_nights}
+use Rattle.search.proofs.SlotLaws.{no_slot, pattern_days, pattern_nights}
 use Rattle.search.proofs.slots.pattern_in.Goals as goal
+use Rattle.search.proofs.slots.pattern_in.Goals.{in-Nights, in-Days}
 
-pub returns-in-Nights : goal.returns-in-Nights
-returns-in-Nights c = pattern_nights _ c.args.rec _ _ c.if-rec-i.false c.in-Nights.is c.nurse-b.ensures.1 c.nurse-b.ensures.0 c.marked_days.ensures c.of.ensures
-
-pub returns-in-Days : goal.returns-in-Days
-returns-in-Days c = pattern_days _ c.args.rec _ _ c.if-rec-i.false c.in-Days.is c.nurse-b.ensures.1 c.nurse-b.ensures.0 c.marked_days-in-Days.ensures c.of-in-Days.ensures
+pub returns : goal.returns
+returns c =
+    let none = no_slot _ _ c.slot.ensures c.in_default.is in
+    elim c.match-search.branch [
+      | in-Nights x ↦ pattern_nights _ c.args.rec _ _ none x.in-Nights.is x.mark-is c.numbers.ensures.1 c.numbers.ensures.0 c.marked_days.ensures c.of.ensures
+      | in-Days x ↦ pattern_days _ c.args.rec _ _ none x.in-Days.is x.mark-is c.numbers.ensures.1 c.numbers.ensures.0 c.marked_days.ensures c.of.ensures
+    ]

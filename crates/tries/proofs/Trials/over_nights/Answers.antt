@@ -8,7 +8,7 @@ loop-nights-init g c = nights_start _ _ _ _ _ _ _ _ _ _
 pub loop-nights-preserved : goal.loop-nights-preserved
 loop-nights-preserved g c =
     let so_far = c.loop-nights.invariant in
-    let need = c.args.self.now.ward.now.accepted in
+    let need = c.args.self.now.tried.now.nurse.ward.accepted in
     let taken = c.loop-nights-test.true in
     elim c.if-hers.branch [
       | then-hers+then-improves x ↦ night_better so_far need taken x.cost-cost.ensures c.requires.before x.best-is (λ tells. tells _ _ taken c.hers.ensures) x.if-hers.true x.over_pattern-best.ensures

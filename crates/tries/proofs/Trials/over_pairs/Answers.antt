@@ -1,39 +1,40 @@
-use Rattle.std.proofs.Common.{◌+◌, ◌*◌, sym, ◌∙◌, arith}
+use Rattle.std.proofs.Common.{rules, ◌≤◌, ◌≡◌, ◌+◌, ◌-◌, ◌*◌, ◌&&◌, refl, sym, take, arith, ◌∙◌}
 use Rattle.fields.specs.Fields.{block}
 use Rattle.nights.specs.Own.{own_pattern}
+use Rattle.best.specs.CodeBest.{over_list}
 use Rattle.best.proofs.BestLaws.{over_nil}
-use Rattle.tries.proofs.TryLaws.{paired, paired_inside, paired_at, pair_own, pair_costs, paired_done, not_own, no_better, own_considered}
-use Rattle.tries.proofs.Trials.over_pairs.Goals.{then-fits+then-improves, then-fits+else-improves, else-fits}
+use Rattle.tries.specs.CodeTries.{allowed_by}
+use Rattle.tries.proofs.TryLaws.{pair_considered, pair_not_fits, paired, paired_done}
+use Rattle.tries.proofs.Trials.over_pairs.Goals.{then-fits, else-fits}
 use Rattle.tries.proofs.Trials.over_pairs.Goals as goal
 
-pub loop-k-init : goal.loop-k-init
-loop-k-init c = (omega arith, λ w may cost h need of b some y. sym (over_nil _ _ _ _))
+pub loop-number-init : goal.loop-number-init
+loop-number-init c = λ w cost need of b some y. sym (over_nil _ _ _ _)
 
-pub loop-k-preserved : goal.loop-k-preserved
-loop-k-preserved c = (
-  omega arith,
-  λ w may cost h need of b some y.
-      let k = c.loop-k.k in
-      let taken = c.loop-k-test.true in
-      let so_far = c.loop-k.invariant.1 w may cost h need of b some y in
-      let long = paired_inside need of some k taken in
-      let own_is = pair_own need of some k taken _ b c.fits.ensures in
-      elim c.if-fits.branch [
-        | then-fits+then-improves z ↦
-            own_considered (own_pattern w c.args.self.now.nurse) may (λ v. cost v + 10000000 * c.args.self.now.others) c.args.self.now.nurse c.args.held (paired w c.args.p) k long so_far own_is z.if-fits.true
-            (pair_costs need of some k taken _ b c.fits.ensures c.args.self.now.others y z.if-fits.true z.without.ensures.is) (z.of.ensures ∙ sym (paired_at need of some k taken)) z.best-is
-            (z.consider-best.ensures may h)
-        | then-fits+else-improves z ↦
-            z.best-is
-            ∙ no_better (own_pattern w c.args.self.now.nurse) may (λ v. cost v + 10000000 * c.args.self.now.others) c.args.self.now.nurse c.args.held (paired w c.args.p) k long so_far
-            (pair_costs need of some k taken _ b c.fits.ensures c.args.self.now.others y z.if-fits.true z.without.ensures.is) z.improves.ensures z.if-improves.false
-        | else-fits z ↦
-            z.best-is
-            ∙ not_own (own_pattern w c.args.self.now.nurse) may (λ v. cost v + 10000000 * c.args.self.now.others) c.args.self.now.nurse c.args.held (paired w c.args.p) k long so_far own_is z.if-fits.false
-      ],
-)
+pub loop-number-preserved : goal.loop-number-preserved
+loop-number-preserved c = λ w cost need of b some y.
+    let x = c.args.self.now.tried.now in
+    let m = c.loop-number.number in
+    let from : 1 ≤ m = search rules in
+    let to : m ≤ c.args.pairs.now.count = search rules in
+    let last : m + 1 - 1 ≡ m = omega arith in
+    let so_far = c.loop-number.invariant w cost need of b some y in
+    elim c.if-fits.branch [
+      | then-fits z ↦ pair_considered need of some m from to _ b c.fits.ensures (allowed_by x.barred.now) cost x.others c.args.held last so_far y z.if-fits.true z.without.ensures.is z.in_all-cost.ensures z.of.ensures z.best-is z.consider-best.ensures
+      | else-fits z ↦ pair_not_fits need of some m from to _ b c.fits.ensures (allowed_by x.barred.now) cost x.others c.args.held last so_far z.best-is z.if-fits.false
+    ]
 
-pub returns : goal.returns
-returns c = λ w may cost h need of some y.
-    c.loop-k.invariant.1 w may cost h need of (c.busy_days-busy.ensures (block w c.args.self.now.nurse) c.args.p need.set_is) some y
-    ∙ paired_done need of some _ _ _ _ c.loop-k-test.false
+pub returns-after-fits : goal.returns-after-fits
+returns-after-fits c = λ w cost need of some y.
+    let x = c.args.self.now.tried.now in
+    let m = c.loop-number.number in
+    let from : 1 ≤ m = search rules in
+    let to : m ≤ c.args.pairs.now.count = search rules in
+    let b = c.busy_days-busy.ensures (block w x.nurse.index) c.args.p need.set_is in
+    let so_far = c.loop-number.invariant w cost need of b some y in
+    let up_to : c.if-fits.best ≡ over_list (λ q. own_pattern w x.nurse.index q && allowed_by x.barred.now q) (λ q. cost q + 10000000 * x.others) x.nurse.index c.args.held (take m (paired w c.args.p)) =
+    elim c.if-fits.branch [
+      | then-fits z ↦ pair_considered need of some m from to _ b c.fits.ensures (allowed_by x.barred.now) cost x.others c.args.held refl so_far y z.if-fits.true z.without.ensures.is z.in_all-cost.ensures z.of.ensures z.best-is z.consider-best.ensures
+      | else-fits z ↦ pair_not_fits need of some m from to _ b c.fits.ensures (allowed_by x.barred.now) cost x.others c.args.held refl so_far z.best-is z.if-fits.false
+    ] in
+    up_to ∙ paired_done need of some _ _ _ m (search rules)

@@ -1,12 +1,6 @@
 use Rattle.std.proofs.Common.{arith}
-use Rattle.margins.proofs.SideLaws.{sets_few, sides_start, day_fits, sides_turn}
+use Rattle.margins.proofs.SideLaws.{sides_start, day_fits, sides_turn}
 use Rattle.margins.proofs.sides.Sides.of.Goals as goal
-
-pub hers-sums-requires : goal.hers-sums-requires
-hers-sums-requires c = (sets_few _ c.args.w.now.accepted c.member_sets-sets.ensures, omega (arith, c.args.w.now.accepted.nurses_most, c.requires.0))
-
-pub conditions-zero-requires : goal.conditions-zero-requires
-conditions-zero-requires c = (sets_few _ c.args.w.now.accepted c.member_sets-sets.ensures, omega (arith, c.args.w.now.accepted.nurses_most, c.requires.0))
 
 pub loop-d-init : goal.loop-d-init
 loop-d-init c = sides_start _ _ _ _ _
@@ -14,10 +8,10 @@ loop-d-init c = sides_start _ _ _ _ _
 pub both-x-requires : goal.both-x-requires
 both-x-requires c =
     rw c.part.view_is
-    (day_fits _ _ _ _ c.args.w.now.accepted c.requires.0 c.requires.1 _ _ _ _ _ c.member_sets-sets.ensures c.hers-sums.ensures c.conditions-zero.ensures
+    (day_fits _ _ _ _ c.args.her.now.ward.accepted c.args.her.now.in_ward c.requires _ _ _ _ _ c.member_sets-sets.ensures c.hers-sums.ensures c.conditions-zero.ensures
     (omega (arith, c.loop-d-test.true, c.days-n.ensures.0)) c.has-on.ensures)
 
 pub loop-d-preserved : goal.loop-d-preserved
 loop-d-preserved c =
-    sides_turn _ _ _ _ c.args.w.now.accepted c.requires.0 c.requires.1 _ _ _ _ _ c.member_sets-sets.ensures c.hers-sums.ensures c.conditions-zero.ensures
+    sides_turn _ _ _ _ c.args.her.now.ward.accepted c.args.her.now.in_ward c.requires _ _ _ _ _ c.member_sets-sets.ensures c.hers-sums.ensures c.conditions-zero.ensures
     (omega (arith, c.loop-d-test.true, c.days-n.ensures.0)) c.has-on.ensures c.loop-d.invariant c.loop-d-test.true (rw c.part.view_is at c.both-x.ensures)

@@ -4,4 +4,4 @@ use Rattle.penalty.proofs.DutyLaws.{GroupsSummed}
 use Rattle.penalty.proofs.duty.Conditions.on_column.Given as goal
 
 abbrev pub invariant-loop-g : goal.invariant-loop-g
-invariant-loop-g l = GroupsSummed l.self.weights l.self.sets.now l.self.needs.now (place l.self.shift) (has l.column) l.g l.short l.over
+invariant-loop-g l = GroupsSummed l.weights l.self.sets.now l.self.needs.now (place l.self.shift) (has l.column) l.g l.sum.short l.sum.over

@@ -11,4 +11,4 @@ loop-i-preserved c =
     let x = c.args.self.now in
     let w = x.offers.now.ward.now in
     let l : c.loop-i.i < nurses_in w.numbers.now = omega (arith, c.loop-i-test.true, c.nurses-i-end.ensures.0) in
-    λ P s. best_turn s x.rec.now c.loop-i.i (c.loop-i.invariant P s) (nurse_found c.requires.needs w.accepted P s c.loop-i.i l c.loop-i.best c.over_one-best.ensures)
+    λ P s. best_turn s x.rec.now c.loop-i.i (c.loop-i.invariant P s) (nurse_found c.requires w.accepted P s c.loop-i.i l c.loop-i.best c.over_one-best.ensures)

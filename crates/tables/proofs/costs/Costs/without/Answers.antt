@@ -1,14 +1,19 @@
-use Rattle.std.proofs.Common.{arith}
-use Rattle.numbers.proofs.SumLaws.{loop_turn}
-use Rattle.tables.proofs.DayLaws.{none_yet, without_end}
+use Rattle.std.proofs.Common.{rules, tests, arith}
 use Rattle.tables.specs.CodeTables.{day_without}
+use Rattle.tables.proofs.DayLaws.{without_most, without_is}
+use Rattle.tables.proofs.RangeSums.{sum_fits, sum_is}
 use Rattle.tables.proofs.costs.Costs.without.Goals as goal
 
-pub loop-d-init : goal.loop-d-init
-loop-d-init c = none_yet (day_without _ _ _)
-
-pub loop-d-preserved : goal.loop-d-preserved
-loop-d-preserved c = loop_turn 0 0 371200 _ _ c.loop-d.invariant c.day_without-total.ensures
+pub sum-requires-clause-fits : goal.sum-requires-clause-fits
+sum-requires-clause-fits c =
+    let s = c.args in
+    let k = s.self.now in
+    sum_fits _ (day_without k.costs s.x s.off) k.days c.map.ensures.source c.map.ensures.closure (λ x r q k. search (rules, tests))
+    _ (omega (arith, without_most k.costs k.days s.x s.off k.small))
 
 pub returns : goal.returns
-returns c = without_end _ _ _ _ c.args.self.now.small c.loop-d.invariant (omega arith)
+returns c =
+    let s = c.args in
+    let k = s.self.now in
+    without_is k.costs k.days s.x s.off k.small
+    (sum_is _ (day_without k.costs s.x s.off) k.days c.map.ensures.source c.map.ensures.closure (λ x r q k. search (rules, tests)) c.sum.ensures.ran)

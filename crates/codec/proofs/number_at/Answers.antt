@@ -1,6 +1,0 @@
-use Rattle.codec.specs.Groups.{decode}
-use Rattle.codec.proofs.number_at.Goals as goal
-
-pub returns-clause-is : goal.returns-clause-is
-unfolding decode
-returns-clause-is c = c.groups.ensures.is

@@ -1,4 +1,0 @@
-use Rattle.daylists.proofs.walk.+walk.Given as goal
-
-abbrev pub decreases-walk : goal.decreases-walk
-decreases-walk g l = l.left

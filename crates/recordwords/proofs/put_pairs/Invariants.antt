@@ -1,7 +1,0 @@
-use Rattle.std.specs.Prelude.{◌+◌}
-use Rattle.recordwords.specs.Words.{pairs_at, words_of_record}
-use Rattle.recordwords.specs.CodeWords.{WordsWritten}
-use Rattle.recordwords.proofs.put_pairs.Given as goal
-
-abbrev pub invariant-loop-i : goal.invariant-loop-i
-invariant-loop-i l = WordsWritten (words_of_record l.fn.rec) l.fn.words pairs_at → WordsWritten (words_of_record l.fn.rec) l.words (pairs_at + l.i)
