@@ -98,8 +98,19 @@ def over_body(clauses):
     return out
 
 
+def over_nurse(clauses):
+    """Clauses over a ward's numbers and a nurse's index as they stand over a nurse of the ward."""
+    out = []
+    for kind, text in over_body(clauses):
+        left = [c for c in re.split(r' × (?![^(]*\))', text) if not re.fullmatch(r'\(?i < nurses w\.now\.numbers\.now\)?', c.strip())]
+        text = re.sub(r'\bi\b', 'her.now.index', re.sub(r'\bw\.now\b', 'her.now.ward', ' × '.join(left)))
+        if text:
+            out.append((kind, text))
+    return out
+
+
 def pairs(old, new):
-    used, same, alone, changed, gone = set(), 0, [], [], []
+    used, same, alone, hers, changed, gone = set(), 0, [], [], [], []
     for key, fs in sorted(old.items()):
         for f in fs:
             offered = new.get(key, [])
@@ -116,9 +127,12 @@ def pairs(old, new):
             elif (re.sub(r'\bw: &\[u64\]', 'w: &Body', f['signature']) == g['signature']
                   and over_body(f['clauses']) == [(k, t) for k, _, t in g['clauses']]):
                 alone.append(f)
+            elif (re.sub(r'\bw: &\[u64\], i: usize\b', 'her: &WardNurse', f['signature']) == g['signature']
+                  and over_nurse(f['clauses']) == [(k, t) for k, _, t in g['clauses']]):
+                hers.append(f)
             else:
                 changed.append((f, g))
-    return same, alone, changed, gone, [g for gs in new.values() for g in gs if id(g) not in used]
+    return same, alone, hers, changed, gone, [g for gs in new.values() for g in gs if id(g) not in used]
 
 
 def clause(c):
@@ -141,14 +155,17 @@ def facts(top):
 
 def main():
     before, now, kit = sys.argv[1:4]
-    same, alone, changed, gone, new = pairs(functions(before), functions(now))
+    same, alone, hers, changed, gone, new = pairs(functions(before), functions(now))
     run = subprocess.run(['python3', kit + '/port/contracts.py', before, now, '--json'], capture_output=True, text=True, check=True)
     defs = json.loads(run.stdout)['definitions']
-    print(f"Functions: {same} are as they were, {len(alone)} changed in one way alone, {len(changed)} changed otherwise, {len(gone)} went, "
+    print(f"Functions: {same} are as they were, {len(alone) + len(hers)} changed in one of two ways alone, {len(changed)} changed otherwise, {len(gone)} went, "
           f"{len(new)} are new. Definitions and theorems of specs/: {defs['old']} then and {defs['new']} now, {defs['same']} word for word "
           f"the same, {len(defs['changed'])} changed, {len(defs['gone'])} gone.\n")
     print('**Changed in this alone**: `w: &[u64]` with `Accepted w.now` required is `w: &Body`, and the clauses say `w.now.numbers.now` for `w.now`.\n')
     print(', '.join(f'`{title(f)}`' for f in alone) + '.\n')
+    print('**And in this alone**: besides, `w, i: usize` with `i < nurses` required is `her: &WardNurse`, and the clauses say `her.now.ward.numbers.now` '
+          'and `her.now.index`.\n')
+    print(', '.join(f'`{title(f)}`' for f in hers) + '.\n')
     print('**Functions whose signature or clauses changed**\n')
     for f, g in changed:
         a, b = title(f), title(g)

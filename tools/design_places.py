@@ -162,21 +162,39 @@ def point4():
                     yield path, f'{name}: copying {m.group(0)}'
 
 
+def clause_facts(head):
+    """The facts of the requires, each without its brackets and without the words for when a value is read."""
+    for m in re.finditer(r'requires\*?\s*(?:\w+\s*)?\{([^{}]*)\}', head):
+        for fact in m.group(1).split('×'):
+            fact = fact.strip()
+            while fact.startswith('(') and fact.endswith(')'):
+                fact = fact[1:-1].strip()
+            fact = re.sub(r'\.(?:now|old|entry)\b', '', fact)
+            yield re.sub(r'\b(?:self\.|her\.)?(?:w|ward)(?:\.numbers)?\b(?!\.)', 'w', fact)
+
+
 def point5():
-    facts = {}
+    facts, relations = {}, {}
     for path, text in sources():
         for name, params, head, body in functions(code(text)):
             wanted = ' '.join(re.findall(r'requires\*?[^{}]*\{.*?\}(?=\s*(?:requires|ensures|$|\n|\{))', head, re.S))
-            for fact in set(re.findall(r'\b([A-Z][A-Za-z]+) (?:[\w.]+)', wanted)):
-                facts.setdefault(fact, []).append(f'{path} {name}')
-    for fact, names in sorted(facts.items(), key=lambda x: -len(x[1])):
-        if len(names) >= 3:
+            for fact in set(re.findall(r'(?<![.\w])([A-Z][A-Za-z]+)(?= )', wanted)) - {'IfOk', 'Is'}:
+                facts.setdefault(fact, []).append(f'{path}: {name}')
+            own = set(re.findall(r'(\w+):', params)) | {'self'}
+            for fact in set(clause_facts(head)):
+                if re.search('[≤<≡]', fact) and len(own & set(re.findall(r'\w+', fact))) > 1:
+                    relations.setdefault(fact, []).append(f'{path}: {name}')
+    for fact, names in sorted(facts.items()):
+        if len(names) > 2:
             yield f'{fact}', f'in the requires of {len(names)} functions'
+    for fact, names in sorted(relations.items()):
+        if len(names) > 2:
+            yield f'{fact}', f'said of two parameters in the requires of {len(names)} functions'
     for path, text in sources():
         for name, params, head, body in functions(code(text)):
-            n = len([p for p in re.split(r',(?![^<\[(]*[>\])])', params) if p.strip()])
-            if n >= 7:
-                yield path, f'{name}: {n} parameters'
+            count = len(re.findall(r'\b\w+: ', params)) + ('self' in params.split(',')[0])
+            if count > 6:
+                yield path, f'{name}: {count} parameters'
 
 
 def point6():
@@ -202,7 +220,7 @@ def point7():
 def point8():
     for path in sorted(glob.glob('crates/*/proofs/**/*.antt', recursive=True)):
         text = open(path, encoding='utf-8').read()
-        n = len(re.findall(r'^use (?:mathlib|lib|native|Prim)\.', text, re.M))
+        n = len(re.findall(r'^use (?:mathlib|lib|native|Prim|denote|borrow|mir)\.', text, re.M))
         if n:
             yield path, f'{n} imports from below std'
 
