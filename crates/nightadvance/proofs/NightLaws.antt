@@ -1,11 +1,9 @@
 -- Laws of the night advance: its questions in order, its list in the buffer, and what it hands back.
-use Rattle.std.specs.Prelude.{ℕ, suc, ◌+◌, ◌-◌, ◌^◌, ◌≤◌, ◌<◌, min, Bool, true, false, cond, ◌&&◌, ◌≡◌, refl, List, [], ◌∷◌, ◌++◌, leb, eqb, length, take}
-use Rattle.std.proofs.Common.{sym, ap, ◌∙◌, suc-le-suc, arith, le-leb, leb-true, leb-false}
+use Rattle.std.specs.Prelude.{ℕ, ◌+◌, ◌-◌, ◌^◌, ◌≤◌, min, Bool, true, false, cond, ◌&&◌, ◌≡◌, refl, List, [], ◌++◌, leb, eqb, length, take}
+use Rattle.std.proofs.Common.{sym, ap, ◌∙◌, arith, le-leb, leb-true, leb-false}
 use Rattle.std.proofs.lemmas.Bool.{lt-leb, and_parts}
 use Rattle.std.proofs.Math.Option.{Option}
-use Rattle.std.proofs.Math.Nat.{pow-le-pow_right}
-use Rattle.numbers.specs.Range.{up_from, filter}
-use Rattle.numbers.proofs.RangeLaws.{length_range}
+use Rattle.numbers.specs.Range.{up_from}
 use Rattle.refusals.specs.declared.Refusal.{Refusal}
 use Rattle.refusals.specs.Refusals.{refusal_in, unless, first}
 use Rattle.std.specs.declared.result.Result.{Result}
@@ -13,11 +11,11 @@ use Rattle.std.specs.declared.result.Result.TheVariants.{Ok}
 use Rattle.outcomes.proofs.OutcomeLaws.{list_front}
 use Rattle.refusals.specs.Questions as question
 use Rattle.refusals.proofs.OrderLaws.{first_assoc, first_none, unless_none}
-use Rattle.fields.specs.Fields.{Accepted, nurses, days}
-use Rattle.fields.specs.Rules.{rules_of}
-use Rattle.nights.specs.Nights.{in_common, common, common_of}
+use Rattle.fields.specs.Fields.{Accepted, nurses}
+use Rattle.nights.specs.Nights.{common_of}
 use Rattle.nights.specs.Own.{pattern_list}
 use Rattle.nights.proofs.OwnLaws.{own_of_common}
+use Rattle.nightlists.proofs.CommonLaws.{common_short}
 use Rattle.history.specs.declared.Search.TheVariants.{Nights as NightSearch}
 use Rattle.history.specs.Phase.{refusal}
 use Rattle.history.proofs.SearchLaws.{nights≢days}
@@ -34,24 +32,6 @@ use Rattle.phases.proofs.PhaseLaws.{night_ascending}
 
 -- ---- the questions
 
--- what is filtered is no longer than what it is filtered from
-filtered_length : (t : ℕ → Bool) (xs : List ℕ) → length (filter t xs) ≤ length xs
-unfolding filter
-filtered_length t [] = omega arith
-filtered_length t (x ∷ xs) = go (t x) (filtered_length t xs)
-  where
-    go : (b : Bool) → length (filter t xs) ≤ length xs → length (cond b (x ∷ filter t xs) (filter t xs)) ≤ suc (length xs)
-    go true l = suc-le-suc l
-    go false l = omega arith
-
--- so that the common list has a length that one more than the places tells from them, also where there are as many as can be
-common_few : (w : List ℕ) → Accepted w → length (common_of w) < 2 ^ 64
-unfolding common
-common_few w a =
-    let most : days w ≤ 31 = a.days_most in
-    let few : 2 ^ days w ≤ 2 ^ 31 = pow-le-pow_right {n = 2} (omega arith) most in
-    omega (arith, few, filtered_length (in_common (rules_of w) (days w)) (up_from 0 (2 ^ days w)), length_range 0 (2 ^ days w))
-
 -- 9, by the list counted to one more than the places
 pub common_asked_lem : (w : List ℕ) (places : ℕ) {need cap : ℕ} → Accepted w → cap ≡ min (places + 1) (2 ^ 64 - 1) → need ≡ min cap (length (common_of w)) → unless (leb need places) question.lists 0 ≡ common_fits w places
 unfolding common_fits
@@ -59,7 +39,7 @@ common_asked_lem w places {need} {cap} a c q = go (leb (length (common_of w)) pl
   where
     go : (b : Bool) → leb (length (common_of w)) places ≡ b → unless (leb need places) question.lists 0 ≡ unless (leb (length (common_of w)) places) question.lists 0
     go true e = rw (e, le-leb need places (omega (arith, leb-true (length (common_of w)) places e)))
-    go false e = rw (e, lt-leb need places (omega (arith, common_few w a, leb-false (length (common_of w)) places e)))
+    go false e = rw (e, lt-leb need places (omega (arith, common_short w a, leb-false (length (common_of w)) places e)))
 
 -- all of them, in order
 module _ (w : List ℕ) (r : Stored) (k places : ℕ) where

@@ -3,6 +3,7 @@ use Rattle.std.specs.Prelude.{◌≡◌, refl, Bool, true, false, cond, List, []
 use Rattle.std.proofs.Common.{sym, ap, ◌∙◌, subst, append-nil, add-one, arith, eqb-true, length-append, length-set, take-suc, take_all, take_at, drop-cons, get_or-set_same, get_or-set_other}
 use Rattle.std.proofs.Math.Decide.{dec_lt}
 use Rattle.std.proofs.Math.Seq.{append_snoc, set-append_seam}
+use Rattle.numbers.proofs.AgreeLaws.{filter_le}
 use Rattle.numbers.specs.Digits.{has, number_of}
 use Rattle.numbers.specs.Sum.{one_if}
 use Rattle.numbers.specs.Range.{filter}
@@ -117,15 +118,6 @@ module _ {t : ℕ → Bool} {list before : List ℕ} {at k : ℕ} {buf : List �
 -- ---- what else is kept of a nurse
 
 -- a test that keeps as many as there are keeps all
-filter_most : (t : ℕ → Bool) (xs : List ℕ) → length (filter t xs) ≤ length xs
-unfolding filter
-filter_most t [] = omega arith
-filter_most t (x ∷ xs) = go (t x) (filter_most t xs)
-  where
-    go : (b : Bool) → length (filter t xs) ≤ length xs → length (cond b (x ∷ filter t xs) (filter t xs)) ≤ suc (length xs)
-    go true l = omega arith
-    go false l = omega arith
-
 all_one : (b : Bool) (x : ℕ) (ys xs : List ℕ) → (length ys ≡ length xs → ys ≡ xs) → length ys ≤ length xs → length (cond b (x ∷ ys) ys) ≡ suc (length xs) → cond b (x ∷ ys) ys ≡ x ∷ xs
 all_one true x ys xs f l e = ap (λ (zs : List ℕ). x ∷ zs) (f (omega arith))
 all_one false x ys xs f l e = absurd (omega arith)
@@ -133,7 +125,7 @@ all_one false x ys xs f l e = absurd (omega arith)
 filter_whole : (t : ℕ → Bool) (xs : List ℕ) → length (filter t xs) ≡ length xs → filter t xs ≡ xs
 unfolding filter
 filter_whole t [] e = refl
-filter_whole t (x ∷ xs) e = all_one (t x) x (filter t xs) xs (filter_whole t xs) (filter_most t xs) e
+filter_whole t (x ∷ xs) e = all_one (t x) x (filter t xs) xs (filter_whole t xs) (filter_le t xs) e
 
 module _ (w : List ℕ) (i : ℕ) {masks : Masks} (m : masks ≡ masks_of (rules_of w) (days w) (block w i)) where
   work_are : WorkableDays w i (masks.workable / 2)
