@@ -1,4 +1,3 @@
 pub mod Questions
 pub mod Numbers
-pub mod Numbered
 pub mod Refusals

@@ -10,29 +10,26 @@ ghost use Rattle.refusals.specs.Refusals.{numbered, refusal_in, unless};
 use question::Question;
 use std::error::Error;
 use std::fmt;
-use std::marker::Model;
 
+// The question's number in the documents, and the place.
 #[derive(Clone, Copy, Debug, PartialEq, Eq)]
 pub struct Refusal {
-    question: Question,
-    place: usize,
+    pub question: u32,
+    pub place: usize,
 }
 
-// What contracts see of it is the question's number and the place.
-impl Model for Refusal {
-    ghost use Rattle.std.specs.Prelude.{◌≡◌};
-    ghost use Rattle.refusals.specs.Numbered.{Numbered};
+// The question of this number is a no at the place. Of any number; `Question::at` is for those of the documents.
+pub fn no(question: u32, place: usize) -> Result<(), Refusal>
+    ensures { result ≡ Err (numbered question place) }
+{
+    Err(Refusal { question, place })
+}
 
-    ghost Value = { Numbered };
-
-    ghost use Rattle.refusals.specs.Numbers.{number, question_of, question_back};
-    ghost use Rattle.std.proofs.Common.{ap};
-
-    ghost view = { λ r. record { question = number r.question; place = r.place } };
-
-    ghost inverse = { λ n. record { question = question_of n.question; place = n.place } };
-
-    ghost inverse_ok = { λ a h. ap (λ q. record { question = q; place = a.place }) (question_back a.question) };
+// A question of any number that is answered yes, or its no.
+pub fn unless(yes: bool, question: u32, place: usize) -> Result<(), Refusal>
+    ensures { refusal_in result ≡ unless yes question place }
+{
+    if yes { Ok(()) } else { no(question, place) }
 }
 
 impl Question {
@@ -41,7 +38,7 @@ impl Question {
         ensures { result ≡ numbered (number self) place }
     {
         Refusal {
-            question: self,
+            question: u32::from(self),
             place,
         }
     }
@@ -58,7 +55,7 @@ impl Refusal {
     pub fn question(self) -> u32
         ensures { result ≡ self.question }
     {
-        u32::from(self.question)
+        self.question
     }
 
     pub fn place(self) -> usize
