@@ -44,8 +44,9 @@ pub fn without_edition(ws: &[u64]) -> &[u64]
     ws
 }
 
-impl Body<'_> {
-    pub fn of(ws: &[u64]) -> Body<'_>
+// What is cut out of a body lives as long as its numbers, not only as long as the body is borrowed.
+impl<'a> Body<'a> {
+    pub fn of(ws: &'a [u64]) -> Body<'a>
         requires { (2 ≤ length ws.now) × Accepted (of.body_of ws.now) }
         ensures { result.numbers.now ≡ of.body_of ws.now }
     {
@@ -110,7 +111,7 @@ impl Body<'_> {
     }
 
     // The nurse of index i.
-    pub fn nurse_at(&self, i: usize) -> WardNurse<'_>
+    pub fn nurse_at(&self, i: usize) -> WardNurse<'a>
         requires { i < of.nurses self.now.numbers.now }
         ensures { (result.ward ≡ self.now) × (result.index ≡ i) }
     {
@@ -131,7 +132,7 @@ impl Body<'_> {
 
     // Nurse i's numbers.
     #[tactic(auto, unfolding(crate::specs::Fields::block))]
-    pub fn nurse(&self, i: usize) -> Nurse<'_>
+    pub fn nurse(&self, i: usize) -> Nurse<'a>
         requires { i < of.nurses self.now.numbers.now }
         ensures { (result.numbers.now ≡ of.block self.now.numbers.now i) × (result.days ≡ of.days self.now.numbers.now) }
     {
@@ -152,7 +153,7 @@ impl Body<'_> {
 
     // The groups' members, each a set.
     #[tactic(auto, unfolding(crate::specs::Fields::member_sets, crate::specs::Fields::groups_at))]
-    pub fn member_sets(&self) -> &[u64]
+    pub fn member_sets(&self) -> &'a [u64]
         ensures { result.now ≡ of.member_sets self.now.numbers.now }
     {
         let a = self.groups_at();
@@ -172,7 +173,7 @@ impl Body<'_> {
 
     // A day's numbers, which `day` reads.
     #[tactic(auto, unfolding(crate::specs::Fields::needs))]
-    pub fn needs(&self, d: usize) -> &[u64]
+    pub fn needs(&self, d: usize) -> &'a [u64]
         requires { d < of.days self.now.numbers.now }
         ensures { result.now ≡ of.needs self.now.numbers.now d }
     {
@@ -207,9 +208,9 @@ impl Body<'_> {
     }
 }
 
-impl WardNurse<'_> {
+impl<'a> WardNurse<'a> {
     // Her numbers.
-    pub fn numbers(&self) -> Nurse<'_>
+    pub fn numbers(&self) -> Nurse<'a>
         ensures { (result.numbers.now ≡ of.block self.now.ward.numbers.now self.now.index) × (result.days ≡ of.days self.now.ward.numbers.now) }
     {
         self.ward.nurse(self.index)
