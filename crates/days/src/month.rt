@@ -61,7 +61,7 @@ fn may_work(mark: u64, state: State, off: u32, d: usize) -> bool
     requires { d < 32 }
     ensures { result ≡ (available mark (code state) && not (has off d)) }
 {
-    rows::is_available(mark, state) && !off.has(d)
+    state.is_available(mark) && !off.has(d)
 }
 
 // Her month by her numbers, her night pattern and the days of her pair.
@@ -73,7 +73,7 @@ pub(crate) fn sheet_of(b: &Nurse, longest: usize, p: u32, off: u32) -> Sheet
     let states = rows::states(b.numbers, b.days, p);
     let mut row = seven_days(b);
     for d in 0..n {
-        row[d + 7] = rows::duty_of(b.mark(d), states[d], false);
+        row[d + 7] = states[d].duty(b.mark(d), false);
     }
     let least = b.least_rests();
     let most = b.most_rests();

@@ -27,7 +27,7 @@ pub fn row_letters(b: &Nurse, p: u32, q: u32) -> [u8; DAYS]
     let states = rows::states(b.numbers, b.days, p);
     let mut row = [0u8; DAYS];
     for d in 0..b.days {
-        let duty = rows::duty_of(b.mark(d), states[d], q.has(d));
+        let duty = states[d].duty(b.mark(d), q.has(d));
         row[d] = crate::letter_of(duty as usize);
     }
     row

@@ -71,7 +71,7 @@ fn workable_days(b: &Nurse) -> u64
 {
     numbers::set_of(
         b.days + 1,
-        |day| day > 0 && rows::is_available(b.mark(day - 1), State::Open),
+        |day| day > 0 && State::Open.is_available(b.mark(day - 1)),
     )
 }
 

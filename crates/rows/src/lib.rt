@@ -91,24 +91,41 @@ pub fn states(numbers: &[u64], days: usize, p: u32) -> [State; DAYS]
     states
 }
 
-// Open days marked 0, 2 or 5.
-pub fn is_available(mark: u64, state: State) -> bool
-    ensures { result ≡ available mark (code state) }
+// Open days marked 0, 2 or 5, by the state's number, which may be any: none but 0 is open.
+pub fn is_available(mark: u64, state: usize) -> bool
+    ensures { result ≡ available mark state }
 {
-    matches!(state, State::Open) && matches!(mark, 0 | 2 | 5)
+    state == 0 && matches!(mark, 0 | 2 | 5)
 }
 
-// The duty of a day: 0 rest, 1 day, 2 the night's first day, 3 its second day, 4 other.
-pub fn duty_of(mark: u64, state: State, worked: bool) -> u64
-    ensures is { result ≡ duty_of mark (code state) worked }
+// The duty of a day: 0 rest, 1 day, 2 the night's first day, 3 its second day, 4 other. By the state's number; one of no state is taken as open.
+pub fn duty_of(mark: u64, state: usize, worked: bool) -> u64
+    ensures is { result ≡ duty_of mark state worked }
     ensures small { result < 5 }
 {
     match state {
-        State::Night => 2,
-        State::Second => 3,
-        State::Rest => 0,
-        State::Open if worked => 1,
-        State::Open if mark == 4 => 4,
-        State::Open => 0,
+        1 => 2,
+        2 => 3,
+        3 => 0,
+        _ if worked => 1,
+        _ if mark == 4 => 4,
+        _ => 0,
+    }
+}
+
+impl State {
+    // Whether she is available in this state under a mark.
+    pub fn is_available(self, mark: u64) -> bool
+        ensures { result ≡ available mark (code self) }
+    {
+        is_available(mark, self as usize)
+    }
+
+    // The duty of a day in this state.
+    pub fn duty(self, mark: u64, worked: bool) -> u64
+        ensures is { result ≡ duty_of mark (code self) worked }
+        ensures small { result < 5 }
+    {
+        duty_of(mark, self as usize, worked)
     }
 }

@@ -16,9 +16,9 @@ loop-d-preserved c =
     let b = c.args.b.now.numbers.now in
     let p = c.args.p in
     let l = c.loop-d in
-    let day = duty_month b p l.d c.mark.ensures.is (c.states-states.ensures l.d c.loop-d-test.true) c.duty_of.ensures.is in (
-      length-set l.row (l.d + 7) c.duty_of.result ∙ l.invariant.0,
-      λ t h. place_turn (row_duty b p 0) l.row (l.d + 7) c.duty_of.result (omega arith) l.invariant.1 day t (omega arith),
+    let day = duty_month b p l.d c.mark.ensures.is (c.states-states.ensures l.d c.loop-d-test.true) c.duty.ensures.is in (
+      length-set l.row (l.d + 7) c.duty.result ∙ l.invariant.0,
+      λ t h. place_turn (row_duty b p 0) l.row (l.d + 7) c.duty.result (omega arith) l.invariant.1 day t (omega arith),
     )
 
 pub returns : goal.returns
