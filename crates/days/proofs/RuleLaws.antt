@@ -1,6 +1,6 @@
 -- Laws of the day rule over a row: what its tests of places and days come to, and the rests of the days after the first.
-use Rattle.std.specs.Prelude.{◌≡◌, refl, Bool, true, cond, not, ◌&&◌, List, [], ◌∷◌, map, ℕ, suc, ◌+◌, ◌-◌, ◌≤◌, ◌<◌, eqb, length, get_or}
-use Rattle.std.proofs.Common.{sym, ap, ◌∙◌, add-zero, zero-add, arith, le-ltb}
+use Rattle.std.specs.Prelude.{◌≡◌, refl, Bool, true, false, cond, not, ◌&&◌, List, [], ◌∷◌, map, ℕ, suc, ◌+◌, ◌-◌, ◌≤◌, ◌<◌, eqb, length, get_or}
+use Rattle.std.proofs.Common.{sym, ap, ◌∙◌, add-zero, zero-add, arith, lt-ltb, le-ltb}
 use Rattle.std.proofs.Math.Nat.{sub-zero}
 use Rattle.std.specs.List.{range_with_len, filter as kept}
 use Rattle.numbers.specs.Range.{up_from, filter, all, any_of}
@@ -16,9 +16,17 @@ use Rattle.days.specs.declared.month.Month.{Month}
 
 -- ---- the duty at a place
 
+pub duty_before : (row : List ℕ) (q t : ℕ) → t < 7 → get_or row t 0 ≡ duty_at row q t
+unfolding duty_at
+duty_before row q t h = rw (lt-ltb t 7 h)
+
 pub duty_worked : (row : List ℕ) (q t : ℕ) → 7 ≤ t → has q (t - 7) ≡ true → 1 ≡ duty_at row q t
 unfolding duty_at
 duty_worked row q t h e = rw (le-ltb t 7 h, e)
+
+pub duty_idle : (row : List ℕ) (q t : ℕ) → 7 ≤ t → has q (t - 7) ≡ false → get_or row t 0 ≡ duty_at row q t
+unfolding duty_at
+duty_idle row q t h e = rw (le-ltb t 7 h, e)
 
 -- ---- the duties of a window are those of its places
 

@@ -1,5 +1,5 @@
 -- Laws of the walk over the days: what one more start adds, what no start more leaves, and the loops over the days below.
-use Rattle.std.specs.Prelude.{◌≡◌, refl, Bool, true, false, cond, List, [], ◌++◌, ℕ, zero, suc, ◌+◌, ◌-◌, ◌^◌, ◌≤◌, ◌<◌, length}
+use Rattle.std.specs.Prelude.{◌≡◌, refl, Bool, true, false, cond, List, [], ◌∷◌, ◌++◌, ℕ, zero, suc, ◌+◌, ◌-◌, ◌^◌, ◌≤◌, ◌<◌, length}
 use Rattle.std.proofs.Common.{sym, ap, ◌∙◌, append-nil, append_assoc, length-append, pow_pos, pow_mono, add-zero, add-one, arith, le-leb}
 use Rattle.std.specs.declared.option.Option.TheVariants.{Some}
 use Rattle.numbers.proofs.HalfLaws.{pow_twice}
@@ -19,6 +19,14 @@ cond_case P false x y f g = g refl
 pub here_is : (r : Rules) (a : ℕ) (s : State) {v : Bool} → v ≡ closed r s.run s.dist → listed r 0 a s ≡ here v a
 unfolding listed
 here_is r a s h = rw (← h) refl
+
+pub here_most : (r : Rules) (a : ℕ) (s : State) → length (listed r 0 a s) ≤ 1
+unfolding listed
+here_most r a s = go (closed r s.run s.dist)
+  where
+    go : (v : Bool) → length (cond v (a ∷ []) []) ≤ 1
+    go true = omega arith
+    go false = omega arith
 
 -- it is all where no start more may come
 pub here_only : (r : Rules) (left a : ℕ) (s : State) → r.most ≤ s.count → listed r left a s ≡ listed r 0 a s

@@ -1,18 +1,29 @@
--- Laws of the pairs of days off: their days, and when one is a nurse's.
-use Rattle.std.specs.Prelude.{◌≡◌, refl, Bool, true, false, ◌&&◌, ◌||◌, List, ℕ, zero, suc, ◌-◌, ◌^◌, ◌≤◌, ◌<◌, bit_or, eqb}
+-- Laws of the pairs of days off: their days, when one is a nurse's, and when she is available under a pattern.
+use Rattle.std.specs.Prelude.{◌≡◌, refl, Bool, true, false, not, ◌&&◌, ◌||◌, List, ℕ, zero, suc, ◌-◌, ◌^◌, ◌≤◌, ◌<◌, bit_or, eqb}
 use Rattle.std.proofs.Common.{sym, ap, ap₂, ◌∙◌, arith, lt-ltb, le-leb, ne_eqb}
 use Rattle.std.proofs.lemmas.Bool.{false≢true, lt-leb}
+use Rattle.std.proofs.Math.Bool.{and-true}
 use Rattle.std.proofs.Math.Dec.{eqb-suc-suc}
 use Rattle.std.proofs.Math.Decide.{dec_lt}
 use Rattle.numbers.specs.Digits.{has}
 use Rattle.numbers.specs.Sum.{one_if}
+use Rattle.numbers.specs.Patterns.{pattern}
 use Rattle.numbers.proofs.DigitLaws.{bit_pow, bit_of_zero}
 use Rattle.numbers.proofs.SetLaws.{has_or}
+use Rattle.numbers.proofs.PatternLaws.{days_of_pattern, pair_of_pattern}
 use Rattle.fields.specs.Fields.{block, mark_on, pair_count, pair_day}
-use Rattle.rows.specs.Rows.{row_state}
-use Rattle.rows.specs.Pairs.{in_pair, at_rest, at_rest_on, pair_fits}
+use Rattle.rows.specs.Rows.{row_state, available_on}
+use Rattle.rows.specs.Pairs.{in_pair, at_rest, at_rest_on, pair_fits, free_on}
 
 -- ---- the days of a pair
+
+pub in_none : (w : List ℕ) (d : ℕ) → in_pair w 0 d ≡ false
+unfolding in_pair
+in_none w d = refl
+
+pub in_beyond : (w : List ℕ) (k d : ℕ) → pair_count w < k → in_pair w k d ≡ false
+unfolding in_pair
+in_beyond w k d h = rw (lt-ltb 0 k (omega arith), lt-leb k (pair_count w) h)
 
 pub in_pair_lem : (w : List ℕ) (k d : ℕ) → 1 ≤ k → k ≤ pair_count w → in_pair w k d ≡ (eqb d (pair_day w k) || eqb d (suc (pair_day w k)))
 unfolding in_pair
@@ -81,3 +92,15 @@ fits_days w i p k {second = second} n h e eb es s =
     let f : List ℕ → ℕ → Bool = λ x d. at_rest_on x p d in
     fits_pair w i p k (omega (arith, n)) (omega (arith, h, e))
     ∙ ap₂ (λ (x y : Bool). x && y) (ap₂ f (sym eb) (sym q)) (ap₂ (λ (x : List ℕ) (d : ℕ). f x (suc d)) (sym eb) (sym es))
+
+-- ---- when she is available under a pattern
+
+pub free_with : (w : List ℕ) (i p k d : ℕ) → k < 2 ^ 32 → free_on w i (pattern p k) d ≡ (available_on (block w i) p d && not (in_pair w k d))
+unfolding free_on
+free_with w i p k d h = rw (days_of_pattern p k h, pair_of_pattern p k h)
+
+pub free_alone : (w : List ℕ) (i p d : ℕ) → free_on w i (pattern p 0) d ≡ available_on (block w i) p d
+free_alone w i p d =
+    free_with w i p 0 d (omega arith)
+    ∙ ap (λ (x : Bool). available_on (block w i) p d && not x) (in_none w d)
+    ∙ and-true (available_on (block w i) p d)

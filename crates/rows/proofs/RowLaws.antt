@@ -1,5 +1,5 @@
 -- Laws of rows.
-use Rattle.std.specs.Prelude.{◌≡◌, refl, Bool, ◌&&◌, List, ℕ, zero, suc, ◌+◌, ◌<◌}
+use Rattle.std.specs.Prelude.{◌≡◌, refl, Bool, true, false, ◌&&◌, List, ℕ, zero, suc, ◌+◌, ◌<◌}
 use Rattle.std.proofs.Common.{ap, ap₂, ◌∙◌, add-one}
 use Rattle.numbers.specs.Range.{up_from, all}
 use Rattle.numbers.specs.Digits.{has}
@@ -39,3 +39,8 @@ duty_is b p q d m s w e = e ∙ (λ j. duty_of (m j) (s j) (w j))
 pub available_is : (b : List ℕ) (p d : ℕ) {mark state : ℕ} {on : Bool} → mark ≡ mark_on b (suc d) → state ≡ row_state b p (suc d) → on ≡ available mark state → on ≡ available_on b p (suc d)
 unfolding available_on
 available_is b p d m s e = e ∙ ap₂ available m s
+
+-- a day on which she starts is not an open one
+pub started_busy : (b : List ℕ) (p d : ℕ) → has p d ≡ true → available_on b p (suc d) ≡ false
+unfolding available_on row_state
+started_busy b p d e = rw e

@@ -1,6 +1,6 @@
 -- The sums over six days: how the places are written, one day more, six days, and the table of a month.
 use Rattle.std.specs.Prelude.{◌≡◌, refl, Bool, true, false, cond, ◌||◌, List, ℕ, zero, suc, ◌+◌, ◌-◌, ◌*◌, ◌/◌, ◌%◌, ◌^◌, ◌≤◌, ◌<◌, length, get_or, set, replicate, eqb}
-use Rattle.std.proofs.Common.{sym, ap, ◌∙◌, subst, ⊎_elim, not-suc-le-zero, eq-or-lt_of_le, le_of_suc-le-suc, le-div_iff_mul-le, div-lt_iff_lt-mul, one-mul, mod-eq_of_lt, add-one, arith, length-set, get_or-set_same, get_or-set_other, pow-add, pow_mono, pow_pos, shr-shr}
+use Rattle.std.proofs.Common.{sym, ap, ◌∙◌, subst, ⊎_elim, le_trans, not-suc-le-zero, eq-or-lt_of_le, le_of_suc-le-suc, le-div_iff_mul-le, div-lt_iff_lt-mul, one-mul, mod-eq_of_lt, add-one, arith, length-set, get_or-set_same, get_or-set_other, pow-add, pow_mono, pow_pos, shr-shr}
 use Rattle.std.proofs.Math.Decide.{dec_lt}
 use Rattle.std.proofs.Math.Pow.{high, low}
 use Rattle.numbers.specs.Sum.{sum_to}
@@ -48,6 +48,9 @@ low_parts l at count m f g h = record { low = λ e. go e (dec_lt e at) (dec_lt e
         let s : at + (e - at) ≡ e = omega arith in
         subst (λ (k : ℕ). get_or l k 0 ≤ m) s (g (e - at) (omega arith))
     go e (no p) (no q) = h e (omega arith)
+
+pub low_more : (l : List ℕ) (m k : ℕ) → m ≤ k → Low l m → Low l k
+low_more l m k h s = record { low = λ e. le_trans (s.low e) h }
 
 raised_low : (l r : List ℕ) (from to count x m k : ℕ) → Low l m → m + x ≤ k → Raised l r from to count x → Low r k
 raised_low l r from to count x m k s h a =

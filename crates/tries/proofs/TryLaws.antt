@@ -22,12 +22,15 @@ use Rattle.nursemasks.proofs.PairMaskLaws.{fitting_days}
 use Rattle.tables.specs.CodeTables.{table_trial, trial_without}
 use Rattle.tables.proofs.TrialLaws.{without_more}
 use Rattle.trials.specs.CodeTrials.{before_of, start_set, NightTrials}
-use Rattle.trials.proofs.WindowLaws.{busy_window}
+use Rattle.trials.proofs.WindowLaws.{before_small, busy_window}
 use Rattle.best.specs.CodeBest.{Best, over_list, considered, improves}
 use Rattle.best.proofs.BestLaws.{improves_less, over_nil, over_one, over_append, over_none, over_done, turn_barred, turn_considered}
 use Rattle.tries.specs.CodeTries.{NightTable, DayTable, PatternNeeds}
 
 -- ---- the set of starts
+
+pub set_lt : (b : List ℕ) (before p : ℕ) → before ≡ before_of b → p < 2 ^ 32 → start_set before p < 2 ^ 34
+set_lt b before p e h = omega (arith, before_small b)
 
 -- the N and n days of its row
 pub busy_set : (b : List ℕ) (p x : ℕ) → x ≡ start_set (before_of b) p → BusyDays b p (bit_or (x / 4) (x / 2) % 2 ^ 32)
