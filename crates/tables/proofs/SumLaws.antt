@@ -3,11 +3,12 @@ use Rattle.std.specs.Prelude.{◌≡◌, refl, Bool, true, false, cond, ◌||◌
 use Rattle.std.proofs.Common.{sym, ap, ◌∙◌, subst, ⊎_elim, le_trans, not-suc-le-zero, eq-or-lt_of_le, le_of_suc-le-suc, le-div_iff_mul-le, div-lt_iff_lt-mul, one-mul, mod-eq_of_lt, add-one, arith, length-set, get_or-set_same, get_or-set_other, pow-add, pow_mono, pow_pos, shr-shr}
 use Rattle.std.proofs.Math.Decide.{dec_lt}
 use Rattle.std.proofs.Math.Pow.{high, low}
+use Rattle.std.proofs.lemmas.List.{get_or_past}
 use Rattle.numbers.specs.Sum.{sum_to}
 use Rattle.numbers.specs.Digits.{has}
 use Rattle.numbers.proofs.SumLaws.{sum_zero, sum_suc, sum_ext, sum_le, sum_none}
 use Rattle.numbers.proofs.DigitLaws.{bit_above, low_digit}
-use Rattle.tables.specs.CodeTables.{night_on, open_on, none_on, Low, Small, key_at, six_at, Sums, TableOf, Raised, Extended, Cleared, SixSummed}
+use Rattle.tables.specs.CodeTables.{night_on, open_on, none_on, Low, Small, key_at, six_at, Sums, Blank, TableOf, Raised, Extended, Cleared, SixSummed}
 use Rattle.tables.proofs.TrialLaws.{table_trial_lem}
 
 -- ---- a loop that writes f 0, f 1, .. from a place on
@@ -282,8 +283,23 @@ fill_turn c n t r b p h x = record {
 
 -- and the places past them are 0
 pub fill_end : (c : List ℕ) (n : ℕ) (t r : List ℕ) {b k : ℕ} → FilledTo c n t b → k ≡ (n + 5) / 6 → k ≤ b → Cleared t r (256 * k) 1536 → Small c n → TableOf c n r
-fill_end c n t r {b} {k} p e m x s = record { trials = table_trial_lem c r n s (λ a q. every a q (dec_lt a k)) }
+fill_end c n t r {b} {k} p e m x s = record {
+  trials = table_trial_lem c r n s (λ a q. every a q (dec_lt a k));
+  blank = record {
+    long = x.long ∙ p.long;
+    small = record { low = λ d. low d (dec_lt d (256 * k)) };
+    past = λ d q. none d (omega arith) (dec_lt d 1536);
+  };
+}
   where
+    none : (d : ℕ) → 256 * k ≤ d → Dec (d < 1536) → get_or r d 0 ≡ 0
+    none d h (yes l) = x.within d h l
+    none d h (no l) = get_or_past r d 0 (omega (arith, x.long, p.long))
+
+    low : (d : ℕ) → Dec (d < 256 * k) → get_or r d 0 ≤ 2227200
+    low d (yes l) = omega (arith, p.small.low d, x.before d l)
+    low d (no l) = omega (arith, none d (omega arith) (dec_lt d 1536))
+
     every : (a : ℕ) → a < 6 → Dec (a < k) → Sums c a r
     every a q (yes l) key h = x.before (256 * a + key) (omega arith) ∙ p.done a (omega arith) key h
     every a q (no l) key h = x.within (256 * a + key) (omega arith) (omega arith) ∙ sym (six_past c n a key s (omega arith) q)
@@ -296,3 +312,7 @@ same_low k v m h = record { low = each k }
     each zero e = omega arith
     each (suc k) zero = h
     each (suc k) (suc e) = each k e
+
+-- a table of zeros
+pub zeros_blank : (n : ℕ) → Blank (replicate 1536 0) n
+zeros_blank n = record { long = refl; small = same_low 1536 0 2227200 (omega arith); past = λ e q. omega (arith, (same_low 1536 0 0 (omega arith)).low e) }

@@ -66,9 +66,16 @@ unfoldable pub table_trial : List ℕ → ℕ → ℕ
 unfolding read_at
 table_trial t x = sum_to 6 (read_at t x)
 
+-- a table: small enough to be added up, and 0 past the sixes of a month of n days
+pub record Blank (t : List ℕ) (n : ℕ) : Type 0 where
+  pub long : length t ≡ 1536
+  pub small : Low t 2227200
+  pub past : (e : ℕ) → 256 * ((n + 5) / 6) ≤ e → get_or t e 0 ≡ 0
+
 -- t is the table of the costs c in a month of n days
 pub record TableOf (c : List ℕ) (n : ℕ) (t : List ℕ) : Type 0 where
   pub trials : (x : ℕ) → table_trial t x ≡ trial_of c n x
+  pub blank : Blank t n
 
 -- ---- how the sums are made, from l to r
 

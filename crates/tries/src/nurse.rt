@@ -1,8 +1,10 @@
 // The best exchange of one nurse.
 ghost use Rattle.std.specs.Prelude.{◌≡◌, Bool, ℕ, ◌+◌, ◌*◌};
+ghost use Rattle.fields.specs.Fields.{days};
 ghost use Rattle.history.specs.Slot.{Slot, exchanged};
 ghost use Rattle.penalty.specs.Penalty.{rest, parts_in};
 ghost use Rattle.penalty.specs.CodeColumns.{Shows};
+ghost use Rattle.tables.specs.CodeTables.{Blank};
 ghost use Rattle.trials.specs.CodeTrials.{CostTrials};
 ghost use Rattle.best.specs.CodeBest.{over_list};
 ghost use Rattle.tries.specs.CodeTries.{allowed_by, Bars, offered, ListNeeds, NurseNeeds, tried_in};
@@ -58,8 +60,9 @@ impl InForce<'_> {
     // what is held, neither her table is made nor her list looked at.
     pub fn over_nurse(&self, t: &mut Table, x: &Tried, held: Option<Exchange>) -> Option<Exchange>
         requires { NurseNeeds self.now x.now }
-        ensures { (slots : ℕ → Slot) (may : ℕ → Bool) → Shows self.now.search x.now.nurse.ward.numbers.now slots self.now.cols.now → Bars may x.now.barred.now →
+        ensures tried { (slots : ℕ → Slot) (may : ℕ → Bool) → Shows self.now.search x.now.nurse.ward.numbers.now slots self.now.cols.now → Bars may x.now.barred.now →
             result ≡ over_list may (λ p. rest (parts_in self.now.search x.now.nurse.ward.numbers.now (exchanged slots x.now.nurse.index p)) + 10000000 * x.now.others) x.now.nurse.index held (tried_in self.now.search x.now.nurse.ward.numbers.now x.now.nurse.index (offered x.now.list)) }
+        ensures blank { let n = days x.now.nurse.ward.numbers.now in Blank t.old n → Blank t.new n }
     {
         // No method of `InForce`, which would say this contract again for one call.
         let costs = margins::costs::nurse_costs(

@@ -18,6 +18,6 @@ returns c = λ slots may a s m u.
     found_in o.search w may (λ p. rest (parts_in o.search w (exchanged slots c.args.i p))) c.args.i c.args.held (c.others_than.ensures.is a u) is
     (by_index (λ v i. Shows o.search v slots x.cols.now → Bars may (take c.bars_of-barred.result c.bars_of-barred.new.bars) →
     c.over_nurse.result ≡ over_list may (λ p. rest (parts_in o.search v (exchanged slots i p)) + 10000000 * c.others_than.result) i c.args.held (tried_in o.search v i (offered c.list.result)))
-    c.nurse_at.ensures (c.over_nurse.ensures slots may) s
+    c.nurse_at.ensures (c.over_nurse.ensures.tried slots may) s
     (bars_are may w c.args.i x.rec.now _ m c.slot-current.ensures
     (ap (λ k. take k x.rec.now.removals) (c.held-count.ensures ∙ ap (min _) c.tabu.ensures.0)) c.bars_of-barred.ensures.bars))
