@@ -22,7 +22,7 @@ use Rattle.ownlists.specs.declared.Source.{Source}
 use Rattle.ownlists.specs.declared.Source.TheVariants.{Kept, Whole, Among}
 use Rattle.ownlists.specs.declared.OwnList.{OwnList}
 use Rattle.ownlists.specs.CodeOwn.{no_list, SourceAt, OwnLists}
-use Rattle.search.specs.CodeSeek.{Lists, tried_by, SeeksBy, listed_by, tried_at}
+use Rattle.search.specs.CodeSeek.{tried_by, SeeksBy, listed_by, tried_at}
 use Rattle.search.specs.CodePlan.{SourceHers, Tries, DayPlan}
 
 -- ---- by night
@@ -87,12 +87,12 @@ module _ {F B : Type 0} {g : Mut F (ℕ × Unit {0}) B} {f : F} (ys : List B) (P
   pub each_made : {m : ℕ} → IsFromFnResult g f ys m → (j : ℕ) → j < m → P j (get_or ys j z)
   each_made {m} r j h = each_from m 0 f refl r.each j (omega arith) (omega arith)
 
-module _ (w lists : List ℕ) {ends : List ℕ} {plan : List OwnList} (o : DayPlan lists ends plan) (few : nurses w ≤ nurse_places) (has : Lists Days w lists ends) where
+module _ (w lists : List ℕ) {ends : List ℕ} {plan : List OwnList} (o : DayPlan lists ends plan) (few : nurses w ≤ nurse_places) where
   pub day_sought : {P : Phase} → SeeksBy Days w (tried_by Days w lists ends) P → SeeksBy Days w (tried_at Days w lists plan) P
   day_sought {P} s = record {
     nurses_are = s.nurses_are;
     tabu_is = s.tabu_is;
     cost_is = s.cost_is;
-    patterns_are = λ i l. s.patterns_are i l ∙ ap (tried_in Days w i) (sym (o.each i (omega arith) (has.begins refl i l) (has.finishes refl i l)));
+    patterns_are = λ i l. s.patterns_are i l ∙ ap (tried_in Days w i) (sym (o.each i (omega arith)));
     ascending = s.ascending;
   }

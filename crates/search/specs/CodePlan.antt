@@ -1,5 +1,5 @@
 -- Everyone's lists by a plan, and what the loops over them need.
-use Rattle.std.specs.Prelude.{ℕ, ◌+◌, ◌≤◌, ◌<◌, ◌≡◌, List, length, get_or}
+use Rattle.std.specs.Prelude.{ℕ, ◌<◌, ◌≡◌, List, get_or}
 use Rattle.std.specs.Borrow.{Bor}
 use Rattle.std.proofs.Props.{props}
 use Rattle.fields.specs.Sizes.{nurse_places}
@@ -44,9 +44,9 @@ pub record PlanAt (which : Search) (w lists : List ℕ) (i : ℕ) (x : OwnList) 
 pub record Tries (which : Search) (w lists : List ℕ) (plan : List OwnList) : Type 0 where
   pub each : (i : ℕ) → i < nurses w → PlanAt which w lists i (get_or plan i no_list)
 
--- by day each nurse has her stretch of the lists, where they have one between her ends
+-- by day each nurse has her stretch of the lists
 abbrev pub HasStretch : List ℕ → List ℕ → ℕ → OwnList → Type 0
-HasStretch lists ends i x = get_or ends i 0 ≤ get_or ends (i + 1) 0 → get_or ends (i + 1) 0 ≤ length lists → listed_by lists x.source ≡ stretch lists ends i
+HasStretch lists ends i x = listed_by lists x.source ≡ stretch lists ends i
 
 pub record DayPlan (lists ends : List ℕ) (plan : List OwnList) : Type 0 where
   pub each : (i : ℕ) → i < nurse_places → HasStretch lists ends i (get_or plan i no_list)

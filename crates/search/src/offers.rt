@@ -22,12 +22,13 @@ pub(crate) struct Offers<'a> {
     ghost tries: { Tries search ward.now.numbers.now lists.now plan.now } by { tries_prop search ward.now.numbers.now lists.now plan.now },
 }
 
-// By day nurse i's stretch of the lists, by where they end: none past the last nurse. `workable` and `before` are 0: by day nothing reads them.
+// By day nurse i's stretch of the lists, by where they end: none past the last nurse, and no more than there is. `workable` and `before` are 0: by day
+// nothing reads them.
 fn day_list<'a>(lists: &'a [u32], ends: &[usize; ENDS], i: usize) -> OwnList<'a>
     requires { i < nurse_places }
     ensures { HasStretch lists.now ends.now i result }
 {
-    let stretch = lists.get(ends[i]..ends[i + 1]);
+    let stretch = lists.get(ends[i]..ends[i + 1].min(lists.len()));
     OwnList {
         source: Source::Kept(stretch.unwrap_or_default()),
         workable: 0,

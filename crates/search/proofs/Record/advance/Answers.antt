@@ -1,7 +1,7 @@
 -- With no steps to make the advance is that of none.
 use Rattle.std.proofs.Common.{subst, sym, List, ℕ}
 use Rattle.history.specs.declared.Search.{Search}
-use Rattle.search.specs.CodeSeek.{search_of, ends_of, tried_by, Lists, Seeks, SeeksBy}
+use Rattle.search.specs.CodeSeek.{search_of, ends_of, tried_by, Seeks, SeeksBy}
 use Rattle.search.specs.declared.Searched.{Searched}
 use Rattle.search.proofs.PlanLaws.{day_sought}
 use Rattle.search.proofs.Record.advance.Goals as goal
@@ -18,5 +18,4 @@ returns-in-Days c = λ P s e.
     let w = c.args.w.now in
     let lists = c.args.lists.now in
     let by_day = subst (λ (x : Searched (List ℕ)). Seeks (search_of x) w.numbers.now lists (ends_of x) P) c.in-Days.is s in
-    let has = subst (λ (x : Searched (List ℕ)). Lists (search_of x) w.numbers.now lists (ends_of x)) c.in-Days.is c.requires.lists.0 in
-    c.advance_over.ensures P (day_sought w.numbers.now lists c.day_plan.ensures w.accepted.nurses_most has by_day) e
+    c.advance_over.ensures P (day_sought w.numbers.now lists c.day_plan.ensures w.accepted.nurses_most by_day) e
