@@ -18,7 +18,7 @@ use penalty::columns::{Columns, Sets};
 // are read as they are, and none is copied. The unplaced are a number from the caller, as for `penalty::over_days`.
 pub fn trial(her: &WardNurse, cols: &Columns, sets: Sets, unplaced: u64, search: Search) -> Penalty
     requires { unplaced ≤ nurse_places }
-    ensures { (slots : ℕ → Slot) (p : ℕ) → Shows search her.now.ward.numbers.now slots cols.now → CountsIn search her.now.ward.numbers.now her.now.index p sets.nights sets.available →
+    ensures afresh { (slots : ℕ → Slot) (p : ℕ) → Shows search her.now.ward.numbers.now slots cols.now → CountsIn search her.now.ward.numbers.now her.now.index p sets.nights sets.available →
         unplaced ≡ unplaced_in her.now.ward.numbers.now (exchanged slots her.now.index p) → parts_of result ≡ parts_in search her.now.ward.numbers.now (exchanged slots her.now.index p) }
 {
     let columns = |d: usize| {

@@ -7,6 +7,8 @@ pub returns : goal.returns
 returns c =
     let a = c.args in
     let her = a.her.now in
-    λ slots p s k.
-    c.over_days.ensures (exchanged slots her.index p)
-    (λ d e h g. exchange_shows her.ward.numbers.now a.cols.now.night a.cols.now.day her.index a.sets.nights a.sets.available slots p d e.0 e.1 her.in_ward h (search rules) (search rules) a.search s k)
+    record {
+      afresh = λ slots p s k.
+          c.over_days.ensures (exchanged slots her.index p)
+          (λ d e h g. exchange_shows her.ward.numbers.now a.cols.now.night a.cols.now.day her.index a.sets.nights a.sets.available slots p d e.0 e.1 her.in_ward h (search rules) (search rules) a.search s k);
+    }

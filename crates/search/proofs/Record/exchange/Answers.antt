@@ -10,7 +10,7 @@ counts c = by_index (λ v i. CountsIn c.args.offers.now.search v i c.args.chosen
 
 pub returns-clause-costs : goal.returns-clause-costs
 returns-clause-costs c =
-    trial_total _ _ _ _ _ _ _ (get_or c.args.self.placed c.args.chosen.nurse false) c.others_than-others.ensures.is (counts c) (rw (c.nurse_at-her.ensures.0, c.nurse_at-her.ensures.1) at c.trial-parts.ensures) c.total-penalty.ensures
+    trial_total _ _ _ _ _ _ _ (get_or c.args.self.placed c.args.chosen.nurse false) c.others_than-others.ensures.is (counts c) (rw (c.nurse_at-her.ensures.0, c.nurse_at-her.ensures.1) at c.trial-parts.ensures.afresh) c.total-penalty.ensures
 
 pub returns-clause-shows : goal.returns-clause-shows
 returns-clause-shows c =
