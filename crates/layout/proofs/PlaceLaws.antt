@@ -5,13 +5,16 @@ use Rattle.layout.specs.declared.Cursor.{Cursor}
 use Rattle.layout.specs.declared.Place.{Place}
 use Rattle.layout.specs.declared.Place.TheVariants.{Gap, Tabu, Weight, FirstDuty, NextDuty, LeastNightsOf, Mark, Members, NightNeed, NightLow, PairDay, End}
 use Rattle.layout.specs.Grammar.{Grammar}
-use Rattle.layout.specs.CodeWant.{after}
+use Rattle.layout.specs.CodeWant.{wanted, after}
 use Rattle.layout.specs.Layout
 use Rattle.layout.specs.CodePlace.{tree_at, tree, moved, inner_left, outer_left, turn, nights_on}
 
 pub tree_at_lem : (c : Cursor) {p : Place} → c.place ≡ p → tree_at p c ≡ tree c
 unfolding tree
 tree_at_lem c e = ap (λ (p : Place). tree_at p c) (sym e)
+
+pub wanted_at_lem : (c : Cursor) {p : Place} → c.place ≡ p → wanted (tree_at p c) ≡ wanted (tree c)
+wanted_at_lem c e = ap wanted (tree_at_lem c e)
 
 pub after_at : (c : Cursor) (v : ℕ) {p : Place} → c.place ≡ p → after (tree_at p c) v ≡ after (tree c) v
 after_at c v e = ap (λ (g : Grammar). after g v) (tree_at_lem c e)

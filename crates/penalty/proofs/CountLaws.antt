@@ -12,7 +12,7 @@ use Rattle.history.specs.declared.Search.{Search}
 use Rattle.history.specs.declared.Search.TheVariants.{Nights, Days}
 use Rattle.history.specs.Slot.{Slot}
 use Rattle.penalty.specs.Penalty.{Parts, on_duty, members, short_on, over_on, unplaced_in, at_night, available_in, at_day, night_parts, day_parts, parts_in}
-use Rattle.penalty.specs.CodeCounts.{weights_of, no_high, members_in, need_term, low_term, high_term, group_term, duty_short, duty_over, duty_cost, short_in, over_in, DayCounts}
+use Rattle.penalty.specs.CodeCounts.{weights_of, no_high, DutyIs, members_in, need_term, low_term, high_term, group_term, duty_short, duty_over, duty_cost, short_in, over_in, DayCounts}
 use Rattle.penalty.specs.CodeColumns.{Same, DayShows, AllShow}
 use Rattle.fields.proofs.FieldLaws.{length_member_sets}
 use Rattle.penalty.proofs.ColumnLaws.{count_same, all_same}
@@ -64,6 +64,22 @@ cost_falls wt sets needs k i f l =
     (add-le-add
     (short_falls wt.w (need needs k) _ _ (omega (arith, count_put_all 64 i f l)))
     (sum_mono (length sets) _ _ (λ g m. short_falls wt.u (low needs k g) _ _ (omega (arith, count_put 64 i f (has (get_or sets g 0)) l)))))
+
+-- ---- one day, from what the calls gave
+
+pub duty_counts : (w : List ℕ) (k d column : ℕ) {wt : Weights} {sets numbers : List ℕ} {r : Duty} {b c : ℕ} → wt ≡ weights_of w k → sets ≡ member_sets w → numbers ≡ needs w d
+    → DutyIs r (duty_short wt sets numbers k (has column)) b (duty_over wt sets numbers k (has column)) c → DutyIs r (short_in w k d (has column)) b (over_in w k d (has column)) c
+duty_counts w k d column e m q h = record {
+  short_is = record { is = h.short_is.is ∙ (λ j. duty_short (e j) (m j) (q j) k (has column)); most = h.short_is.most };
+  over_is = record { is = h.over_is.is ∙ (λ j. duty_over (e j) (m j) (q j) k (has column)); most = h.over_is.most };
+}
+
+pub night_counts : (w : List ℕ) (d night day : ℕ) {a b r : Duty} → DutyIs a (short_in w 0 d (has night)) 81600 (over_in w 0 d (has night)) 104000
+    → DutyIs b (short_in w 1 d (has day)) 81600 (over_in w 1 d (has day)) 104000 → r.short ≡ a.short + b.short → r.over ≡ a.over → DayCounts Nights w d night day r
+night_counts w d night day x y e q = record {
+  short_is = record { is = e ∙ ap₂ (λ (m n : ℕ). m + n) x.short_is.is y.short_is.is; most = omega (arith, x.short_is.most, y.short_is.most, e) };
+  over_is = record { is = q ∙ x.over_is.is; most = omega (arith, x.over_is.most, q) };
+}
 
 -- ---- the month: the loop over the days
 
