@@ -1,9 +1,6 @@
 -- Everyone's lists by a plan: what is kept of them, and that nothing else is tried than by the lists themselves.
-use Rattle.std.specs.Array.{IsFromFnResultFrom, IsFromFnResult}
-use Rattle.std.specs.Fn.{Called}
-use denote.Param.Members.{Mut}
-use Rattle.std.specs.Prelude.{ℕ, zero, suc, ◌+◌, ◌⊎◌, ◌^◌, ◌<◌, ◌≤◌, ◌≡◌, refl, Bool, false, ◌&&◌, List, get_or}
-use Rattle.std.proofs.Common.{sym, ap, ◌∙◌, subst, arith, inl, inr, eq-or-lt_of_le}
+use Rattle.std.specs.Prelude.{ℕ, ◌^◌, ◌<◌, ◌≤◌, ◌≡◌, refl, Bool, false, ◌&&◌, List, get_or}
+use Rattle.std.proofs.Common.{sym, ap, ◌∙◌, subst, arith}
 use Rattle.numbers.specs.Range.{filter}
 use Rattle.numbers.proofs.RangeLaws.{filter_passes}
 use Rattle.numbers.proofs.MemberLaws.{Each}
@@ -71,21 +68,6 @@ module _ {w lists : List ℕ} {plan : List OwnList} (o : OwnLists w lists plan) 
   }
 
 -- ---- by day
-
--- of an array made by a closure each place is as the closure says
-module _ {F B : Type 0} {g : Mut F (ℕ × Unit {0}) B} {f : F} (ys : List B) (P : ℕ → B → Type 0) (z : B) (gives : (x : ℕ) (y : B) (q : F) → Called g f (x, tt) y q → (q ≡ f) × P x y) where
-  each_from : (n i : ℕ) (p : F) → p ≡ f → IsFromFnResultFrom g p ys i n → (j : ℕ) → i ≤ j → j < i + n → P j (get_or ys j z)
-  each_from zero i p e w j l h = absurd (omega arith)
-  each_from (suc n) i p e w j l h =
-      let told = gives i w.1 w.0 (subst (λ (x : F). Called g x (i, tt) w.1 w.0) e w.3) in
-      go (eq-or-lt_of_le l) told.1 (λ d. each_from n (i + 1) w.0 told.0 w.4 j (omega arith) (omega arith))
-    where
-      go : (i ≡ j) ⊎ (i < j) → P i w.1 → (i < j → P j (get_or ys j z)) → P j (get_or ys j z)
-      go (inl q) t rest = subst (λ (x : ℕ). P x (get_or ys x z)) q (subst (P i) (sym (w.2.1 z)) t)
-      go (inr d) t rest = rest d
-
-  pub each_made : {m : ℕ} → IsFromFnResult g f ys m → (j : ℕ) → j < m → P j (get_or ys j z)
-  each_made {m} r j h = each_from m 0 f refl r.each j (omega arith) (omega arith)
 
 module _ (w lists : List ℕ) {ends : List ℕ} {plan : List OwnList} (o : DayPlan lists ends plan) (few : nurses w ≤ nurse_places) where
   pub day_sought : {P : Phase} → SeeksBy Days w (tried_by Days w lists ends) P → SeeksBy Days w (tried_at Days w lists plan) P

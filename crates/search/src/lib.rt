@@ -277,7 +277,8 @@ impl Record {
         ensures { (P : Phase) → SeeksBy Nights w.now.numbers.now (tried_by Nights w.now.numbers.now lists.now []) P → sound_stored P self ≡ true → reply_stored P past k self ≡ (answer_of P result, result.after) }
     {
         let mut own = [0u32; PLACES];
-        let plan = ownlists::own_lists(w, lists, &mut own);
+        let places = ownlists::own_lists(w, lists, &mut own);
+        let plan = ownlists::lent(&own, &places);
         // `&*w`, not `w`, here and below: the offers borrow the ward for a shorter time.
         let offers = Offers {
             ward: &*w,

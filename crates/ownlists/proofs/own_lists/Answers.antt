@@ -1,7 +1,8 @@
-use Rattle.std.proofs.Common.{◌<◌, ap, ◌∙◌, arith}
+use Rattle.std.proofs.Common.{◌<◌, ◌-◌, ap, ◌∙◌, arith, refl, length}
+use borrow.Rule.Slice.PartMut.{put_mid}
 use Rattle.fields.specs.Fields.{nurses}
-use Rattle.ownlists.proofs.OwnListLaws.{filled_as, kept_hers, unkept_at, nurse_more}
-use Rattle.ownlists.proofs.own_lists.Goals.{then-count-rest, else-count-rest}
+use Rattle.ownlists.proofs.OwnListLaws.{filled_as, Back, nurse_kept, nurse_over}
+use Rattle.ownlists.proofs.own_lists.Goals.{then-count-room, else-count-room}
 use Rattle.ownlists.proofs.own_lists.Goals as goal
 
 pub loop-i-preserved : goal.loop-i-preserved
@@ -10,8 +11,10 @@ loop-i-preserved c =
     let below : c.loop-i.i < nurses w.numbers.now = omega (arith, c.nurses-i-end.ensures.0, c.loop-i-test.true) in
     let hers = c.masks_of-her in
     let filled = filled_as (ap (λ b. b.ward.numbers.now) hers.ensures ∙ ap (λ b. b.numbers.now) c.nurse_at.ensures.0) (ap (λ b. b.index) hers.ensures ∙ c.nurse_at.ensures.1) (record { hers = hers.result.hers; counted = c.own_fill-count.ensures.counted; written = c.own_fill-count.ensures.written }) in
-    nurse_more filled _ c.loop-i.invariant below w.accepted.nurses_most
-    (elim c.if-count-rest.branch [
-      | then-count-rest x ↦ rw x.source-is (kept_hers filled x.split_at_mut-kept.ensures.front (omega (arith, x.if-count-rest.true, c.own_fill-count.auto.own)))
-      | else-count-rest x ↦ unkept_at filled (x.source-is ∙ c.unkept-source.ensures)
-    ])
+    let own = c.loop-i.own in
+    let at = c.loop-i.at in
+    let back : Back at own c.own_fill-count.new.own (put_mid at (length own - at) own c.own_fill-count.new.own) = record { back_is = refl; same = omega arith } in
+    elim c.if-count-room.branch [
+      | then-count-room x ↦ nurse_kept c.loop-i.invariant back filled below w.accepted.nurses_most x.place-is x.at-is x.if-count-room.true
+      | else-count-room x ↦ nurse_over c.loop-i.invariant back filled below w.accepted.nurses_most (x.place-is ∙ c.unkept-place.ensures) x.at-is
+    ]

@@ -1,7 +1,7 @@
 use Rattle.std.proofs.Common.{rules}
 use Rattle.ownlists.specs.CodeOwn.{no_list}
 use Rattle.search.specs.CodePlan.{HasStretch}
-use Rattle.search.proofs.PlanLaws.{each_made}
+use Rattle.ownlists.proofs.OwnListLaws.{each_made}
 use Rattle.search.proofs.offers.day_plan.Goals as goal
 
 pub returns : goal.returns
