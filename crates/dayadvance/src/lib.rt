@@ -18,7 +18,7 @@ ghost use Rattle.outcomes.specs.Outcomes.{letters_of, advance_of, roster_of, lef
 use fields::Body;
 use fields::sizes::{ENDS, NURSES};
 use letters::written::Roster;
-use outcomes::Advance;
+use outcomes::{Advance, Refused};
 use phases::questions::AskedPhase;
 use phases::{opening, questions};
 use refusals::Refusal;
@@ -88,11 +88,12 @@ pub fn advance_on(
     k: u32,
     past: bool,
     buffer: &mut [u32],
-) -> Result<Advance, Refusal>
+) -> Result<Advance, Refused>
     ensures says { result ≡ advance_of (advance_stored (day_phase w.now.numbers.now (night_of nights.now)) (call_of k past (length buffer.old)) rec) }
     ensures leaves { buffer.new ≡ left_by (advance_stored (day_phase w.now.numbers.now (night_of nights.now)) (call_of k past (length buffer.old)) rec).0 (up_to (day_lists w.now.numbers.now nights.now) (nurses w.now.numbers.now)) buffer.old }
 {
-    let ends = first_no(rec, w, nights, k, buffer.len())?;
+    let asked = first_no(rec, w, nights, k, buffer.len());
+    let ends = outcomes::handed_back(asked, &rec)?;
     let len = daylists::lists::lists_fill(w, nights, buffer);
     let x = rec.advance(w, &buffer[..len], Searched::Days(ends), k, past);
     let roster = roster_given(w, nights, x);

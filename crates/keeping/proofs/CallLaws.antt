@@ -11,6 +11,7 @@ use Rattle.history.specs.Session.{keep_number}
 use Rattle.search.specs.Stored.{Sized}
 use Rattle.search.specs.declared.Record.{Record as Stored}
 use Rattle.recordwords.specs.Words.{record_words, record_of_words, words_of_record}
+use Rattle.outcomes.specs.Outcomes.{refused_with}
 use Rattle.keeping.specs.Storage.{entry_words, entry_at, has_room, may_keep, is_kept, keep_no, kept_in, record_at, returned_of}
 use Rattle.keeping.proofs.EntryLaws.{entry, entry_long, kept_is, kept_not, first_word, rest_words, brought_back, brought_nothing}
 
@@ -55,19 +56,19 @@ module _ (storage : List ℕ) (n : ℕ) where
     first_is : get_or lent 0 0 ≡ get_or storage (entry_at n) 0
     first_is = ap (λ (l : List ℕ). get_or l 0 0) lent_is ∙ sym (first_word storage n)
 
-    pub nothing_kept : get_or lent 0 0 ≡ 0 → Err (numbered question.storage 0) ≡ returned_of storage n
-    nothing_kept e =
+    pub nothing_kept : (r : Stored) → get_or lent 0 0 ≡ 0 → Err (refused_with (numbered question.storage 0) r) ≡ returned_of storage n r
+    nothing_kept r e =
         let q : get_or storage (entry_at n) 0 ≡ 0 = sym first_is ∙ e in
-        sym (brought_nothing storage n (rw (may, q)))
+        sym (brought_nothing storage n r (rw (may, q)))
 
     pub record_kept :
-        {words : List ℕ} {after : Stored} → get_or lent 0 0 ≢ 0 → words ≡ take (length lent - 1) (drop 1 lent) → after ≡ record_of_words words
-        → Ok after ≡ returned_of storage n
+        (r : Stored) {words : List ℕ} {after : Stored} → get_or lent 0 0 ≢ 0 → words ≡ take (length lent - 1) (drop 1 lent) → after ≡ record_of_words words
+        → Ok after ≡ returned_of storage n r
     unfolding record_at
-    record_kept {words} some p e =
+    record_kept r {words} some p e =
         let k : get_or storage (entry_at n) 0 ≢ 0 = λ q. some (first_is ∙ q) in
         let y : is_kept storage n ≡ true = grind (arith, k) in
-        ap Ok (e ∙ ap record_of_words words_are) ∙ sym (brought_back storage n (rw (may, y)))
+        ap Ok (e ∙ ap record_of_words words_are) ∙ sym (brought_back storage n r (rw (may, y)))
       where
         words_are : words ≡ take record_words (drop (entry_at n + 1) storage)
         words_are = p ∙ take_all (length lent - 1) (drop 1 lent) (omega (arith, length-drop 1 lent)) ∙ ap (drop 1) lent_is ∙ sym (rest_words storage n)
@@ -87,5 +88,5 @@ module _ (storage : List ℕ) (n : ℕ) where
     pub keep_leaves : (r : Stored) → storage ≡ kept_in storage n r
     keep_leaves r = sym (kept_not storage n r may_not)
 
-    pub return_refused : Err no ≡ returned_of storage n
-    return_refused = ap Err (refused (may_keep storage n) is).1 ∙ sym (brought_nothing storage n (rw may_not))
+    pub return_refused : (r : Stored) → Err (refused_with no r) ≡ returned_of storage n r
+    return_refused r = ap (λ (x : Refusal). Err (refused_with x r)) (refused (may_keep storage n) is).1 ∙ sym (brought_nothing storage n r (rw may_not))

@@ -17,6 +17,8 @@ use Rattle.search.specs.declared.Record.{Record as Stored}
 use Rattle.recordwords.specs.Words.{record_words, record_of_words, words_of_record}
 use Rattle.recordwords.proofs.WordLaws.{words_long}
 use Rattle.recordwords.proofs.BackLaws.{read_back}
+use Rattle.outcomes.specs.declared.Refused.{Refused}
+use Rattle.outcomes.specs.Outcomes.{refused_with}
 use Rattle.keeping.specs.Storage.{entry_words, storage_words, entry_at, has_room, may_keep, kept_in, is_kept, may_return, return_no, record_at, returned_to, returned_of}
 use Rattle.keeping.proofs.PartLaws.{written_long, read_same, read_before, read_after}
 
@@ -117,23 +119,23 @@ ReturnsNot storage n other = (return_no storage n ≡ some (numbered question.st
 pub return_may : (storage : List ℕ) (n : ℕ) → may_return storage n ≡ true → may_keep storage n ≡ true
 return_may storage n h = (and_parts (may_keep storage n) (is_kept storage n) h).0
 
-module _ (storage : List ℕ) (n : ℕ) where
-  pub brought_back : may_return storage n ≡ true → returned_of storage n ≡ Ok (record_at storage n)
+module _ (storage : List ℕ) (n : ℕ) (other : Stored) where
+  pub brought_back : may_return storage n ≡ true → returned_of storage n other ≡ Ok (record_at storage n)
   unfolding return_no
   brought_back h = rw (returned_of, return_no, h)
 
-  pub brought_nothing : may_return storage n ≡ false → returned_of storage n ≡ Err (numbered question.storage 0)
+  pub brought_nothing : may_return storage n ≡ false → returned_of storage n other ≡ Err (refused_with (numbered question.storage 0) other)
   unfolding return_no
   brought_nothing h = rw (returned_of, return_no, h)
 
-  answered_by : (o : Option Refusal) {r : Stored} → ◌≡◌ {A = Result Stored Refusal} (elim o [ none ↦ Ok (record_at storage n) | some x ↦ Err x ]) (Ok r) → o ≡ none
+  answered_by : (o : Option Refusal) {r : Stored} → ◌≡◌ {A = Result Stored Refused} (elim o [ none ↦ Ok (record_at storage n) | some x ↦ Err (refused_with x other) ]) (Ok r)
+      → o ≡ none
   answered_by none e = refl
   answered_by (some x) e = absurd (cc)
 
-  pub answered_none : {r : Stored} → returned_of storage n ≡ Ok r → return_no storage n ≡ none
+  pub answered_none : {r : Stored} → returned_of storage n other ≡ Ok r → return_no storage n ≡ none
   answered_none e = answered_by (return_no storage n) e
 
-module _ (storage : List ℕ) (n : ℕ) (other : Stored) where
   pub returned_not : may_return storage n ≡ false → ReturnsNot storage n other
   unfolding return_no returned_to
   returned_not h = (rw h, rw (returned_to, h))
@@ -154,10 +156,10 @@ module _ (storage : List ℕ) (n : ℕ) (other : Stored) where
   unfolding return_no
   may_of e = unless_none (may_return storage n) question.storage 0 e
 
-  pub answered_yes : {r : Stored} → Returns storage n other r → returned_of storage n ≡ Ok r
-  answered_yes y = let h = may_of y.0 in brought_back storage n h ∙ ap Ok (sym (returned_is h).1 ∙ y.1)
+  pub answered_yes : {r : Stored} → Returns storage n other r → returned_of storage n other ≡ Ok r
+  answered_yes y = let h = may_of y.0 in brought_back h ∙ ap Ok (sym (returned_is h).1 ∙ y.1)
 
-  pub answered_no : ReturnsNot storage n other → returned_of storage n ≡ Err (numbered question.storage 0)
+  pub answered_no : ReturnsNot storage n other → returned_of storage n other ≡ Err (refused_with (numbered question.storage 0) other)
   answered_no y = rw (returned_of, y.0)
 
   pub returns_not : may_keep storage n ≡ false → ReturnsNot storage n other

@@ -6,6 +6,7 @@ use Rattle.search.specs.declared.Record.{Record as Stored}
 use Rattle.refusals.specs.Questions as question
 use Rattle.refusals.specs.Refusals.{numbered}
 use Rattle.std.specs.declared.result.Result.TheVariants.{Ok, Err}
+use Rattle.outcomes.specs.Outcomes.{refused_with}
 use Rattle.keeping.specs.Storage.{keep_no, kept_in, returned_to, returned_of}
 
 -- a keeping of some record, of this search or another, under some number
@@ -26,8 +27,8 @@ OthersThan n (k ∷ ks) = (k.number ≢ n) × Sized k.rec × OthersThan n ks
 -- proofs/AssuranceLaws shows it, for storage of any content and length, any record and any record in hand
 pub record Assurance : Type 0 where
   pub unchanged : (storage : List ℕ) (n : ℕ) (kept in_hand : Stored) (meanwhile : List Keeping) → Sized kept → keep_no storage n ≡ none → OthersThan n meanwhile
-      → (returned_of (kept_all meanwhile (kept_in storage n kept)) n ≡ Ok kept) × (returned_to (kept_all meanwhile (kept_in storage n kept)) n in_hand ≡ kept)
+      → (returned_of (kept_all meanwhile (kept_in storage n kept)) n in_hand ≡ Ok kept) × (returned_to (kept_all meanwhile (kept_in storage n kept)) n in_hand ≡ kept)
   pub zeros : (words n : ℕ) (in_hand : Stored)
-      → (returned_of (replicate words 0) n ≡ Err (numbered question.storage 0)) × (returned_to (replicate words 0) n in_hand ≡ in_hand)
+      → (returned_of (replicate words 0) n in_hand ≡ Err (refused_with (numbered question.storage 0) in_hand)) × (returned_to (replicate words 0) n in_hand ≡ in_hand)
   -- the storage keeps its length
   pub same_length : (storage : List ℕ) (n : ℕ) (r : Stored) → Sized r → length (kept_in storage n r) ≡ length storage

@@ -1,5 +1,5 @@
 -- What an operation answers, and the memory that it leaves: the record in hand, and the storage. `advance` says what an advance answers and the record that
--- it hands back. Built of what the contracts of the calls cite; a return leaves the record that `returned_of` answers, if any (`returned_to`).
+-- it hands back. Built of what the contracts of the calls cite; a return leaves the record that `returned_of` hands back (`returned_to`).
 use Rattle.std.specs.Prelude.{ℕ, List}
 use Rattle.history.specs.Phase.{Call, Answer}
 use Rattle.history.specs.Session.{Operation, operation_advance, operation_keep, operation_return, Answered, advanced, stored, Session}

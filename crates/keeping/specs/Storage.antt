@@ -9,6 +9,8 @@ use Rattle.refusals.specs.declared.Refusal.{Refusal}
 use Rattle.history.specs.Session.{keep_number}
 use Rattle.search.specs.declared.Record.{Record as Stored}
 use Rattle.recordwords.specs.Words.{record_words, record_of_words, words_of_record}
+use Rattle.outcomes.specs.declared.Refused.{Refused}
+use Rattle.outcomes.specs.Outcomes.{refused_with}
 
 -- the words of an entry, and of all eight
 abbrev pub entry_words : ℕ
@@ -58,10 +60,10 @@ return_no storage n = unless (may_return storage n) question.storage 0
 unfoldable pub record_at : List ℕ → ℕ → Stored
 record_at storage n = record_of_words (take record_words (drop (entry_at n + 1) storage))
 
--- what it answers: the record that was kept, or question 13
-abbrev pub returned_of : List ℕ → ℕ → Result Stored Refusal
-returned_of storage n = elim (return_no storage n) [ none ↦ Ok (record_at storage n) | some x ↦ Err x ]
+-- what it answers: the record that was kept, or question 13 and the record in hand
+abbrev pub returned_of : List ℕ → ℕ → Stored → Result Stored Refused
+returned_of storage n r = elim (return_no storage n) [ none ↦ Ok (record_at storage n) | some x ↦ Err (refused_with x r) ]
 
--- the record after it: the one that it answers; a refused one leaves the record in hand
+-- the record after it: the one that it answers; a refused one hands back the record in hand
 unfoldable pub returned_to : List ℕ → ℕ → Stored → Stored
-returned_to storage n r = elim (returned_of storage n) [ Ok x ↦ x | Err x ↦ r ]
+returned_to storage n r = elim (returned_of storage n r) [ Ok x ↦ x | Err x ↦ x.in_hand ]

@@ -8,6 +8,7 @@ ghost use Rattle.history.specs.Session.{keep_number};
 ghost use Rattle.recordwords.specs.Words.{words_of_record};
 ghost use Rattle.keeping.specs.Storage.{entry_at, has_room, keep_no, kept_in, returned_of};
 
+use outcomes::Refused;
 use recordwords::WORDS;
 use refusals::Refusal;
 use refusals::question::Question;
@@ -49,14 +50,18 @@ pub fn keep(rec: Record, number: u32, storage: &mut [u32]) -> Result<(), Refusal
     Ok(())
 }
 
-// The record kept under the number; or question 13.
-pub fn bring_back(number: u32, storage: &[u32]) -> Result<Record, Refusal>
-    ensures { result ≡ returned_of storage.now number }
+// The record kept under the number; or question 13, and the record in hand.
+pub fn bring_back(rec: Record, number: u32, storage: &[u32]) -> Result<Record, Refused>
+    ensures { result ≡ returned_of storage.now number rec }
 {
-    let at = entry_at(storage.len(), number)?;
+    let place = entry_at(storage.len(), number);
+    let at = outcomes::handed_back(place, &rec)?;
     let entry = &storage[at..at + ENTRY];
     if entry[0] == 0 {
-        return Err(Question::Storage.at(0));
+        return Err(Refused {
+            refusal: Question::Storage.at(0),
+            in_hand: rec,
+        });
     }
     let mut words = [0u32; WORDS];
     words.copy_from_slice(&entry[1..]);

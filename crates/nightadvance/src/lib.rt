@@ -10,7 +10,7 @@ ghost use Rattle.outcomes.specs.Outcomes.{advance_of, left_by, call_of};
 
 use fields::Body;
 use letters::written::Roster;
-use outcomes::Advance;
+use outcomes::{Advance, Refused};
 use phases::questions;
 use phases::questions::AskedPhase;
 use refusals::Refusal;
@@ -46,11 +46,12 @@ pub fn advance_on(
     k: u32,
     past: bool,
     buffer: &mut [u32],
-) -> Result<Advance, Refusal>
+) -> Result<Advance, Refused>
     ensures says { result ≡ advance_of (advance_stored (night_phase w.now.numbers.now) (call_of k past (length buffer.old)) rec) }
     ensures leaves { buffer.new ≡ left_by (advance_stored (night_phase w.now.numbers.now) (call_of k past (length buffer.old)) rec).0 (common_of w.now.numbers.now) buffer.old }
 {
-    first_no(rec, w, k, buffer.len())?;
+    let asked = first_no(rec, w, k, buffer.len());
+    outcomes::handed_back(asked, &rec)?;
     let len = nightlists::common::fill(w, buffer);
     let x = rec.advance(w, &buffer[..len], Searched::Nights, k, past);
     Ok(outcomes::finished(x, Roster::default()))

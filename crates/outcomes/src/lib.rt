@@ -1,12 +1,13 @@
-// What an advance and the check hand back where no question refuses them.
+// What an advance and the check hand back, and an advance or a return that is refused.
 #![tactic(auto)]
 
 ghost use Rattle.std.specs.Prelude.{◌≡◌};
 ghost use Rattle.history.specs.Phase.{Phase};
 ghost use Rattle.search.specs.CodeSeek.{answer_of};
-ghost use Rattle.outcomes.specs.Outcomes.{roster_of, letters_of, advance_of};
+ghost use Rattle.outcomes.specs.Outcomes.{roster_of, letters_of, handed_back, advance_of};
 
 use letters::written::Roster;
+use refusals::Refusal;
 use search::{Advanced, Ending, Record};
 
 // The record after an advance, its penalty, the steps made by the advance, how it ended, and the roster: by day its letters and
@@ -21,11 +22,31 @@ pub struct Advance {
     pub roster: Roster,
 }
 
+// An advance or a return that is refused: the refusal, and the record in hand, as it was.
+#[derive(Clone, Copy)]
+pub struct Refused {
+    pub refusal: Refusal,
+    pub in_hand: Record,
+}
+
 // What the check says of a roster: it keeps the rules, or a rule is broken.
 #[derive(Clone, Copy, Debug, PartialEq, Eq)]
 pub enum Verdict {
     Passed,
     Broken,
+}
+
+// An answer, with the record in hand where it is a no. The record behind a reference: a yes copies none.
+pub fn handed_back<T>(asked: Result<T, Refusal>, in_hand: &Record) -> Result<T, Refused>
+    ensures { result ≡ handed_back asked in_hand.now }
+{
+    match asked {
+        Ok(x) => Ok(x),
+        Err(refusal) => Err(Refused {
+            refusal,
+            in_hand: *in_hand,
+        }),
+    }
 }
 
 // What an advance that ran comes to, with the roster that it gives out.

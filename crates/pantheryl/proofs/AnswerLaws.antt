@@ -11,8 +11,9 @@ use Rattle.refusals.specs.Questions as question
 use Rattle.keeping.specs.Storage.{may_return, return_no, record_at, returned_of}
 use Rattle.search.specs.declared.Record.{Record as Stored}
 use Rattle.history.specs.Phase.{Answer, refused, ended, end_zero, end_asked, end_none}
-use Rattle.outcomes.specs.Outcomes.{advance_of, roster_of}
+use Rattle.outcomes.specs.Outcomes.{refused_with, advance_of, roster_of}
 use Rattle.outcomes.specs.declared.Advance.{Advance}
+use Rattle.outcomes.specs.declared.Refused.{Refused}
 use Rattle.recordwords.specs.Words.{words_of_record}
 use Rattle.answerwords.specs.AnswerWords.{count_words, advance_words}
 use Rattle.answerwords.specs.CodeAnswers.{result_words}
@@ -44,31 +45,31 @@ unfolding RosterFits advance_of roster_of
 roster_fits_of (refused n, r) = tt
 roster_fits_of (ended e made penalty letters, r) = λ long. omega (arith, length-append letters (replicate (letter_places - length letters) 0))
 
-pub roster_fits : (a : Answer × Stored) {x : Result Advance Refusal} → x ≡ advance_of a → RosterFits x
+pub roster_fits : (a : Answer × Stored) {x : Result Advance Refused} → x ≡ advance_of a → RosterFits x
 roster_fits a e = subst RosterFits (sym e) (roster_fits_of a)
 
-pub count_fits : {r : Result Advance Refusal} {x : Advance} → RosterFits r → r ≡ Ok x → CountFits x.roster
+pub count_fits : {r : Result Advance Refused} {x : Advance} → RosterFits r → r ≡ Ok x → CountFits x.roster
 unfolding RosterFits
 count_fits f e = subst RosterFits e f
 
 -- ---- returns
 
-module _ (storage : List ℕ) (n : ℕ) (words : List ℕ) where
+module _ (storage : List ℕ) (n : ℕ) (rec : Stored) (words : List ℕ) where
   -- by whether it is refused
-  abbrev Returned : Option Refusal → Bool → Result Stored Refusal → Type 0
-  Returned o b (Err x) = (count_words (Err x) 0 ≡ count_words (answer_by o) 0) × (words ≡ cond b (words_of_record (record_at storage n)) words)
+  abbrev Returned : Option Refusal → Bool → Result Stored Refused → Type 0
+  Returned o b (Err x) = (count_words (Err x.refusal) 0 ≡ count_words (answer_by o) 0) × (words ≡ cond b (words_of_record (record_at storage n)) words)
   Returned o b (Ok r) = (count_words (Ok tt) 0 ≡ count_words (answer_by o) 0) × (words_of_record r ≡ cond b (words_of_record (record_at storage n)) words)
 
-  returned_by : (b : Bool) → Returned (unless b question.storage 0) b (elim (unless b question.storage 0) [ none ↦ Ok (record_at storage n) | some x ↦ Err x ])
+  returned_by : (b : Bool) → Returned (unless b question.storage 0) b (elim (unless b question.storage 0) [ none ↦ Ok (record_at storage n) | some x ↦ Err (refused_with x rec) ])
   returned_by true = (refl, refl)
   returned_by false = (refl, refl)
 
-  pub returned : {x : Result Stored Refusal} → x ≡ returned_of storage n → Returned (return_no storage n) (may_return storage n) x
+  pub returned : {x : Result Stored Refused} → x ≡ returned_of storage n rec → Returned (return_no storage n) (may_return storage n) x
   unfolding return_no
   returned e = subst (Returned (return_no storage n) (may_return storage n)) (sym e) (returned_by (may_return storage n))
 
-  module _ {x : Result Stored Refusal} (e : x ≡ returned_of storage n) where
-    pub returned_no : {no-said : Refusal} → x ≡ Err no-said → (count_words (Err no-said) 0 ≡ count_words (answer_by (return_no storage n)) 0) × (words ≡ returned_words storage n words)
+  module _ {x : Result Stored Refused} (e : x ≡ returned_of storage n rec) where
+    pub returned_no : {no-said : Refused} → x ≡ Err no-said → (count_words (Err no-said.refusal) 0 ≡ count_words (answer_by (return_no storage n)) 0) × (words ≡ returned_words storage n words)
     unfolding returned_words
     returned_no q = subst (Returned (return_no storage n) (may_return storage n)) q (returned e)
 

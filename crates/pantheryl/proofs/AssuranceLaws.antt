@@ -54,7 +54,7 @@ words_assured storage n words in_hand meanwhile long room others =
     let z = words_sized words long in
     let back = assurance.unchanged storage n (record_of_words words) (record_of_words in_hand) meanwhile z room others in
     let after = kept_all meanwhile (kept_in storage n (record_of_words words)) in
-    let unrefused = answered_none after n back.0 in
+    let unrefused = answered_none after n (record_of_words in_hand) back.0 in
     let same = back_says after n in_hand (record_of_words words) z unrefused back.1 in
     record {
       done = unrefused;

@@ -110,7 +110,7 @@ words_demand1 = record {
   return_kept = λ words number storage.
       let f = demand1.bring_back (record_of_words words) number storage in
       record {
-        only = λ q p e. f.only q p (return_answered storage number (numbered q p) (count_no (answer_by (return_no storage number)) (numbered q p) e));
-        always = λ q p w. let s = returned_no storage number words {x = returned_of storage number} refl (f.always q p w).0 in (sym s.0, sym s.1);
+        only = λ q p e. f.only q p (return_answered storage number (record_of_words words) (numbered q p) (count_no (answer_by (return_no storage number)) (numbered q p) e));
+        always = λ q p w. let s = returned_no storage number (record_of_words words) words {x = returned_of storage number (record_of_words words)} refl (f.always q p w).0 in (sym s.0, sym s.1);
       };
 }

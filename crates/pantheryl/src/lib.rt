@@ -14,13 +14,12 @@ ghost use Rattle.pantheryl.specs.Answers.{read_words, numbers_left, ward_of, wri
 
 use fields::sizes::{LETTERS, NUMBERS};
 use letters::written::Roster;
-use planner::Advance;
+use planner::{Advance, Refused};
 use recordwords::{PATTERNS, WORDS};
-use refusals::Refusal;
 use ward::Ward;
 
 // The words of the record after an advance; a refused one leaves them.
-fn put_record(words: &mut [u32; WORDS], done: &Result<Advance, Refusal>)
+fn put_record(words: &mut [u32; WORDS], done: &Result<Advance, Refused>)
     ensures { words.new ≡ words_after done.now words.old }
 {
     if let Ok(x) = done {
@@ -37,7 +36,7 @@ fn put_given(roster: &mut [u8; LETTERS], given: Roster)
 }
 
 // The letters that an advance gives out; a refused one leaves the roster.
-fn put_roster(roster: &mut [u8; LETTERS], done: &Result<Advance, Refusal>)
+fn put_roster(roster: &mut [u8; LETTERS], done: &Result<Advance, Refused>)
     requires { RosterFits done.now }
     ensures { roster.new ≡ roster_after done.now roster.old }
 {
@@ -168,11 +167,13 @@ pub extern "C" fn pantheryl_return(
     ensures says { answer.new ≡ count_words (answer_by (return_no storage.now number)) 0 }
     ensures keeps { words.new ≡ returned_words storage.now number words.old }
 {
-    match planner::bring_back(number, storage) {
+    let before = *words;
+    let rec = recordwords::record_of(before);
+    match planner::bring_back(rec, number, storage) {
         Ok(back) => {
             *answer = answerwords::count_words(Ok(0));
             *words = recordwords::words_of(back);
         }
-        Err(n) => *answer = answerwords::count_words(Err(n)),
+        Err(x) => *answer = answerwords::count_words(Err(x.refusal)),
     }
 }

@@ -43,7 +43,7 @@ use Rattle.planner.specs.Advances.{advance_over, advance_nights, advance_days}
 use Rattle.planner.specs.Answers.{check_letters, check_over, check_says}
 use Rattle.planner.specs.Left.{list_of, night_left, lists_of, day_left}
 use Rattle.planner.specs.Faults.{StepsFault, NightsFault, CommonFault, ListsFault, PatternFault, RecordFault, LettersFault, night_questions, day_questions, check_questions, FileNo, in_file, in_call, WriterNo, in_numbers, in_buffer}
-use Rattle.planner.specs.Demand1.{Refuses, Bytes, no_in_result, refused_by, ReadRefuses, WriteRefuses, NightsRefuse, DaysRefuse, CheckRefuses, Demand1}
+use Rattle.planner.specs.Demand1.{Refuses, Bytes, no_in_result, no_in_handed, refused_by, handed_by, ReadRefuses, WriteRefuses, NightsRefuse, DaysRefuse, CheckRefuses, Demand1}
 use Rattle.planner.proofs.LetterFaultLaws.{misplaced_fault, fault_misplaced}
 use Rattle.planner.proofs.KeepFaultLaws.{keep_refuses, return_refuses}
 
@@ -197,14 +197,14 @@ module _ (file : List ℕ) (bytes : Bytes file) (questions : List ℕ → Questi
 
 -- ---- the calls
 
-advance_no : (a : Answer × Stored) → no_in_result (advance_of a) ≡ no_in a.0
+advance_no : (a : Answer × Stored) → no_in_handed (advance_of a) ≡ no_in a.0
 unfolding advance_of
 advance_no (refused n, r) = refl
 advance_no (ended e steps penalty roster, r) = refl
 
 -- an advance whose answer refuses so: what it gives, and what it leaves where `list` is what it would write
 module _ (Fault : ℕ → ℕ → Type 0) (a : Answer × Stored) (r : Stored) (list buffer : List ℕ) (f : AnswerRefuses Fault a r) where
-  refuses : Refuses Fault (advance_of a) no_in_result refused_by ((a.1 ≡ r) × (left_by a.0 list buffer ≡ buffer))
+  refuses : Refuses Fault (advance_of a) no_in_handed (handed_by r) ((a.1 ≡ r) × (left_by a.0 list buffer ≡ buffer))
   unfolding advance_of left_by
   refuses = record {
     only = λ q p e. f.only q p (sym (advance_no a) ∙ e);

@@ -11,7 +11,8 @@ use Rattle.history.specs.Phase.{Phase, Answer}
 use Rattle.search.specs.Stored.{advance_stored}
 use Rattle.search.specs.declared.Record.{Record as Stored}
 use Rattle.outcomes.specs.declared.Advance.{Advance}
-use Rattle.outcomes.specs.Outcomes.{advance_of, left_by, call_of}
+use Rattle.outcomes.specs.declared.Refused.{Refused}
+use Rattle.outcomes.specs.Outcomes.{refused_with, advance_of, left_by, call_of}
 use Rattle.planner.specs.Advances.{advance_over}
 
 -- `phase` is the phase of a ward, and `lists` what stands in the buffer after an advance
@@ -22,12 +23,12 @@ module _ (phase : List ℕ → Phase) (lists : Read → List ℕ) (file : List �
   abbrev advanced_on : List ℕ → Answer × Stored
   advanced_on w = advance_stored (phase w) (call_of k past_zero (length buffer)) rec
 
-  pub file_refused : {n : Refusal} → read_ward file ≡ bad n → (Err n ≡ advance_of advanced) × (buffer ≡ left_by advanced.0 (lists (read_ward file)) buffer)
+  pub file_refused : {n : Refusal} → read_ward file ≡ bad n → (Err (refused_with n rec) ≡ advance_of advanced) × (buffer ≡ left_by advanced.0 (lists (read_ward file)) buffer)
   unfolding advance_over advance_of left_by
   file_refused e = rw e (refl, refl)
 
   -- `on` is what stands there over a ward's body, w
-  pub file_advanced : (on : List ℕ → List ℕ) → ((ws : List ℕ) → on (body_of ws) ≡ lists (good ws)) → {ws w after : List ℕ} {x : Result Advance Refusal} → read_ward file ≡ good ws
+  pub file_advanced : (on : List ℕ → List ℕ) → ((ws : List ℕ) → on (body_of ws) ≡ lists (good ws)) → {ws w after : List ℕ} {x : Result Advance Refused} → read_ward file ≡ good ws
       → w ≡ body_of ws → (x ≡ advance_of (advanced_on w)) × (after ≡ left_by (advanced_on w).0 (on w) buffer)
       → (x ≡ advance_of advanced) × (after ≡ left_by advanced.0 (lists (read_ward file)) buffer)
   unfolding advance_over

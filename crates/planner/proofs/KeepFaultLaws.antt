@@ -12,9 +12,10 @@ use Rattle.history.specs.Session.{keep_number}
 use Rattle.history.specs.Questions.{end, ask}
 use Rattle.history.proofs.FirstLaws.{Answers, AnswersAll, none_answers, first_answers, unless_answers}
 use Rattle.search.specs.declared.Record.{Record as Stored}
+use Rattle.outcomes.specs.Outcomes.{refused_with}
 use Rattle.keeping.specs.Storage.{storage_words, entry_at, has_room, is_kept, may_keep, keep_no, kept_in, may_return, return_no, record_at, returned_to, returned_of}
 use Rattle.planner.specs.Faults.{KeepFault, ReturnFault, keep_questions, return_questions}
-use Rattle.planner.specs.Demand1.{no_in_result, KeepRefuses, ReturnRefuses}
+use Rattle.planner.specs.Demand1.{no_in_result, no_in_handed, KeepRefuses, ReturnRefuses}
 
 -- ---- where a test of two parts fails
 
@@ -78,13 +79,13 @@ no_back : (o : Option Refusal) → no_in_result (answer_by o) ≡ o
 no_back none = refl
 no_back (some n) = refl
 
-return_back : (o : Option Refusal) (r : Stored) → no_in_result {T = Stored} (elim o [ none ↦ Ok r | some x ↦ Err x ]) ≡ o
-return_back none r = refl
-return_back (some n) r = refl
+return_back : (o : Option Refusal) (kept r : Stored) → no_in_handed {T = Stored} (elim o [ none ↦ Ok kept | some x ↦ Err (refused_with x r) ]) ≡ o
+return_back none kept r = refl
+return_back (some n) kept r = refl
 
 -- a return's answer by its refusal
-pub return_answered : (storage : List ℕ) (n : ℕ) (x : Refusal) → no_in_result (answer_by (return_no storage n)) ≡ some x → no_in_result (returned_of storage n) ≡ some x
-return_answered storage n x e = return_back (return_no storage n) (record_at storage n) ∙ sym (no_back (return_no storage n)) ∙ e
+pub return_answered : (storage : List ℕ) (n : ℕ) (r : Stored) (x : Refusal) → no_in_result (answer_by (return_no storage n)) ≡ some x → no_in_handed (returned_of storage n r) ≡ some x
+return_answered storage n r x e = return_back (return_no storage n) (record_at storage n) r ∙ sym (no_back (return_no storage n)) ∙ e
 
 pub keep_refuses : (r : Stored) (n : ℕ) (storage : List ℕ) → KeepRefuses r n storage
 keep_refuses r n storage = record {
@@ -94,6 +95,6 @@ keep_refuses r n storage = record {
 
 pub return_refuses : (r : Stored) (n : ℕ) (storage : List ℕ) → ReturnRefuses r n storage
 return_refuses r n storage = record {
-  only = λ q p e. (return_answers storage n (numbered q p)).0 (sym (return_back (return_no storage n) (record_at storage n)) ∙ e);
+  only = λ q p e. (return_answers storage n (numbered q p)).0 (sym (return_back (return_no storage n) (record_at storage n) r) ∙ e);
   always = λ q p f. let e = (return_answers storage n (numbered q p)).1 f in (rw (returned_of, e), return_leaves storage n r e);
 }

@@ -12,7 +12,7 @@ use Rattle.planner.specs.Advances.{advance_nights, advance_days}
 
 -- proofs/AssuranceLaws shows it: for storage of any content, any record kept and any record in hand at the return
 pub record AfterReturn (storage : List ℕ) (n : ℕ) (kept in_hand : Stored) (meanwhile : List Keeping) : Type 0 where
-  pub done : returned_of (kept_all meanwhile (kept_in storage n kept)) n ≡ Ok kept
+  pub done : returned_of (kept_all meanwhile (kept_in storage n kept)) n in_hand ≡ Ok kept
   pub nights : (file : List ℕ) (cs : List Call)
       → in_turn (advance_nights file) cs (returned_to (kept_all meanwhile (kept_in storage n kept)) n in_hand) ≡ in_turn (advance_nights file) cs kept
   pub days : (file nights : List ℕ) (cs : List Call)

@@ -12,7 +12,7 @@ ghost use Rattle.keeping.specs.Storage.{keep_no, kept_in, returned_of};
 
 use fields::Body;
 use fields::sizes::{NUMBERS, NURSES};
-pub use outcomes::{Advance, Verdict};
+pub use outcomes::{Advance, Refused, Verdict};
 use refusals::Refusal;
 use refusals::question::Question;
 pub use search::Ending;
@@ -47,7 +47,7 @@ fn check_letters(w: &Body, roster: &[u8]) -> Result<Verdict, Refusal>
     Ok(Verdict::Broken)
 }
 
-// Here and in the advances the ward is opened in the same two lines: a body handed on by `?` has no proof, and a closure not called says nothing of its buffer.
+// Here and in the advances the ward is opened in the same lines: a body handed on by `?` has no proof, and a closure not called says nothing of its buffer.
 // Whether a roster keeps the rules of a ward, or the first of questions 1 to 5 and 12 that is a no.
 pub fn check(file: &[u8], roster: &[u8]) -> Result<Verdict, Refusal>
     ensures { result ≡ check_says file.now roster.now }
@@ -65,12 +65,13 @@ pub fn advance_nights(
     k: u32,
     past: bool,
     buffer: &mut [u32],
-) -> Result<Advance, Refusal>
+) -> Result<Advance, Refused>
     ensures says { result ≡ advance_of (advance_nights file.now (call_of k past (length buffer.old)) rec) }
     ensures leaves { buffer.new ≡ night_left file.now rec k past buffer.old }
 {
     let mut numbers = [0u64; NUMBERS];
-    let count = ward::read_into(file, &mut numbers)?;
+    let read = ward::read_into(file, &mut numbers);
+    let count = outcomes::handed_back(read, &rec)?;
     nightadvance::advance_on(rec, &Body::of(&numbers[..count]), k, past, buffer)
 }
 
@@ -84,12 +85,13 @@ pub fn advance_days(
     k: u32,
     past: bool,
     buffer: &mut [u32],
-) -> Result<Advance, Refusal>
+) -> Result<Advance, Refused>
     ensures says { result ≡ advance_of (advance_days file.now nights.now (call_of k past (length buffer.old)) rec) }
     ensures leaves { buffer.new ≡ day_left file.now nights.now rec k past buffer.old }
 {
     let mut numbers = [0u64; NUMBERS];
-    let count = ward::read_into(file, &mut numbers)?;
+    let read = ward::read_into(file, &mut numbers);
+    let count = outcomes::handed_back(read, &rec)?;
     dayadvance::advance_on(rec, &Body::of(&numbers[..count]), nights, k, past, buffer)
 }
 
@@ -101,9 +103,9 @@ pub fn keep(rec: Record, number: u32, storage: &mut [u32]) -> Result<(), Refusal
     keeping::keep(rec, number, storage)
 }
 
-// The record that is kept under the number; or question 13.
-pub fn bring_back(number: u32, storage: &[u32]) -> Result<Record, Refusal>
-    ensures { result ≡ returned_of storage.now number }
+// The record that is kept under the number; or question 13, and the record in hand.
+pub fn bring_back(rec: Record, number: u32, storage: &[u32]) -> Result<Record, Refused>
+    ensures { result ≡ returned_of storage.now number rec }
 {
-    keeping::bring_back(number, storage)
+    keeping::bring_back(rec, number, storage)
 }

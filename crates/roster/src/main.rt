@@ -6,7 +6,7 @@ use fields::Body;
 use fields::sizes::{LETTERS, NUMBERS};
 use history::Search;
 use letters::written::Roster;
-use planner::{Advance, Ending};
+use planner::{Advance, Ending, Refused};
 use refusals::Refusal;
 use search::Record;
 use std::io;
@@ -54,14 +54,21 @@ fn days_of(file: &[u8]) -> Result<usize, Refusal> {
     Ok(Body::of(&numbers[..count]).days())
 }
 
+// The record that comes back is a fresh one here.
+fn refusal_of(x: Refused) -> Refusal {
+    x.refusal
+}
+
 fn planned(file: &[u8]) -> Result<Plan, Refusal> {
     let mut buffer = [0u32; 16384];
-    let nights = planner::advance_nights(Record::fresh(), file, 1000, false, &mut buffer)?;
+    let nights = planner::advance_nights(Record::fresh(), file, 1000, false, &mut buffer)
+        .map_err(refusal_of)?;
     if nights.ending != Ending::Zero {
         return Ok(left(Search::Nights, &nights));
     }
     let over = nights.after.patterns;
-    let days = planner::advance_days(Record::fresh(), file, &over, 1000, false, &mut buffer)?;
+    let days = planner::advance_days(Record::fresh(), file, &over, 1000, false, &mut buffer)
+        .map_err(refusal_of)?;
     if days.ending != Ending::Zero {
         return Ok(left(Search::Days, &days));
     }

@@ -3,30 +3,30 @@ use Rattle.numbers.proofs.MadeLaws.{made_zero}
 use Rattle.refusals.specs.Refusals.{refusal_in}
 use Rattle.nights.specs.Nights.{common_of}
 use Rattle.phases.specs.Phases.{night_phase}
-use Rattle.phases.proofs.ExitLaws.{exit_err}
 use Rattle.outcomes.specs.Outcomes.{roster_of}
-use Rattle.outcomes.proofs.OutcomeLaws.{roster_none, told_refused, told_advanced}
+use Rattle.outcomes.proofs.OutcomeLaws.{roster_none, asked_yes, told_exit, told_advanced}
 use Rattle.nightadvance.proofs.NightLaws.{clear, ready, night_letters}
 use Rattle.nightadvance.proofs.advance_on.Goals as goal
 
-pub returns-in_err-first_no : goal.returns-in_err-first_no
-returns-in_err-first_no c =
+pub returns-in_err-handed_back : goal.returns-in_err-handed_back
+returns-in_err-handed_back c =
     let s = c.args in
     let w = s.w.now.numbers.now in
-    let no = sym (c.first_no.ensures s.past) ∙ ap refusal_in c.in_err-first_no.was in
-    let told = told_refused (night_phase w) s.rec s.k s.past (common_of w) s.buffer.now c.in_err-first_no.field-0.0 no in
-    record { says = exit_err c.from_residual.ensures.1 ∙ told.0; leaves = told.1 }
+    let told = told_exit (night_phase w) s.rec s.k s.past (common_of w) s.buffer.now _ (c.first_no-asked.ensures s.past) c.handed_back.ensures c.in_err-handed_back.was c.from_residual.ensures.1 in
+    record { says = told.0; leaves = told.1 }
 
 pub fill-len-requires : goal.fill-len-requires
 fill-len-requires c =
     let s = c.args in
-    record { w_in_bounds = (clear s.w.now.numbers.now s.rec s.k (length s.buffer.now) s.past (c.first_no.ensures s.past) c.in_ok-first_no.was).room }
+    let yes = asked_yes _ _ c.handed_back.ensures c.in_ok-handed_back.was in
+    record { w_in_bounds = (clear s.w.now.numbers.now s.rec s.k (length s.buffer.now) s.past (c.first_no-asked.ensures s.past) yes).room }
 
 pub advance-x-requires : goal.advance-x-requires
 advance-x-requires c =
     let s = c.args in
     let w = s.w.now.numbers.now in
-    let go = ready w s.rec s.k (length s.buffer.now) s.past _ _ s.w.now.accepted (c.first_no.ensures s.past) c.in_ok-first_no.was c.fill-len.ensures.value c.fill-len.ensures.buf_after in
+    let yes = asked_yes _ _ c.handed_back.ensures c.in_ok-handed_back.was in
+    let go = ready w s.rec s.k (length s.buffer.now) s.past _ _ s.w.now.accepted (c.first_no-asked.ensures s.past) yes c.fill-len.ensures.value c.fill-len.ensures.buf_after in
     record { lists = (go.lists_are, go.steps_fit); served_sound = (night_phase w, go.seeks, go.sound) }
 
 pub returns : goal.returns
@@ -34,8 +34,9 @@ returns c =
     let s = c.args in
     let w = s.w.now.numbers.now in
     let phase = night_phase w in
-    let go = ready w s.rec s.k (length s.buffer.now) s.past [] _ s.w.now.accepted (c.first_no.ensures s.past) c.in_ok-first_no.was c.fill-len.ensures.value c.fill-len.ensures.buf_after in
+    let yes = asked_yes _ _ c.handed_back.ensures c.in_ok-handed_back.was in
+    let go = ready w s.rec s.k (length s.buffer.now) s.past [] _ s.w.now.accepted (c.first_no-asked.ensures s.past) yes c.fill-len.ensures.value c.fill-len.ensures.buf_after in
     let given = roster_none (made_zero _ c.default.ensures.0) c.default.ensures.1 ∙ ap roster_of (night_letters w c.advance-x.result) in
-    let told = told_advanced phase s.rec s.k s.past (common_of w) s.buffer.now c.advance-x.result (sym (c.first_no.ensures s.past) ∙ ap refusal_in c.in_ok-first_no.was)
+    let told = told_advanced phase s.rec s.k s.past (common_of w) s.buffer.now c.advance-x.result (sym (c.first_no-asked.ensures s.past) ∙ ap refusal_in yes)
     (c.advance-x.ensures phase go.seeks go.sound) (c.finished.ensures phase given) c.fill-len.ensures.buf_after in
     record { says = told.0; leaves = told.1 }

@@ -1,7 +1,7 @@
 use Rattle.std.proofs.Common.{ap, ◌∙◌}
 use Rattle.answerwords.specs.CodeAnswers.{result_words}
 use Rattle.outcomes.specs.declared.Advance.{Advance}
-use Rattle.refusals.specs.declared.Refusal.{Refusal}
+use Rattle.outcomes.specs.declared.Refused.{Refused}
 use Rattle.std.specs.declared.result.Result.{Result}
 use Rattle.pantheryl.specs.CodeAfter.{words_after, roster_after}
 use Rattle.pantheryl.proofs.AnswerLaws.{said_words, left_words, left_roster, roster_fits}
@@ -13,7 +13,7 @@ returns-clause-says c = rw (← c.record_of-rec.ensures, ← c.patterns_of-over.
 pub returns-clause-keeps : goal.returns-clause-keeps
 returns-clause-keeps c =
     rw (← c.record_of-rec.ensures, ← c.patterns_of-over.ensures, ← c.flag_of-beyond.ensures)
-    (c.put_record.ensures ∙ ap (λ (x : Result Advance Refusal). words_after x c.args.words.now) c.advance_days-advanced.ensures.says ∙ left_words _ c.args.words.now)
+    (c.put_record.ensures ∙ ap (λ (x : Result Advance Refused). words_after x c.args.words.now) c.advance_days-advanced.ensures.says ∙ left_words _ c.args.words.now)
 
 pub put_roster-requires : goal.put_roster-requires
 put_roster-requires c = roster_fits _ c.advance_days-advanced.ensures.says
@@ -21,4 +21,4 @@ put_roster-requires c = roster_fits _ c.advance_days-advanced.ensures.says
 pub returns-clause-gives : goal.returns-clause-gives
 returns-clause-gives c =
     rw (← c.record_of-rec.ensures, ← c.patterns_of-over.ensures, ← c.flag_of-beyond.ensures)
-    (c.put_roster.ensures ∙ ap (λ (x : Result Advance Refusal). roster_after x c.args.roster.now) c.advance_days-advanced.ensures.says ∙ left_roster _ c.args.roster.now)
+    (c.put_roster.ensures ∙ ap (λ (x : Result Advance Refused). roster_after x c.args.roster.now) c.advance_days-advanced.ensures.says ∙ left_roster _ c.args.roster.now)

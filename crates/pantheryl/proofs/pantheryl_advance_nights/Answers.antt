@@ -1,7 +1,7 @@
 use Rattle.std.proofs.Common.{ap, ◌∙◌}
 use Rattle.answerwords.specs.CodeAnswers.{result_words}
 use Rattle.outcomes.specs.declared.Advance.{Advance}
-use Rattle.refusals.specs.declared.Refusal.{Refusal}
+use Rattle.outcomes.specs.declared.Refused.{Refused}
 use Rattle.std.specs.declared.result.Result.{Result}
 use Rattle.pantheryl.specs.CodeAfter.{words_after}
 use Rattle.pantheryl.proofs.AnswerLaws.{said_words, left_words}
@@ -13,4 +13,4 @@ returns-clause-says c = rw (← c.record_of-rec.ensures, ← c.flag_of-beyond.en
 pub returns-clause-keeps : goal.returns-clause-keeps
 returns-clause-keeps c =
     rw (← c.record_of-rec.ensures, ← c.flag_of-beyond.ensures)
-    (c.put_record.ensures ∙ ap (λ (x : Result Advance Refusal). words_after x c.args.words.now) c.advance_nights-done.ensures.says ∙ left_words _ c.args.words.now)
+    (c.put_record.ensures ∙ ap (λ (x : Result Advance Refused). words_after x c.args.words.now) c.advance_nights-done.ensures.says ∙ left_words _ c.args.words.now)
