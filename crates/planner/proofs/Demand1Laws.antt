@@ -43,7 +43,7 @@ use Rattle.planner.specs.Advances.{advance_over, advance_nights, advance_days}
 use Rattle.planner.specs.Answers.{check_letters, check_over, check_says}
 use Rattle.planner.specs.Left.{list_of, night_left, lists_of, day_left}
 use Rattle.planner.specs.Faults.{StepsFault, NightsFault, CommonFault, ListsFault, PatternFault, RecordFault, LettersFault, night_questions, day_questions, check_questions, FileNo, in_file, in_call, WriterNo, in_numbers, in_buffer}
-use Rattle.planner.specs.Demand1.{Refuses, Bytes, no_in_result, no_in_handed, refused_by, handed_by, ReadRefuses, WriteRefuses, NightsRefuse, DaysRefuse, CheckRefuses, Demand1}
+use Rattle.planner.specs.Demand1.{Refuses, Bytes, no_in_result, no_in_handed, handed_by, ReadRefuses, WriteRefuses, NightsRefuse, DaysRefuse, CheckRefuses, Demand1}
 use Rattle.planner.proofs.LetterFaultLaws.{misplaced_fault, fault_misplaced}
 use Rattle.planner.proofs.KeepFaultLaws.{keep_refuses, return_refuses}
 

@@ -61,14 +61,21 @@ fn refusal_of(x: Refused) -> Refusal {
 
 fn planned(file: &[u8]) -> Result<Plan, Refusal> {
     let mut buffer = [0u32; 16384];
-    let nights = planner::advance_nights(Record::fresh(), file, 1000, false, &mut buffer)
-        .map_err(refusal_of)?;
+    let nights = planner::advance_nights(Record::fresh(), file, 1000, false, &mut buffer).map_err(
+        refusal_of,
+    )?;
     if nights.ending != Ending::Zero {
         return Ok(left(Search::Nights, &nights));
     }
     let over = nights.after.patterns;
-    let days = planner::advance_days(Record::fresh(), file, &over, 1000, false, &mut buffer)
-        .map_err(refusal_of)?;
+    let days = planner::advance_days(
+        Record::fresh(),
+        file,
+        &over,
+        1000,
+        false,
+        &mut buffer,
+    ).map_err(refusal_of)?;
     if days.ending != Ending::Zero {
         return Ok(left(Search::Days, &days));
     }
