@@ -1,17 +1,17 @@
 -- A record's words, written part by part from the first to the last.
-use Rattle.std.specs.Prelude.{ℕ, ◌+◌, ◌≤◌, ◌<◌, ◌≡◌, refl, List, [], ◌∷◌, ◌++◌, map, length, get_or, take, set}
-use Rattle.std.proofs.Common.{sym, ap, ap₂, ◌∙◌, append_assoc, arith, length-set, take_all, take-suc-set}
+use Rattle.std.specs.Prelude.{ℕ, zero, suc, ◌+◌, ◌*◌, ◌≤◌, ◌<◌, ◌≡◌, refl, List, [], ◌∷◌, ◌++◌, map, length, get_or, take, set}
+use Rattle.std.proofs.Common.{sym, ap, ap₂, ◌∙◌, append_assoc, arith, length-set, take_all, take-suc-set, length-append, length-take-le}
 use Rattle.std.proofs.Math.Seq.{paste}
 use Rattle.std.proofs.Math.ListN.{get_or-map}
-use Rattle.std.proofs.lemmas.List.{ext_get_or, length-map}
-use Rattle.std.proofs.lemmas.List.Edits.{take-paste}
-use Rattle.std.specs.Array.{IsFromFnResult, IsMapOf}
+use Rattle.std.proofs.lemmas.List.{length-map}
+use Rattle.std.proofs.lemmas.List.Edits.{paste_none, take-paste, paste-paste}
+use Rattle.std.specs.Array.{IsFromFnResult}
 use Rattle.std.specs.Fn.{Called}
-use Rattle.std.specs.List.{flat_map}
 use denote.Param.Members.{Mut}
 use Rattle.numbers.proofs.MadeLaws.{made}
 use Rattle.numbers.specs.Patterns.{days_of, pair_of}
 use Rattle.removals.specs.declared.Removal.{Removal as StoredRemoval}
+use Rattle.removals.specs.Removals.{no_removal}
 use Rattle.search.specs.declared.Record.{Record as Stored}
 use Rattle.fields.specs.Sizes.{nurse_places}
 use Rattle.search.specs.Stored.{Sized}
@@ -25,14 +25,6 @@ pub mapped :
     → ((i : ℕ) (y : B) (q : F) → i < m → Called g f (i, tt) y q → (q ≡ f) × (y ≡ h (get_or xs i z))) → IsFromFnResult g f ys m → length xs ≡ m → ys ≡ map h xs
 mapped h z xs {ys} gives r l =
     made ys (map h xs) (h z) (λ i y q k c. let t = gives i y q k c in (t.0, t.1 ∙ sym (get_or-map h xs i z))) r (length-map xs h ∙ l)
-
--- what an array's `map` gives, where each call gives h of its element
-pub mapped_by :
-    {F A B : Type 0} {g : Mut F (A × Unit {0}) B} {f : F} (h : A → B) (z : A) {xs : List A} {ys : List B} {n : ℕ}
-    → ((p : F) (x : A) (y : B) (q : F) → Called g p (x, tt) y q → y ≡ h x) → IsMapOf g f xs ys n → length xs ≡ n → ys ≡ map h xs
-mapped_by h z {xs} {ys} gives m l =
-    ext_get_or (h z) ys (map h xs) (m.long ∙ sym (length-map xs h ∙ l))
-    (λ i k. let c = m.at i z (h z) (omega (arith, m.long)) in gives c.0 _ _ c.1 c.2 ∙ sym (get_or-map h xs i z))
 
 -- the next part, after the words s
 next :
@@ -48,9 +40,45 @@ last words x t l =
     ∙ take-suc-set words steps_at x (omega arith)
     ∙ ap (λ (xs : List ℕ). xs ++ (x ∷ [])) t
 
-flat : (rs : List StoredRemoval) → flat_map (λ (xs : List ℕ). xs) (map words_of_removal rs) ≡ removal_words rs
-flat [] = refl
-flat (r ∷ rs) = ap (λ (xs : List ℕ). r.nurse ∷ flag_word r.has ∷ days_of r.pattern ∷ pair_of r.pattern ∷ xs) (flat rs)
+-- ---- the removals
+
+one_more : (rs : List StoredRemoval) (j : ℕ) → j < length rs → removal_words (take (suc j) rs) ≡ removal_words (take j rs) ++ words_of_removal (get_or rs j no_removal)
+one_more [] j h = absurd (omega arith)
+one_more (x ∷ rs) zero h = refl
+one_more (x ∷ rs) (suc j) h = ap (λ (xs : List ℕ). x.nurse ∷ flag_word x.has ∷ days_of x.pattern ∷ pair_of x.pattern ∷ xs) (one_more rs j (omega arith))
+
+-- one part more, after those from removals_at on
+pasted_on :
+    (old first part : List ℕ) {first' words words' : List ℕ} {at : ℕ} → words ≡ paste old removals_at first (length first) → words' ≡ paste words at part (length part)
+    → at ≡ removals_at + length first → removals_at ≤ length old → first' ≡ first ++ part → words' ≡ paste old removals_at first' (length first')
+pasted_on old first part w e a fits f =
+    e
+    ∙ ap₂ (λ (ws : List ℕ) (k : ℕ). paste ws k part (length part)) w a
+    ∙ paste-paste old removals_at first part (length first) (length part) refl refl fits
+    ∙ ap₂ (λ (s : List ℕ) (k : ℕ). paste old removals_at s k) (sym f) (sym (ap length f ∙ length-append first part))
+
+-- the words of the first j removals are written
+abbrev pub RemovalsTo : List StoredRemoval → List ℕ → List ℕ → ℕ → Type 0
+RemovalsTo rs old words j = words ≡ paste old removals_at (removal_words (take j rs)) (length (removal_words (take j rs)))
+
+pub removals_none : (rs : List StoredRemoval) (old : List ℕ) → RemovalsTo rs old old 0
+removals_none rs old = paste_none old removals_at []
+
+module _ (rs : List StoredRemoval) (old words : List ℕ) {j : ℕ} where
+  pub removals_more :
+      {words' part : List ℕ} {m : ℕ} → RemovalsTo rs old words j → length old ≡ record_words → j < length rs → m ≡ j + 1
+      → part ≡ words_of_removal (get_or rs j no_removal) → words' ≡ paste words (removals_at + j * 4) part (length part) → RemovalsTo rs old words' m
+  removals_more {words'} {part} {m} w l h is p e =
+      let a = removal_words_long (take j rs) in
+      let b = length-take-le j rs (omega (arith, h)) in
+      let on : m ≡ suc j = omega (arith, is) in
+      pasted_on old (removal_words (take j rs)) part w e (omega (arith, a, b)) (omega (arith, l))
+      (ap (λ (k : ℕ). removal_words (take k rs)) on ∙ one_more rs j h ∙ ap (λ (ps : List ℕ). removal_words (take j rs) ++ ps) (sym p))
+
+  pub removals_all : RemovalsTo rs old words j → length rs ≤ j → words ≡ paste old removals_at (removal_words rs) (length (removal_words rs))
+  removals_all w h = w ∙ ap (λ (xs : List StoredRemoval). paste old removals_at (removal_words xs) (length (removal_words xs))) (take_all j rs h)
+
+-- ---- all parts
 
 joined : (a b c d e : List ℕ) → (((a ++ b) ++ c) ++ d) ++ e ≡ a ++ (b ++ (c ++ (d ++ e)))
 joined a b c d e = append_assoc ((a ++ b) ++ c) d e ∙ append_assoc (a ++ b) c (d ++ e) ∙ append_assoc a b (c ++ (d ++ e))
@@ -61,22 +89,18 @@ module _ (r : Stored) (z : Sized r) where
 
   -- w0 has no words yet, and w1 to w4 have one part more each
   pub written :
-      (w0 w1 w2 w3 w4 days pairs flags removals : List ℕ) {fours : List (List ℕ)}
+      (w0 w1 w2 w3 w4 days pairs flags : List ℕ)
       → length w0 ≡ record_words → length w1 ≡ record_words → length w2 ≡ record_words → length w3 ≡ record_words → length w4 ≡ record_words
       → w1 ≡ paste w0 0 days (length days) → w2 ≡ paste w1 pairs_at pairs (length pairs)
-      → w3 ≡ paste w2 flags_at flags (length flags) → w4 ≡ paste w3 removals_at removals (length removals)
+      → w3 ≡ paste w2 flags_at flags (length flags) → w4 ≡ paste w3 removals_at (removal_words r.removals) (length (removal_words r.removals))
       → days ≡ map days_of r.patterns → pairs ≡ map pair_of r.patterns → flags ≡ map flag_word r.placed
-      → removals ≡ flat_map (λ (xs : List ℕ). xs) fours → fours ≡ map words_of_removal r.removals
       → set w4 steps_at r.steps ≡ words_of_record r
   unfolding words_of_record
-  written w0 w1 w2 w3 w4 days pairs flags removals l0 l1 l2 l3 l4 e1 e2 e3 e4 d p f m q =
+  written w0 w1 w2 w3 w4 days pairs flags l0 l1 l2 l3 l4 e1 e2 e3 e4 d p f =
       last w4 r.steps fourth l4
-      ∙ joined days pairs flags removals (r.steps ∷ [])
-      ∙ rw (d, p, f, all) refl
+      ∙ joined days pairs flags (removal_words r.removals) (r.steps ∷ [])
+      ∙ rw (d, p, f) refl
     where
-      all : removals ≡ removal_words r.removals
-      all = m ∙ ap (flat_map (λ (xs : List ℕ). xs)) q ∙ flat r.removals
-
       ld : length days ≡ nurse_places
       ld = ap length d ∙ length-map r.patterns days_of ∙ z.patterns_long
 
@@ -85,9 +109,6 @@ module _ (r : Stored) (z : Sized r) where
 
       lf : length flags ≡ nurse_places
       lf = ap length f ∙ length-map r.placed flag_word ∙ z.placed_long
-
-      lm : length removals ≡ 256
-      lm = ap length all ∙ removals_long
 
       first : take pairs_at w1 ≡ days
       first = next w0 days 0 pairs_at refl e1 (omega (arith, l0, ld)) (omega (arith, ld))
@@ -98,5 +119,5 @@ module _ (r : Stored) (z : Sized r) where
       third : take removals_at w3 ≡ (days ++ pairs) ++ flags
       third = next w2 flags flags_at removals_at second e3 (omega (arith, l2, lf)) (omega (arith, lf))
 
-      fourth : take steps_at w4 ≡ ((days ++ pairs) ++ flags) ++ removals
-      fourth = next w3 removals removals_at steps_at third e4 (omega (arith, l3, lm)) (omega (arith, lm))
+      fourth : take steps_at w4 ≡ ((days ++ pairs) ++ flags) ++ removal_words r.removals
+      fourth = next w3 (removal_words r.removals) removals_at steps_at third e4 (omega (arith, l3, removals_long)) (omega (arith, removals_long))

@@ -5,7 +5,8 @@ ghost use Rattle.std.specs.Prelude.{◌≡◌, ℕ, List, map, ◌+◌, ◌≤�
 ghost use Rattle.std.proofs.Math.Seq.{paste};
 ghost use Rattle.fields.specs.Sizes.{nurse_places, removal_places};
 ghost use Rattle.numbers.specs.Range.{up_from};
-ghost use Rattle.recordwords.specs.Words.{pattern_words, pairs_at, flags_at, removals_at, steps_at, record_words, patterns_of_words, flag_of, removal_at, record_of_words, words_of_record};
+ghost use Rattle.numbers.specs.Patterns.{days_of, pair_of};
+ghost use Rattle.recordwords.specs.Words.{pattern_words, pairs_at, flags_at, removals_at, steps_at, record_words, patterns_of_words, flag_of, removal_at, record_of_words, flag_word, removal_words, words_of_record};
 ghost use Rattle.recordwords.specs.CodeWords.{removal_from, words_of_removal};
 
 use fields::sizes::{NURSES, REMOVALS};
@@ -98,20 +99,42 @@ fn put_part(words: &mut [u32; WORDS], at: usize, part: &[u32])
     words[at..at + part.len()].copy_from_slice(part);
 }
 
-// Everyone's sets of days, everyone's pairs, who is placed, the removals, and the steps. All but the removals by `from_fn`, which takes half of
-// `map`'s time; theirs got no proof so.
+fn days_words(patterns: &[u64; NURSES]) -> [u32; NURSES]
+    ensures { result ≡ map days_of patterns.now }
+{
+    array::from_fn(|i| pattern::days_of(patterns[i]))
+}
+
+fn pair_words(patterns: &[u64; NURSES]) -> [u32; NURSES]
+    ensures { result ≡ map pair_of patterns.now }
+{
+    array::from_fn(|i| pattern::pair_of(patterns[i]))
+}
+
+fn flag_words(placed: &[bool; NURSES]) -> [u32; NURSES]
+    ensures { result ≡ map flag_word placed.now }
+{
+    array::from_fn(|i| u32::from(placed[i]))
+}
+
+// The removals' words go straight to their place: an array of them, made by `map`, is copied several times before it gets there.
+fn put_removals(words: &mut [u32; WORDS], removals: &[Removal; REMOVALS])
+    ensures { words.new ≡ paste words.old removals_at (removal_words removals.now) (length (removal_words removals.now)) }
+{
+    for (j, x) in removals.iter().enumerate() {
+        put_part(words, REMOVALS_AT + j * 4, &words_of_removal(*x));
+    }
+}
+
+// Everyone's sets of days, everyone's pairs, who is placed, the removals, and the steps, each put as soon as it is made.
 pub fn words_of(rec: Record) -> [u32; WORDS]
     ensures { result ≡ words_of_record rec }
 {
-    let days: [u32; NURSES] = array::from_fn(|i| pattern::days_of(rec.patterns[i]));
-    let pairs: [u32; NURSES] = array::from_fn(|i| pattern::pair_of(rec.patterns[i]));
-    let flags: [u32; NURSES] = array::from_fn(|i| u32::from(rec.placed[i]));
-    let removals = rec.removals.map(words_of_removal);
     let mut words = [0u32; WORDS];
-    put_part(&mut words, 0, &days);
-    put_part(&mut words, NURSES, &pairs);
-    put_part(&mut words, PATTERNS, &flags);
-    put_part(&mut words, REMOVALS_AT, removals.as_flattened());
+    put_part(&mut words, 0, &days_words(&rec.patterns));
+    put_part(&mut words, NURSES, &pair_words(&rec.patterns));
+    put_part(&mut words, PATTERNS, &flag_words(&rec.placed));
+    put_removals(&mut words, &rec.removals);
     words[STEPS_AT] = rec.steps;
     words
 }
