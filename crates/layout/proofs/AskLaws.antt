@@ -1,6 +1,6 @@
 -- What `failed_by` is at the returns of `ask`.
 use Rattle.std.specs.Prelude.{ℕ, ◌≤◌, ◌<◌, ◌≡◌, refl, Bool, true, false, not, cond, eqb, ltb}
-use Rattle.std.proofs.Common.{le-ltb, lt-ltb, ltb-false}
+use Rattle.std.proofs.Common.{ap₂, le-ltb, lt-ltb, ltb-false}
 use Rattle.std.proofs.Math.Bool.{beq}
 use Rattle.std.specs.declared.option.Option.TheVariants.{None, Some}
 use Rattle.layout.specs.declared.Field.{Field}
@@ -30,3 +30,7 @@ module _ (f : Field) (v : ℕ) where
         same true false = refl
         same false true = refl
         same false false = refl
+
+    -- the same by what is asked of each of the two
+    pub duty_by : (d : ℕ) (x y : Bool) → f.after ≡ Some d → eqb d 2 ≡ x → eqb v 3 ≡ y → cond (not (beq x y)) 4 0 ≡ failed_by f v
+    duty_by d x y e p q = duty_asked d (not (beq x y)) e (ap₂ (λ a b. not (beq a b)) p q)

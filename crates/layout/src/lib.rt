@@ -91,12 +91,11 @@ pub fn ask(f: Field, v: u64) -> Result<(), Question>
     if !(f.least..=f.most).contains(&v) {
         return Err(Question::Range);
     }
-    if let Some(duty) = f.after {
-        if (duty == 2) != (v == 3) {
-            return Err(Question::Duty);
-        }
+    match f.after {
+        Some(2) => { if v == 3 { Ok(()) } else { Err(Question::Duty) } }
+        Some(_) => { if v == 3 { Err(Question::Duty) } else { Ok(()) } }
+        None => Ok(()),
     }
-    Ok(())
 }
 
 fn range(least: u64, most: u64) -> Option<Field>
