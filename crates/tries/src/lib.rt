@@ -37,9 +37,16 @@ impl Trials<'_> {
         self.tried.in_all(self.table.trial(starts))
     }
 
+    // Whether none that is barred for her is this pattern, its days and its pair.
+    #[inline]
+    fn allows(&self, pattern: u64) -> bool
+        ensures { result ≡ allowed_by self.now.tried.now.barred.now pattern }
+    {
+        !self.tried.barred.iter().any(|x| *x == pattern)
+    }
+
     // The best with one exchange more, which counts if the pattern is not barred.
     // `improves` first: few exchanges pass that, and only for those the barred patterns are looked through.
-    #[tactic(auto, using(numbers::proofs::IterLaws::any_is))]
     #[inline]
     pub(crate) fn consider(
         &self,
@@ -52,7 +59,7 @@ impl Trials<'_> {
         if !best::improves(best, cost) {
             return best;
         }
-        if self.tried.barred.contains(&pattern) {
+        if !self.allows(pattern) {
             return best;
         }
         Some(Exchange {
