@@ -48,6 +48,13 @@ pub finished_as : (P : Phase) (x : Advanced) {roster : Roster} → roster ≡ ro
 unfolding advance_of
 finished_as P x q = ap₂ (λ (y : Ending) (z : Roster). Ok (record { after = x.after; penalty = x.penalty; steps = x.steps; ending = y; roster = z })) (ending_back x.ending) q
 
+-- the same by its parts: the ending, the letters and their count
+pub finished_by : (P : Phase) (x : Advanced) {roster r : Roster} {e : Ending} → roster ≡ roster_of (letters_of (answer_of P x)) → e ≡ x.ending → r.letters ≡ roster.letters → r.count ≡ roster.count
+    → Ok (record { after = x.after; penalty = x.penalty; steps = x.steps; ending = e; roster = r }) ≡ advance_of (answer_of P x, x.after)
+finished_by P x {roster} {r} {e} q f l n =
+    let same : r ≡ roster = ap₂ (λ (l : List ℕ) (n : ℕ). record { letters = l; count = n }) l n in
+    ap₂ (λ (y : Ending) (z : Roster). Ok (record { after = x.after; penalty = x.penalty; steps = x.steps; ending = y; roster = z })) f same ∙ finished_as P x q
+
 -- a roster of no letters
 pub roster_none : {r : Roster} → r.letters ≡ replicate letter_places 0 → r.count ≡ 0 → r ≡ roster_of []
 unfolding roster_of

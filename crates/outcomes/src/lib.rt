@@ -50,6 +50,7 @@ pub fn handed_back<T>(asked: Result<T, Refusal>, in_hand: &Record) -> Result<T, 
 }
 
 // What an advance that ran comes to, with the roster that it gives out.
+#[tactic(auto, using(crate::proofs::OutcomeLaws::finished_by))]
 pub fn finished(x: Advanced, roster: Roster) -> Advance
     ensures { (P : Phase) → roster ≡ roster_of (letters_of (answer_of P x)) → Ok result ≡ advance_of (answer_of P x, x.after) }
 {
