@@ -7,7 +7,7 @@ ghost use Rattle.answerwords.specs.AnswerWords.{refusal_words, counted_words, ch
 ghost use Rattle.answerwords.specs.CodeAnswers.{result_words};
 
 use fields::sizes::LETTERS;
-use outcomes::{Advance, Refused, Verdict};
+use outcomes::{Advance, Verdict};
 use refusals::Refusal;
 use search::Ending;
 
@@ -28,11 +28,11 @@ pub fn count_words(counted: Result<u64, Refusal>) -> [u64; 6]
 }
 
 // An advance's. The ends' numbers are C's, said here alone, where the words are made, as are the check's below.
-pub fn advance_words(done: &Result<Advance, Refused>) -> [u64; 6]
+pub fn advance_words(done: &Result<Advance, Refusal>) -> [u64; 6]
     ensures { result ≡ result_words done.now }
 {
     match done {
-        Err(x) => refusal_words(x.refusal),
+        Err(n) => refusal_words(*n),
         Ok(x) => {
             let end = match x.ending {
                 Ending::Zero => 1,

@@ -1,6 +1,6 @@
 -- The words that are written are those of the planner's answers.
 use Rattle.std.specs.Prelude.{ℕ, ◌-◌, ◌≡◌, refl, Bool, true, false, cond, List, ◌++◌, length, drop, replicate}
-use Rattle.std.proofs.Common.{sym, ap, subst, arith, length-append, take_at}
+use Rattle.std.proofs.Common.{sym, ap, ◌∙◌, subst, arith, length-append, take_at}
 use Rattle.std.proofs.Math.Option.{Option, none, some}
 use Rattle.std.specs.declared.result.Result.{Result}
 use Rattle.std.specs.declared.result.Result.TheVariants.{Ok, Err}
@@ -17,38 +17,52 @@ use Rattle.outcomes.specs.declared.Refused.{Refused}
 use Rattle.recordwords.specs.Words.{words_of_record}
 use Rattle.answerwords.specs.AnswerWords.{count_words, advance_words}
 use Rattle.answerwords.specs.CodeAnswers.{result_words}
-use Rattle.pantheryl.specs.CodeAfter.{words_after, CountFits, roster_after, RosterFits}
+use Rattle.pantheryl.specs.CodeAfter.{refusal_alone, words_after, CountFits, roster_after, RosterFits}
 use Rattle.pantheryl.specs.Answers.{words_left, roster_left, returned_words}
 
 -- ---- the advances: what the code gives of an advance's answer is what the contracts say of it
 
-pub said_words : (a : Answer × Stored) → result_words (advance_of a) ≡ advance_words a.0
+pub said_words : (a : Answer × Stored) → result_words (refusal_alone (advance_of a)) ≡ advance_words a.0
 unfolding advance_of roster_of advance_words
 said_words (refused n, r) = refl
 said_words (ended end_zero made penalty letters, r) = refl
 said_words (ended end_asked made penalty letters, r) = refl
 said_words (ended end_none made penalty letters, r) = refl
 
-pub left_words : (a : Answer × Stored) (before : List ℕ) → words_after (advance_of a) before ≡ words_left a before
+left_words_of : (a : Answer × Stored) (before : List ℕ) → words_after (refusal_alone (advance_of a)) before ≡ words_left a before
 unfolding advance_of words_left
-left_words (refused n, r) before = refl
-left_words (ended e made penalty letters, r) before = refl
+left_words_of (refused n, r) before = refl
+left_words_of (ended e made penalty letters, r) before = refl
 
-pub left_roster : (a : Answer × Stored) (before : List ℕ) → roster_after (advance_of a) before ≡ roster_left a.0 before
+left_roster_of : (a : Answer × Stored) (before : List ℕ) → roster_after (refusal_alone (advance_of a)) before ≡ roster_left a.0 before
 unfolding advance_of roster_of roster_left
-left_roster (refused n, r) before = refl
-left_roster (ended e made penalty letters, r) before =
+left_roster_of (refused n, r) before = refl
+left_roster_of (ended e made penalty letters, r) before =
     ap (λ (t : List ℕ). t ++ drop (length letters) before) (take_at letters (replicate (letter_places - length letters) 0) (length letters) refl)
 
-roster_fits_of : (a : Answer × Stored) → RosterFits (advance_of a)
+roster_fits_of : (a : Answer × Stored) → RosterFits (refusal_alone (advance_of a))
 unfolding RosterFits advance_of roster_of
 roster_fits_of (refused n, r) = tt
 roster_fits_of (ended e made penalty letters, r) = λ long. omega (arith, length-append letters (replicate (letter_places - length letters) 0))
 
-pub roster_fits : (a : Answer × Stored) {x : Result Advance Refused} → x ≡ advance_of a → RosterFits x
-roster_fits a e = subst RosterFits (sym e) (roster_fits_of a)
+-- the same of the result as a call has it, its refusal alone
+module _ (a : Answer × Stored) {x : Result Advance Refused} {y : Result Advance Refusal} (is : x ≡ advance_of a) (alone : y ≡ refusal_alone x) where
+  alone_of : y ≡ refusal_alone (advance_of a)
+  alone_of = alone ∙ ap refusal_alone is
 
-pub count_fits : {r : Result Advance Refused} {x : Advance} → RosterFits r → r ≡ Ok x → CountFits x.roster
+  pub told_words : {w : List ℕ} → w ≡ result_words y → w ≡ advance_words a.0
+  told_words e = e ∙ ap result_words alone_of ∙ said_words a
+
+  pub left_words : {w : List ℕ} (before : List ℕ) → w ≡ words_after y before → w ≡ words_left a before
+  left_words before e = e ∙ ap (λ (z : Result Advance Refusal). words_after z before) alone_of ∙ left_words_of a before
+
+  pub left_roster : {w : List ℕ} (before : List ℕ) → w ≡ roster_after y before → w ≡ roster_left a.0 before
+  left_roster before e = e ∙ ap (λ (z : Result Advance Refusal). roster_after z before) alone_of ∙ left_roster_of a before
+
+  pub roster_fits : RosterFits y
+  roster_fits = subst RosterFits (sym alone_of) (roster_fits_of a)
+
+pub count_fits : {r : Result Advance Refusal} {x : Advance} → RosterFits r → r ≡ Ok x → CountFits x.roster
 unfolding RosterFits
 count_fits f e = subst RosterFits e f
 

@@ -3,12 +3,18 @@ use Rattle.std.specs.Prelude.{ℕ, ◌≡◌, ◌≤◌, List, ◌++◌, length,
 use Rattle.std.specs.declared.result.Result.{Result}
 use Rattle.std.specs.declared.result.Result.TheVariants.{Ok, Err}
 use Rattle.fields.specs.Sizes.{letter_places}
+use Rattle.refusals.specs.declared.Refusal.{Refusal}
 use Rattle.letters.specs.declared.written.Roster.{Roster}
 use Rattle.outcomes.specs.declared.Advance.{Advance}
 use Rattle.outcomes.specs.declared.Refused.{Refused}
 use Rattle.recordwords.specs.Words.{words_of_record}
 
-abbrev pub words_after : Result Advance Refused → List ℕ → List ℕ
+-- an advance's result with its refusal alone
+abbrev pub refusal_alone : Result Advance Refused → Result Advance Refusal
+refusal_alone (Err x) = Err x.refusal
+refusal_alone (Ok x) = Ok x
+
+abbrev pub words_after : Result Advance Refusal → List ℕ → List ℕ
 words_after (Err n) before = before
 words_after (Ok x) before = words_of_record x.after
 
@@ -19,9 +25,9 @@ CountFits given = length given.letters ≡ letter_places → given.count ≤ let
 abbrev pub roster_with : Roster → List ℕ → List ℕ
 roster_with given before = take given.count given.letters ++ drop given.count before
 
-abbrev pub roster_after : Result Advance Refused → List ℕ → List ℕ
+abbrev pub roster_after : Result Advance Refusal → List ℕ → List ℕ
 roster_after (Err n) before = before
 roster_after (Ok x) before = roster_with x.roster before
 
-unfoldable pub RosterFits : Result Advance Refused → Type 0
+unfoldable pub RosterFits : Result Advance Refusal → Type 0
 RosterFits r = IfOk r (λ x. CountFits x.roster)

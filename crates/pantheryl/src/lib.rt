@@ -14,12 +14,13 @@ ghost use Rattle.pantheryl.specs.Answers.{read_words, numbers_left, ward_of, wri
 
 use fields::sizes::{LETTERS, NUMBERS};
 use letters::written::Roster;
-use planner::{Advance, Refused};
+use planner::Advance;
 use recordwords::{PATTERNS, WORDS};
+use refusals::Refusal;
 use ward::Ward;
 
 // The words of the record after an advance; a refused one leaves them.
-fn put_record(words: &mut [u32; WORDS], done: &Result<Advance, Refused>)
+fn put_record(words: &mut [u32; WORDS], done: &Result<Advance, Refusal>)
     ensures { words.new ≡ words_after done.now words.old }
 {
     if let Ok(x) = done {
@@ -36,7 +37,7 @@ fn put_given(roster: &mut [u8; LETTERS], given: Roster)
 }
 
 // The letters that an advance gives out; a refused one leaves the roster.
-fn put_roster(roster: &mut [u8; LETTERS], done: &Result<Advance, Refused>)
+fn put_roster(roster: &mut [u8; LETTERS], done: &Result<Advance, Refusal>)
     requires { RosterFits done.now }
     ensures { roster.new ≡ roster_after done.now roster.old }
 {
@@ -100,6 +101,8 @@ pub extern "C" fn pantheryl_advance_nights(
     let rec = recordwords::record_of(before);
     let beyond = recordwords::flag_of(past);
     let done = planner::advance_nights(rec, file, k, beyond, buffer);
+    // The record in hand stands in the words still.
+    let done = done.map_err(|no| no.refusal);
     *answer = answerwords::advance_words(&done);
     put_record(words, &done);
 }
@@ -126,6 +129,7 @@ pub extern "C" fn pantheryl_advance_days(
     let over = recordwords::patterns_of(nights);
     let beyond = recordwords::flag_of(past);
     let advanced = planner::advance_days(rec, file, &over, k, beyond, buffer);
+    let advanced = advanced.map_err(|no| no.refusal);
     *answer = answerwords::advance_words(&advanced);
     put_roster(roster, &advanced);
     put_record(words, &advanced);

@@ -1,16 +1,11 @@
-use Rattle.std.proofs.Common.{ap, ◌∙◌}
-use Rattle.answerwords.specs.CodeAnswers.{result_words}
-use Rattle.outcomes.specs.declared.Advance.{Advance}
-use Rattle.outcomes.specs.declared.Refused.{Refused}
-use Rattle.std.specs.declared.result.Result.{Result}
-use Rattle.pantheryl.specs.CodeAfter.{words_after}
-use Rattle.pantheryl.proofs.AnswerLaws.{said_words, left_words}
+use Rattle.std.proofs.Common.{rules, ◌∙◌}
+use Rattle.pantheryl.proofs.AnswerLaws.{told_words, left_words}
 use Rattle.pantheryl.proofs.pantheryl_advance_nights.Goals as goal
 
 pub returns-clause-says : goal.returns-clause-says
-returns-clause-says c = rw (← c.record_of-rec.ensures, ← c.flag_of-beyond.ensures) (c.advance_words.ensures ∙ ap result_words c.advance_nights-done.ensures.says ∙ said_words _)
+returns-clause-says c =
+    rw (← c.record_of-rec.ensures, ← c.flag_of-beyond.ensures) (search rules ∙ told_words _ c.advance_nights-done.ensures.says (search rules) c.advance_words.ensures)
 
 pub returns-clause-keeps : goal.returns-clause-keeps
 returns-clause-keeps c =
-    rw (← c.record_of-rec.ensures, ← c.flag_of-beyond.ensures)
-    (c.put_record.ensures ∙ ap (λ (x : Result Advance Refused). words_after x c.args.words.now) c.advance_nights-done.ensures.says ∙ left_words _ c.args.words.now)
+    rw (← c.record_of-rec.ensures, ← c.flag_of-beyond.ensures) (left_words _ c.advance_nights-done.ensures.says (search rules) c.args.words.now c.put_record.ensures)
