@@ -47,7 +47,7 @@ fn check_letters(w: &Body, roster: &[u8]) -> Result<Verdict, Refusal>
     Ok(Verdict::Broken)
 }
 
-// Here and in the advances the ward is opened in the same lines: a body handed on by `?` has no proof, and a closure not called says nothing of its buffer.
+// Here and in the advances the ward is opened in lines of their own: a body handed on by `?` has no proof, and a closure not called says nothing of its buffer.
 // Whether a roster keeps the rules of a ward, or the first of questions 1 to 5 and 12 that is a no.
 pub fn check(file: &[u8], roster: &[u8]) -> Result<Verdict, Refusal>
     ensures { result ≡ check_says file.now roster.now }
@@ -70,8 +70,8 @@ pub fn advance_nights(
     ensures leaves { buffer.new ≡ night_left file.now rec k past buffer.old }
 {
     let mut numbers = [0u64; NUMBERS];
-    let read = ward::read_into(file, &mut numbers);
-    let count = outcomes::handed_back(read, &rec)?;
+    let asked = ward::read_into(file, &mut numbers);
+    let count = outcomes::handed_back(asked, &rec)?;
     nightadvance::advance_on(rec, &Body::of(&numbers[..count]), k, past, buffer)
 }
 

@@ -159,11 +159,11 @@ module _ (file numbers : List ℕ) (count at : ℕ) (g : Grammar) (so : So file 
     failed x = said_no file numbers (so.same ∙ ap (prepend (take count numbers)) (refused (decode left) (ap decode (sym left_is)) x))
 
   module _ {next : Option Field} (is : next ≡ wanted g) (none : next ≡ None) where
-    over-here : wanted g ≡ None
-    over-here = sym is ∙ none
+    over_here : wanted g ≡ None
+    over_here = sym is ∙ none
 
     pub extra : at < length file → Lent file numbers (Err (numbered question.end at))
-    extra h = said_no file numbers (so.same ∙ ap (prepend (take count numbers)) (read_extra g at (drop at file) over-here (omega (arith, length-drop at file))))
+    extra h = said_no file numbers (so.same ∙ ap (prepend (take count numbers)) (read_extra g at (drop at file) over_here (omega (arith, length-drop at file))))
 
     pub whole : length file ≤ at → Lent file numbers (Ok count)
     unfolding reading_of
@@ -172,7 +172,7 @@ module _ (file numbers : List ℕ) (count at : ℕ) (g : Grammar) (so : So file 
         ∙ (λ i. Ok (record { numbers = filled i; count = sized i }))))
       where
         over : read g at (drop at file) ≡ good []
-        over = read_over g at (drop at file) over-here (omega (arith, length-drop at file))
+        over = read_over g at (drop at file) over_here (omega (arith, length-drop at file))
 
         sized : length (take count numbers) ≡ count
         sized = length-take-le count numbers (omega (arith, so.long, so.counted))

@@ -13,13 +13,13 @@ unfolding night_left
 returns-in_err-count c =
     let s = c.args in
     let back = exit_handed _ _ c.handed_back.ensures c.in_err-count.was c.from_residual.ensures.1 in
-    let told = file_refused night_phase list_of s.file.now s.rec s.k s.past s.buffer.now (lent_bad s.file.now (sym back.0 ∙ c.read_into-read.ensures.says)) in
+    let told = file_refused night_phase list_of s.file.now s.rec s.k s.past s.buffer.now (lent_bad s.file.now (sym back.0 ∙ c.read_into-asked.ensures.says)) in
     record { says = back.1 ∙ told.0; leaves = told.1 }
 
 pub returns : goal.returns
 unfolding night_left
 returns c =
     let s = c.args in
-    let reading = lent_reading s.file.now _ (sym (asked_yes _ _ c.handed_back.ensures c.in_ok-count.was) ∙ c.read_into-read.ensures.says, c.read_into-read.ensures.leaves) in
+    let reading = lent_reading s.file.now _ (sym (asked_yes _ _ c.handed_back.ensures c.in_ok-count.was) ∙ c.read_into-asked.ensures.says, c.read_into-asked.ensures.leaves) in
     let told = file_advanced night_phase list_of s.file.now s.rec s.k s.past s.buffer.now common_of (λ ws. refl) (reading_good s.file.now _ reading) c.of.ensures (c.advance_on.ensures.says, c.advance_on.ensures.leaves) in
     record { says = told.0; leaves = told.1 }
