@@ -17,10 +17,15 @@ use Rattle.outcomes.specs.declared.Refused.{Refused}
 use Rattle.recordwords.specs.Words.{words_of_record}
 use Rattle.answerwords.specs.AnswerWords.{count_words, advance_words}
 use Rattle.answerwords.specs.CodeAnswers.{result_words}
-use Rattle.pantheryl.specs.CodeAfter.{refusal_alone, words_after, CountFits, roster_after, RosterFits}
+use Rattle.pantheryl.specs.CodeAfter.{words_after, CountFits, roster_after, RosterFits}
 use Rattle.pantheryl.specs.Answers.{words_left, roster_left, returned_words}
 
 -- ---- the advances: what the code gives of an advance's answer is what the contracts say of it
+
+-- an advance's result with its refusal alone
+abbrev pub refusal_alone : Result Advance Refused → Result Advance Refusal
+refusal_alone (Err x) = Err x.refusal
+refusal_alone (Ok x) = Ok x
 
 pub said_words : (a : Answer × Stored) → result_words (refusal_alone (advance_of a)) ≡ advance_words a.0
 unfolding advance_of roster_of advance_words

@@ -6,13 +6,7 @@ use Rattle.fields.specs.Sizes.{letter_places}
 use Rattle.refusals.specs.declared.Refusal.{Refusal}
 use Rattle.letters.specs.declared.written.Roster.{Roster}
 use Rattle.outcomes.specs.declared.Advance.{Advance}
-use Rattle.outcomes.specs.declared.Refused.{Refused}
 use Rattle.recordwords.specs.Words.{words_of_record}
-
--- an advance's result with its refusal alone
-abbrev pub refusal_alone : Result Advance Refused → Result Advance Refusal
-refusal_alone (Err x) = Err x.refusal
-refusal_alone (Ok x) = Ok x
 
 abbrev pub words_after : Result Advance Refusal → List ℕ → List ℕ
 words_after (Err n) before = before

@@ -101,8 +101,8 @@ pub extern "C" fn pantheryl_advance_nights(
     let rec = recordwords::record_of(before);
     let beyond = recordwords::flag_of(past);
     let done = planner::advance_nights(rec, file, k, beyond, buffer);
-    // The record in hand stands in the words still.
-    let done = done.map_err(|no| no.refusal);
+    // A refused call's record stands in the words still.
+    let done = done.map_err(|x| x.refusal);
     *answer = answerwords::advance_words(&done);
     put_record(words, &done);
 }
@@ -129,7 +129,8 @@ pub extern "C" fn pantheryl_advance_days(
     let over = recordwords::patterns_of(nights);
     let beyond = recordwords::flag_of(past);
     let advanced = planner::advance_days(rec, file, &over, k, beyond, buffer);
-    let advanced = advanced.map_err(|no| no.refusal);
+    // As by night.
+    let advanced = advanced.map_err(|x| x.refusal);
     *answer = answerwords::advance_words(&advanced);
     put_roster(roster, &advanced);
     put_record(words, &advanced);

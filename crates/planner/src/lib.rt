@@ -47,7 +47,7 @@ fn check_letters(w: &Body, roster: &[u8]) -> Result<Verdict, Refusal>
     Ok(Verdict::Broken)
 }
 
-// Here and in the advances the ward is opened in lines of their own: a body handed on by `?` has no proof, and a closure not called says nothing of its buffer.
+// Here and in the advances the ward is opened, and by no function that they share: a body handed on by `?` has no proof, and a closure not called says nothing of its buffer.
 // Whether a roster keeps the rules of a ward, or the first of questions 1 to 5 and 12 that is a no.
 pub fn check(file: &[u8], roster: &[u8]) -> Result<Verdict, Refusal>
     ensures { result ≡ check_says file.now roster.now }

@@ -37,7 +37,7 @@ impl Trials<'_> {
         self.tried.in_all(self.table.trial(starts))
     }
 
-    // Whether none that is barred for her is this pattern, its days and its pair.
+    // Whether a pattern, its days with its pair, is not barred for her.
     #[inline]
     fn allows(&self, pattern: u64) -> bool
         ensures { result ≡ allowed_by self.now.tried.now.barred.now pattern }
