@@ -4,7 +4,6 @@ use Rattle.std.proofs.Common.{sym, ap, ◌∙◌, subst, arith}
 use Rattle.numbers.specs.Range.{filter}
 use Rattle.numbers.proofs.RangeLaws.{filter_passes}
 use Rattle.numbers.proofs.MemberLaws.{Each}
-use Rattle.fields.specs.Sizes.{nurse_places}
 use Rattle.fields.specs.Fields.{Accepted, nurses, pair_count}
 use Rattle.rows.specs.Pairs.{pair_numbers, pair_fits}
 use Rattle.numbers.specs.Patterns.{pattern}
@@ -20,7 +19,7 @@ use Rattle.ownlists.specs.declared.Source.TheVariants.{Kept, Whole, Among}
 use Rattle.ownlists.specs.declared.OwnList.{OwnList}
 use Rattle.ownlists.specs.CodeOwn.{no_list, SourceAt, OwnLists}
 use Rattle.search.specs.CodeSeek.{tried_by, SeeksBy, listed_by, tried_at}
-use Rattle.search.specs.CodePlan.{SourceHers, Tries, DayPlan}
+use Rattle.search.specs.CodePlan.{SourceHers, Tries, HasStretch}
 
 -- ---- by night
 
@@ -69,12 +68,12 @@ module _ {w lists : List ℕ} {plan : List OwnList} (o : OwnLists w lists plan) 
 
 -- ---- by day
 
-module _ (w lists : List ℕ) {ends : List ℕ} {plan : List OwnList} (o : DayPlan lists ends plan) (few : nurses w ≤ nurse_places) where
+module _ (w lists ends : List ℕ) (plan : List OwnList) (o : (i : ℕ) → i < nurses w → HasStretch lists ends i (get_or plan i no_list)) where
   pub day_sought : {P : Phase} → SeeksBy Days w (tried_by Days w lists ends) P → SeeksBy Days w (tried_at Days w lists plan) P
   day_sought {P} s = record {
     nurses_are = s.nurses_are;
     tabu_is = s.tabu_is;
     cost_is = s.cost_is;
-    patterns_are = λ i l. s.patterns_are i l ∙ ap (tried_in Days w i) (sym (o.each i (omega arith)));
+    patterns_are = λ i l. s.patterns_are i l ∙ ap (tried_in Days w i) (sym (o i l));
     ascending = s.ascending;
   }

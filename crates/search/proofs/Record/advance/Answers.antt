@@ -1,5 +1,5 @@
 -- With no steps to make the advance is that of none.
-use Rattle.std.proofs.Common.{subst, sym, List, ℕ}
+use Rattle.std.proofs.Common.{subst, sym, arith, List, ℕ}
 use Rattle.history.specs.declared.Search.{Search}
 use Rattle.search.specs.CodeSeek.{search_of, ends_of, tried_by, Seeks, SeeksBy}
 use Rattle.search.specs.declared.Searched.{Searched}
@@ -18,4 +18,4 @@ returns-in-Days c = λ P s e.
     let w = c.args.w.now in
     let lists = c.args.lists.now in
     let by_day = subst (λ (x : Searched (List ℕ)). Seeks (search_of x) w.numbers.now lists (ends_of x) P) c.in-Days.is s in
-    c.advance_over.ensures P (day_sought w.numbers.now lists c.day_plan.ensures w.accepted.nurses_most by_day) e
+    c.advance_over.ensures P (day_sought w.numbers.now lists _ _ (λ i l. c.day_plan.ensures.each i (omega (arith, w.accepted.nurses_most))) by_day) e
