@@ -1,5 +1,6 @@
 pub mod KeepFaultLaws
 pub mod Demand1Laws
+pub mod NumberLaws
 pub mod LetterFaultLaws
 pub mod DemandLaws
 pub mod Demand2Laws

@@ -1,5 +1,6 @@
 pub mod Faults
 pub mod Demand1
+pub mod Numbers
 pub mod Advances
 pub mod Answers
 pub mod Demand3
