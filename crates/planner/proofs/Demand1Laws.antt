@@ -162,20 +162,22 @@ pub record AnswerRefuses (Fault : ℕ → ℕ → Type 0) (a : Answer × Stored)
   pub only : (q p : ℕ) → no_in a.0 ≡ some (numbered q p) → Fault q p
   pub always : (q p : ℕ) → Fault q p → a ≡ (refused (numbered q p), r)
 
+-- an advance over a ward that was read is refused by its questions alone
+module _ (P : Phase) (c : Call) (r : Stored) where
+  pub stored_no : (n : Refusal) → no_in (advance_stored P c r).0 ≡ some n → refusal_stored P c r ≡ some n
+  unfolding reply_stored reply_of
+  stored_no n e = go (refusal_stored P c r) refl
+    where
+      go : (o : Option Refusal) → refusal_stored P c r ≡ o → refusal_stored P c r ≡ some n
+      go none q = absurd (none-ne-some n (sym (ap (λ (x : Answer × Stored). no_in x.0) (stored_goes P c r q)) ∙ e))
+      go (some m) q = q ∙ sym (ap (λ (x : Answer × Stored). no_in x.0) (stored_refused P c r m q)) ∙ e
+
 module _ (file : List ℕ) (bytes : Bytes file) (questions : List ℕ → Questions) where
   unread : (n m : Refusal) → read_ward file ≡ bad m → some m ≡ some n → FileNo file questions n.question n.place
   unread n m e x =
       subst (λ (l : Refusal). FileNo file questions l.question l.place) (some_no x) (in_file (file_fault file (all_bytes file bytes) m.question m.place e))
 
   module _ (phase : List ℕ → Phase) (c : Call) (r : Stored) (asks : (w : List ℕ) → Accepted w → AnswersAll (refusal_stored (phase w) c r) (questions w)) where
-    stored_no : (w : List ℕ) (n : Refusal) → no_in (advance_stored (phase w) c r).0 ≡ some n → refusal_stored (phase w) c r ≡ some n
-    unfolding reply_stored reply_of
-    stored_no w n e = go (refusal_stored (phase w) c r) refl
-      where
-        go : (o : Option Refusal) → refusal_stored (phase w) c r ≡ o → refusal_stored (phase w) c r ≡ some n
-        go none q = absurd (none-ne-some n (sym (ap (λ (x : Answer × Stored). no_in x.0) (stored_goes (phase w) c r q)) ∙ e))
-        go (some m) q = q ∙ sym (ap (λ (x : Answer × Stored). no_in x.0) (stored_refused (phase w) c r m q)) ∙ e
-
     advance_only : (n : Refusal) → no_in (advance_over phase (read_ward file) c r).0 ≡ some n → FileNo file questions n.question n.place
     unfolding advance_over
     advance_only n e = go (read_ward file) refl e
@@ -184,7 +186,7 @@ module _ (file : List ℕ) (bytes : Bytes file) (questions : List ℕ → Questi
         go (bad m) s x = unread n m s x
         go (good w) s x =
             let g = file_good file w (all_bytes file bytes) s in
-            in_call w g ((asks (body_of w) (good_accepted file w g) n).0 (stored_no (body_of w) n x))
+            in_call w g ((asks (body_of w) (good_accepted file w g) n).0 (stored_no (phase (body_of w)) c r n x))
 
     advance_always : (q p : ℕ) → FileNo file questions q p → advance_over phase (read_ward file) c r ≡ (refused (numbered q p), r)
     unfolding advance_over
@@ -197,7 +199,7 @@ module _ (file : List ℕ) (bytes : Bytes file) (questions : List ℕ → Questi
 
 -- ---- the calls
 
-advance_no : (a : Answer × Stored) → no_in_handed (advance_of a) ≡ no_in a.0
+pub advance_no : (a : Answer × Stored) → no_in_handed (advance_of a) ≡ no_in a.0
 unfolding advance_of
 advance_no (refused n, r) = refl
 advance_no (ended e steps penalty roster, r) = refl

@@ -12,20 +12,20 @@ use Rattle.layout.specs.declared.Field.{Field}
 use Rattle.layout.specs.Grammar.{Grammar, Read, good, bad}
 use Rattle.layout.specs.Faults.{NumberFault, out_of_range, unfit, BytesFault, cut_off, too_long, more_bytes, NumbersFault, missing, more_numbers}
 use Rattle.ward.specs.Answers.{read_ward, reading_of}
-use Rattle.history.specs.Phase.{Phase, Call, Answer, refusal}
-use Rattle.history.specs.Record.{lacking, reply_of}
+use Rattle.history.specs.Phase.{Phase, Call, refusal}
+use Rattle.history.specs.Record.{lacking}
 use Rattle.history.specs.Questions.{end, ask, FirstNo}
 use Rattle.history.proofs.FirstLaws.{lacking_answers}
-use Rattle.search.specs.Stored.{sound_stored, refusal_stored, advance_stored, reply_stored}
+use Rattle.search.specs.Stored.{sound_stored, refusal_stored, advance_stored}
 use Rattle.search.specs.declared.Record.{Record as Stored}
-use Rattle.search.proofs.AdvanceLaws.{stored_refused, stored_goes}
 use Rattle.phases.specs.Phases.{night_phase, day_phase, common_fits, lists_fit, night_of}
 use Rattle.outcomes.specs.Outcomes.{advance_of, call_of}
+use Rattle.keeping.specs.Storage.{record_at}
 use Rattle.planner.specs.Advances.{advance_over}
 use Rattle.planner.specs.Faults.{FileNo, in_file, in_call, WriterNo, in_numbers, in_buffer, KeepFault, ReturnFault, check_questions}
 use Rattle.planner.specs.Demand1.{Bytes, no_in_result, no_in_handed}
 use Rattle.planner.specs.Numbers.{OneOfThirteen, RefusedByOne, RefusalNumbers}
-use Rattle.planner.proofs.Demand1Laws.{demand1}
+use Rattle.planner.proofs.Demand1Laws.{stored_no, advance_no, demand1}
 
 is_one : (q : ℕ) → (leb 1 q && leb q 13) ≡ true → OneOfThirteen q
 is_one q e = let h = and_parts (leb 1 q) (leb q 13) e in (leb-true 1 q h.0, omega (arith, leb-true q 13 h.1))
@@ -96,17 +96,8 @@ module _ (w : List ℕ) (c : Call) (r : Stored) where
       (one_first _ _ (one_unless _ question.steps 0 refl) (one_first _ _ (one_unless _ question.nights 0 refl) (one_unless _ question.lists _ refl)))
       (last_two (day_phase w nights) r)
 
-abbrev handed : Answer × Stored → Option Refusal
-handed a = no_in_handed (advance_of a)
-
-module _ (P : Phase) (c : Call) (r : Stored) where
-  advanced : One (refusal_stored P c r) → RefusedByOne (advance_of (advance_stored P c r)) no_in_handed
-  unfolding advance_of reply_stored reply_of
-  advanced f x e = go (refusal_stored P c r) refl
-    where
-      go : (o : Option Refusal) → refusal_stored P c r ≡ o → OneOfThirteen x.question
-      go none q = absurd (none-ne-some x (sym (ap handed (stored_goes P c r q)) ∙ e))
-      go (some m) q = f x (q ∙ sym (ap handed (stored_refused P c r m q)) ∙ e)
+advanced : (P : Phase) (c : Call) (r : Stored) → One (refusal_stored P c r) → RefusedByOne (advance_of (advance_stored P c r)) no_in_handed
+advanced P c r f x e = f x (stored_no P c r x (sym (advance_no (advance_stored P c r)) ∙ e))
 
 nights_are : (w : List ℕ) (c : Call) (r : Stored) → RefusedByOne (advance_of (advance_stored (night_phase w) c r)) no_in_handed
 nights_are w c r = advanced (night_phase w) c r (night_asked w c r)
@@ -136,7 +127,7 @@ refusal_numbers = record {
       let c = call_of k past_zero (length buffer) in
       over_file file bytes (λ w. day_phase w (night_of nights)) c r (λ w. days_are w (night_of nights) c r);
   check = λ file bytes roster x e. check_is file roster x.question x.place ((demand1.check file bytes roster).only x.question x.place e);
-  keep = λ r number storage x e. only_is question.storage (KeepFault storage number) x.question x.place refl ((demand1.keep r number storage).only x.question x.place e);
+  keep = λ number storage x e. only_is question.storage (KeepFault storage number) x.question x.place refl ((demand1.keep (record_at storage number) number storage).only x.question x.place e);
   bring_back = λ r number storage x e. only_is question.storage (ReturnFault storage number) x.question x.place refl ((demand1.bring_back r number storage).only x.question x.place e);
   nights_on = nights_are;
   days_on = days_are;

@@ -31,7 +31,7 @@ pub record RefusalNumbers : Type 0 where
   pub days : (file : List ℕ) → Bytes file → (nights : List ℕ) (r : Stored) (k : ℕ) (past_zero : Bool) (buffer : List ℕ)
       → RefusedByOne (advance_of (advance_days file nights (call_of k past_zero (length buffer)) r)) no_in_handed
   pub check : (file : List ℕ) → Bytes file → (roster : List ℕ) → RefusedByOne (check_says file roster) no_in_result
-  pub keep : (r : Stored) (number : ℕ) (storage : List ℕ) → RefusedByOne (answer_by (keep_no storage number)) no_in_result
+  pub keep : (number : ℕ) (storage : List ℕ) → RefusedByOne (answer_by (keep_no storage number)) no_in_result
   pub bring_back : (r : Stored) (number : ℕ) (storage : List ℕ) → RefusedByOne (returned_of storage number r) no_in_handed
   -- and of an advance over numbers that were read
   pub nights_on : (w : List ℕ) (c : Call) (r : Stored) → RefusedByOne (advance_of (advance_stored (night_phase w) c r)) no_in_handed
